@@ -1,0 +1,60 @@
+//! The items that a batch file says.
+
+ghost use Rattle.std.specs.Prelude.{◌≡◌, All, IfOk};
+ghost use Rattle.csv.specs.Records.{fields_of};
+ghost use Rattle.glass_base.specs.Items.{IsItemInRange};
+ghost use Rattle.csv_table.specs.Readings.{Gives};
+ghost use Rattle.batch_csv.specs.Batches.{item_at, items_of};
+
+use csv::ByteRecord;
+use csv_table::{Rows, whole_at};
+use glass_base::{BadText, Item, Run, append};
+use std::alloc::Global;
+
+/// The greatest number of an item, a stack or a place in a stack.
+const NUMBER_LIMIT: u32 = 999_999_999;
+
+/// The greatest side of an item, in mm.
+const SIDE_LIMIT: u32 = 20_000;
+
+/// The item of a row.
+#[tactic(auto, unfolding(crate::specs::Batches::item_at))]
+fn item_of(row: u64, fields: &ByteRecord) -> Result<Item, BadText>
+    ensures value { result ≡ item_at row (fields_of fields.now) }
+    ensures range { IfOk result IsItemInRange }
+{
+    if fields.len() != 5 {
+        return Err(BadText::Record(row, fields.len() as u64));
+    }
+    let id = whole_at(row, 1, NUMBER_LIMIT, fields)?;
+    let length = whole_at(row, 2, SIDE_LIMIT, fields)?;
+    let width = whole_at(row, 3, SIDE_LIMIT, fields)?;
+    let stack = whole_at(row, 4, NUMBER_LIMIT, fields)?;
+    let sequence = whole_at(row, 5, NUMBER_LIMIT, fields)?;
+    Ok(Item {
+        id,
+        length,
+        width,
+        stack,
+        sequence,
+    })
+}
+
+/// The items of a batch file in the order of its rows, or the first refusal.
+///
+/// The first row is the header and is skipped, whatever it says. Every other row has the five fields ITEM_ID, LENGTH_ITEM,
+/// WIDTH_ITEM, STACK and SEQUENCE, each a number of one to nine digits; the two sides are at most 20,000 mm.
+pub fn read_batch(alloc: Global, bytes: &[u8]) -> Result<Run<Item>, BadText>
+    ensures items { Gives (λ run. run.items) result (items_of bytes.now) }
+    ensures ranges { IfOk result (λ run. All IsItemInRange run.items) }
+{
+    let mut rows = Rows::new(alloc, bytes);
+    let mut items = Run::new(alloc);
+    let mut row = 1u64;
+    rows.next_row()?;
+    'rows: while let Some(fields) = rows.next_row()? {
+        row += 1;
+        append(&mut items, item_of(row, &fields)?)?;
+    }
+    Ok(items)
+}

@@ -1,0 +1,3 @@
+pub mod RowFacts
+pub mod DigitFacts
+pub mod Plain

@@ -1,0 +1,112 @@
+//! The lines of a table, written with `csv`.
+
+ghost use Rattle.std.specs.Prelude.{◌≡◌, ◌++◌, ◌≤◌, ℕ, List, [], ◌∷◌, OnOk, IfOk, IsSome, map, length, false, true, if◌then◌else◌, unwrap_or, All};
+ghost use Rattle.std.specs.Fmt.{decimal, signed_decimal};
+ghost use Rattle.csv.specs.Writing.{row_text};
+ghost use Rattle.csv_table.specs.Lines.{IsBetween, IsPlain, ArePlain, number_or_none, line_of, semicolons, text_in, Wrote};
+
+use csv::{Writer, WriterBuilder};
+use glass_base::{Memory, Run};
+use itoa::Buffer;
+use std::alloc::Global;
+use std::marker::Model;
+
+/// The lines of a table that were written so far. Once memory ran out it fails from then on.
+#[derive(Drop)]
+pub struct Lines {
+    writer: Writer<Vec<u8>>,
+    failed: bool,
+}
+
+impl Model for Lines {
+    ghost Value = { List ℕ };
+
+    ghost view = { λ w. if w.failed then [] else unwrap_or (text_in w.writer) [] };
+
+    ghost invariant = { λ w. w.failed ≡ false → IsBetween w.writer };
+}
+
+/// Writes one line.
+fn push_line(writer: &mut Writer<Vec<u8>>, fields: &[&[u8]]) -> Result<(), Memory>
+    requires { IsBetween writer.old }
+    ensures between { OnOk result (IsBetween writer.new) }
+    ensures wrote { OnOk result (Wrote writer.old writer.new (row_text semicolons (map (λ f. f.now) fields.now))) }
+{
+    match writer.write_fields(fields) {
+        Ok(()) => Ok(()),
+        Err(_) => Err(Memory),
+    }
+}
+
+impl Lines {
+    /// No line.
+    pub fn new(alloc: Global) -> Lines
+        ensures { result ≡ [] }
+    {
+        let writer = WriterBuilder::new()
+            .delimiter(b';')
+            .from_writer(Vec::new(alloc));
+        Lines {
+            writer,
+            failed: false,
+        }
+    }
+
+    /// Writes one line of two fields or more, none of which needs quotes.
+    pub fn write_line(&mut self, fields: &[&[u8]]) -> Result<(), Memory>
+        requires some { 2 ≤ length fields.now }
+        requires plain { ArePlain (map (λ f. f.now) fields.now) }
+        ensures { OnOk result (self.new ≡ self.old ++ line_of (map (λ f. f.now) fields.now)) }
+    {
+        if self.failed {
+            return Err(Memory);
+        }
+        match push_line(&mut self.writer, fields) {
+            Ok(()) => Ok(()),
+            Err(memory) => {
+                self.failed = true;
+                Err(memory)
+            }
+        }
+    }
+
+    /// The text of the lines.
+    pub fn into_text(self) -> Result<Run<u8>, Memory>
+        ensures { IfOk result (λ text. text.items ≡ self) }
+    {
+        if self.failed {
+            return Err(Memory);
+        }
+        match self.writer.into_inner() {
+            Ok(text) => Ok(Run::from(text)),
+            Err(_) => Err(Memory),
+        }
+    }
+}
+
+/// A number as a field has it.
+pub fn unsigned(buffer: &mut Buffer, number: u64) -> &[u8]
+    ensures value { result.now ≡ decimal number }
+    ensures plain { IsPlain result.now }
+{
+    buffer.format(number).as_bytes()
+}
+
+/// A signed number as a field has it.
+pub fn signed(buffer: &mut Buffer, number: i64) -> &[u8]
+    ensures value { result.now ≡ signed_decimal number }
+    ensures plain { IsPlain result.now }
+{
+    buffer.format(number).as_bytes()
+}
+
+/// A number as a field has it, or an empty field where there is none.
+pub fn optional(buffer: &mut Buffer, number: Option<u64>) -> &[u8]
+    ensures value { result.now ≡ number_or_none number }
+    ensures plain { IsPlain result.now }
+{
+    match number {
+        None => b"",
+        Some(number) => unsigned(buffer, number),
+    }
+}

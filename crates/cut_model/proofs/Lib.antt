@@ -1,0 +1,6 @@
+pub mod Neighbours
+pub mod Walks
+pub mod Fitting
+pub mod Parents
+pub mod Numbers
+pub mod Examples

@@ -1,0 +1,13 @@
+pub mod Tree
+pub mod Families
+pub mod Fits
+pub mod Room
+pub mod Visits
+pub mod Parents
+pub mod Numbers
+pub mod Order
+pub mod Rules
+pub mod Lawful
+pub mod Loss
+pub mod Steps
+pub mod Traces

@@ -1,0 +1,170 @@
+//! A piece of any level, and what can be done with a list of neighbours of one level. Every loop over pieces stands here.
+
+ghost use Rattle.std.specs.Prelude.{◌≡◌, ℕ, ◌+◌, ◌≤◌, ◌↔◌, true, IsTrue, IfOk, MatchOption, ◌∷◌};
+ghost use Rattle.cut_model.specs.Tree.{Forest, neighbours, total_size, children_in, count, is_item as is_item_sort};
+ghost use Rattle.cut_model.specs.Families.{families, family_with, inside};
+ghost use Rattle.cut_model.specs.Fits.{IsNumbered};
+ghost use Rattle.cut_model.specs.Room.{FitsIn, Leaves, FitsPiece, LeavesPiece};
+ghost use Rattle.cut_model.specs.Visits.{Walked, IsStart, NextWithin};
+ghost use Rattle.cut_model.specs.declared.family.Sort.{Sort};
+
+use crate::family::{Area, Children, Family, Sort};
+use crate::visitor::Visitor;
+
+const SIZE_LIMIT: u32 = 20_000;
+
+const NUMBER_LIMIT: u32 = 999_999_999;
+
+/// A piece of one of the levels.
+pub trait Part {
+    // Its size, its sort, what it is cut into, and the number of the cut that makes it.
+    ghost size: { Self → ℕ };
+
+    ghost sort: { Self → Sort };
+
+    ghost inner: { Self → Forest };
+
+    ghost level: { ℕ };
+
+    fn size(&self) -> u32
+        ensures { result ≡ size self.now };
+
+    fn sort(&self) -> Sort
+        ensures { result ≡ sort self.now };
+
+    fn children(&self) -> Children
+        requires { total_size (inner self.now) ≤ 20000 }
+        ensures { result ≡ children_in (inner self.now) };
+
+    /// What is left of `room` for rows by the pieces inside, if they are in range.
+    fn room_after_inside(&self, room: u64) -> Option<u64>
+        ensures { MatchOption result (¬ FitsIn 20000 room (inner self.now)) (λ left. Leaves 20000 room (inner self.now) left) };
+
+    /// Tells the visitor the families inside.
+    fn walk_inside<V: Visitor>(&self, visitor: &mut V, at: Area, node: u64) -> Result<u64, V::Stop>
+        requires start { IsStart (level + 1) node at }
+        requires fits { FitsIn 20000 2000000000 (inner self.now) }
+        requires room { node + count (inner self.now) ≤ 2000000000 }
+        ensures { IfOk result (λ next. Walked V.has_seen visitor.old visitor.new (families at true node (inner self.now)) next (node + count (inner self.now))) };
+
+    ghost shallow: { level ≤ 4 };
+}
+
+/// Whether a piece is an item.
+fn is_item(sort: Sort) -> bool
+    ensures { result ≡ is_item_sort sort }
+{
+    match sort {
+        Sort::Item(_) => true,
+        Sort::Waste | Sort::Branch | Sort::Residual => false,
+    }
+}
+
+/// What a piece that is cut into these pieces has for children.
+pub fn children_of<P: Part>(pieces: &[P]) -> Children
+    requires { total_size (neighbours P.size P.sort P.inner pieces.now) ≤ 20000 }
+    ensures { result ≡ children_in (neighbours P.size P.sort P.inner pieces.now) }
+{
+    let mut total = 0;
+    let mut has_item = false;
+    for piece in pieces {
+        total += piece.size();
+        has_item |= is_item(piece.sort());
+    }
+    Children {
+        empty: pieces.is_empty(),
+        total,
+        has_item,
+    }
+}
+
+/// Whether an item number is in range.
+fn is_numbered(sort: Sort) -> bool
+    ensures { IsTrue result ↔ IsNumbered sort }
+{
+    match sort {
+        Sort::Item(number) => number <= NUMBER_LIMIT,
+        Sort::Waste | Sort::Branch | Sort::Residual => true,
+    }
+}
+
+/// What is left of `room` for rows by this piece and those inside it, if they are in range.
+fn room_after_piece<P: Part>(room: u64, piece: &P) -> Option<u64>
+    ensures { MatchOption result (¬ FitsPiece room (P.sort piece.now) (P.inner piece.now)) (λ left. LeavesPiece room (P.sort piece.now) (P.inner piece.now) left) }
+{
+    if !is_numbered(piece.sort()) {
+        return None;
+    }
+    piece.room_after_inside(room.checked_sub(1)?)
+}
+
+/// What is left of `room` for rows by these neighbours, if they are in range.
+pub fn room_after<P: Part>(room: u64, pieces: &[P]) -> Option<u64>
+    ensures { let forest = neighbours P.size P.sort P.inner pieces.now in MatchOption result (¬ FitsIn 20000 room forest) (λ left. Leaves 20000 room forest left) }
+{
+    let mut length = SIZE_LIMIT;
+    let mut left = room;
+    for piece in pieces {
+        length = length.checked_sub(piece.size())?;
+        left = room_after_piece(left, piece)?;
+    }
+    Some(left)
+}
+
+/// The family of a piece at this place.
+fn family_of<P: Part>(at: &Area, first: bool, ends: bool, node: u64, piece: &P) -> Family
+    requires { total_size (P.inner piece.now) ≤ 20000 }
+    ensures { result ≡ family_with at.now first ends node (P.size piece.now) (P.sort piece.now) (children_in (P.inner piece.now)) }
+{
+    Family::new(
+        at,
+        first,
+        ends,
+        node,
+        piece.size(),
+        piece.sort(),
+        piece.children(),
+    )
+}
+
+/// Tells the visitor the family of this piece, then those inside it.
+fn walk_piece<V: Visitor, P: Part>(
+    visitor: &mut V,
+    at: &Area,
+    first: bool,
+    ends: bool,
+    node: u64,
+    piece: &P,
+) -> Result<u64, V::Stop>
+    requires next { NextWithin P.level node at.now first ends (P.size piece.now) (P.sort piece.now) (P.inner piece.now) }
+    requires room { node + 1 + count (P.inner piece.now) ≤ 2000000000 }
+    ensures { let f = family_with at.now first ends node (P.size piece.now) (P.sort piece.now) (children_in (P.inner piece.now)) in IfOk result (λ next. Walked V.has_seen visitor.old visitor.new (f ∷ families (inside f) true (node + 1) (P.inner piece.now)) next (node + 1 + count (P.inner piece.now))) }
+{
+    let family = family_of(at, first, ends, node, piece);
+    visitor.visit(&family)?;
+    piece.walk_inside(visitor, family.inside(), node + 1)
+}
+
+/// Tells the visitor the families of these neighbours.
+pub fn walk_neighbours<V: Visitor, P: Part>(
+    visitor: &mut V,
+    at: Area,
+    first_node: u64,
+    pieces: &[P],
+) -> Result<u64, V::Stop>
+    requires start { IsStart P.level first_node at }
+    requires fits { FitsIn 20000 2000000000 (neighbours P.size P.sort P.inner pieces.now) }
+    requires room { first_node + count (neighbours P.size P.sort P.inner pieces.now) ≤ 2000000000 }
+    ensures { let forest = neighbours P.size P.sort P.inner pieces.now in IfOk result (λ next. Walked V.has_seen visitor.old visitor.new (families at true first_node forest) next (first_node + count forest)) }
+{
+    let mut rest = at;
+    let mut node = first_node;
+    let mut first = true;
+    let last = pieces.len();
+    for (place, piece) in pieces.iter().enumerate() {
+        node = walk_piece(visitor, &rest, first, place + 1 == last, node, piece)?;
+        rest = rest.behind(piece.size());
+        first = false;
+    }
+    Ok(node)
+}

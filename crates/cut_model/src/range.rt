@@ -1,0 +1,19 @@
+//! The range of plans that Glass handles.
+
+ghost use Rattle.std.specs.Prelude.{◌↔◌, IsTrue};
+ghost use Rattle.cut_model.specs.Fits.{Fits};
+ghost use Rattle.cut_model.specs.Tree.{tree};
+
+use crate::part::room_after;
+use crate::plan::Plan;
+
+const ROW_LIMIT: u64 = 2_000_000_000;
+
+/// Whether every size, and the sum of every list of children, is at most 20,000 mm, every item number at most 999,999,999,
+/// and the plan has at most 2,000,000,000 rows. It takes no memory.
+#[tactic(auto, using(crate::proofs::Fitting::plates_fit, crate::proofs::Fitting::fits_plates))]
+pub fn fits(plan: &Plan) -> bool
+    ensures { IsTrue result ↔ Fits (tree plan.now) }
+{
+    room_after(ROW_LIMIT, plan.plates.as_slice()).is_some()
+}

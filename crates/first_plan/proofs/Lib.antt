@@ -1,0 +1,9 @@
+pub mod Ends
+pub mod Following
+pub mod Leasts
+pub mod Orders
+pub mod Draftings
+pub mod Wholes
+pub mod Drawn
+pub mod Ones
+pub mod Sizes

@@ -1,0 +1,8 @@
+use Rattle.std.proofs.Common.{◌++◌, ◌≤◌, ℕ, List, drop}
+use Rattle.first_plan.specs.declared.strip.Strip.{Strip}
+use Rattle.first_plan.specs.Strips.{AreStrips, FailsAt, IsDraft, HasNoDraft, by_stacks}
+use Rattle.first_plan.proofs.Draftings.{IsDrafting}
+use Rattle.first_plan.proofs.drafting.draft.Given as goal
+
+abbrev pub invariant-loop-item : goal.invariant-loop-item
+invariant-loop-item l = IsDrafting l.instance l.item-items l.item-index l.begun l.from l.strips.items

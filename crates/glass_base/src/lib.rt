@@ -1,0 +1,22 @@
+//! What every crate of Glass stands on: lists with room taken ahead of time, parameters, items, defects, instances.
+#![tactic(auto)]
+
+pub mod bad_text;
+pub mod instance;
+pub mod item;
+pub mod laws;
+pub mod memory;
+pub mod params;
+pub mod plates;
+pub mod role;
+pub mod run;
+mod stacks;
+
+pub use bad_text::BadText;
+pub use instance::{BadInstance, Instance};
+pub use item::{Defect, Item};
+pub use memory::Memory;
+pub use params::{BadParams, Params};
+pub use plates::plate_width;
+pub use role::Role;
+pub use run::{Run, append};

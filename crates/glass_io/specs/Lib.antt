@@ -1,0 +1,3 @@
+pub mod Told
+pub mod Fetching
+pub mod Held

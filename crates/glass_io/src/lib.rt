@@ -1,0 +1,10 @@
+//! Files and a place to print to, by what they hold and by how often they failed.
+#![tactic(auto)]
+
+pub mod files;
+pub mod memory;
+pub mod system;
+
+pub use files::{Fetched, Files, Sink, Trouble};
+pub use memory::{MemFiles, MemSink};
+pub use system::{StdFiles, StdSink};
