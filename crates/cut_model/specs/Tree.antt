@@ -124,3 +124,8 @@ type_number (Sort.Item number) = pos number
 type_number Sort.Waste = negsuc 0
 type_number Sort.Branch = negsuc 1
 type_number Sort.Residual = negsuc 2
+
+-- how many neighbours there are; of a plan, how many plates it uses
+abbrev pub neighbour_count : Forest → ℕ
+neighbour_count nothing = 0
+neighbour_count (piece _ _ _ later) = 1 + neighbour_count later

@@ -18,7 +18,7 @@ pub use broken::{Broken, Rule};
 pub use family::{Along, Area, Children, Family, Row, Sort};
 pub use listing::rows;
 pub use plan::{Body1, Body2, Body3, Body4, Leaf4, Piece1, Piece2, Piece3, Plan, Plate};
-pub use range::fits;
+pub use range::{fits, plates_used};
 pub use steps::{Step, Trace};
 pub use traversal::walk;
 pub use visitor::Visitor;

@@ -1,8 +1,8 @@
 //! The range of plans that Glass handles.
 
-ghost use Rattle.std.specs.Prelude.{◌↔◌, IsTrue};
+ghost use Rattle.std.specs.Prelude.{◌≡◌, ◌↔◌, IsTrue};
 ghost use Rattle.cut_model.specs.Fits.{Fits};
-ghost use Rattle.cut_model.specs.Tree.{tree};
+ghost use Rattle.cut_model.specs.Tree.{neighbour_count, tree};
 
 use crate::part::room_after;
 use crate::plan::Plan;
@@ -16,4 +16,11 @@ pub fn fits(plan: &Plan) -> bool
     ensures { IsTrue result ↔ Fits (tree plan.now) }
 {
     room_after(ROW_LIMIT, plan.plates.as_slice()).is_some()
+}
+
+/// How many plates a plan uses.
+pub fn plates_used(plan: &Plan) -> u64
+    ensures { result ≡ neighbour_count (tree plan.now) }
+{
+    plan.plates.len() as u64
 }

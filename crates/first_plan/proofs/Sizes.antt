@@ -11,12 +11,14 @@ use Rattle.cut_model.specs.declared.family.Sort.{Sort}
 use Rattle.cut_model.specs.Tree.{Forest, nothing, piece, count, total_size}
 use Rattle.cut_model.specs.Fits.{Fits, InRange, IsNumbered}
 use Rattle.first_plan.specs.declared.strip.Strip.{Strip}
-use Rattle.first_plan.specs.Strips.{AreStrips, Gap, IsAllowed, MayStand, item_width, item_height}
+use Rattle.first_plan.specs.Strips.{AreStrips, Gap, IsAllowed, IsDraft, MayStand, by_stacks, item_width, item_height}
 use Rattle.first_plan.specs.Drafts.{bands_of, cells_of, cut_into, gap, leaves_of, plan_with, plates_behind, strips_behind, whole_inner, whole_sort}
 use Rattle.first_plan.specs.Drawings.{IsWithin}
 use Rattle.first_plan.proofs.Draftings.{gap_end, within_plate}
 use Rattle.first_plan.proofs.Drawn.{goes_on, turns_to, ends_with_residual}
 use Rattle.first_plan.proofs.Wholes.{gap_there}
+use Rattle.first_plan.proofs.Orders.{stacks_keep}
+use Rattle.glass_base.specs.Problem.{Problem, IsProblem}
 
 -- pieces in range, with their sizes together and at most so many of them
 pub record Sized (total most : ℕ) (forest : Forest) : Type 0 where
@@ -219,3 +221,8 @@ plan_fits p (s ∷ strips) h =
             few = omega (arith, all.few, rest.few, many, p.accepted.few_plates);
           }
     ]
+
+-- the draft's plan fits
+pub draft_fits : (b : Problem) (strips : List Strip) → IsProblem b → IsDraft b strips → Fits (plan_with b.params strips)
+draft_fits b strips rules h =
+    plan_fits b.params strips (laid b.params 0 0 (by_stacks b) strips (stacks_keep IsItemInRange b.items b.stacks rules.items_in_range) h)

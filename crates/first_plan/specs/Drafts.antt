@@ -1,12 +1,13 @@
 -- The plan that strips make: each gap is one waste, the last plate ends in the residual where glass remains, and a piece that
 -- is exactly an item is the item.
-use Rattle.std.specs.Prelude.{ℕ, ◌+◌, ◌-◌, ◌==◌, nat_lt, cond, List, [], ◌∷◌}
+use Rattle.std.specs.Prelude.{◌≡◌, ℕ, ◌+◌, ◌-◌, ◌==◌, nat_lt, cond, List, [], ◌∷◌}
 use Rattle.glass_base.specs.declared.params.Params.{Params}
 use Rattle.glass_base.specs.Plates.{Width}
+use Rattle.glass_base.specs.Problem.{Problem}
 use Rattle.cut_model.specs.declared.family.Sort.{Sort}
 use Rattle.cut_model.specs.Tree.{Forest, nothing, piece}
 use Rattle.first_plan.specs.declared.strip.Strip.{Strip}
-use Rattle.first_plan.specs.Strips.{item_width, item_height}
+use Rattle.first_plan.specs.Strips.{item_width, item_height, IsDraft}
 
 -- one piece between two places, where there is glass between them
 abbrev pub gap : ℕ → ℕ → Sort → Forest → Forest
@@ -55,3 +56,7 @@ plates_behind p plate (s ∷ strips) =
 abbrev pub plan_with : Params → List Strip → Forest
 plan_with p [] = nothing
 plan_with p (s ∷ strips) = piece 0 Sort.Branch (strips_behind p s.plate 0 (s ∷ strips)) (plates_behind p s.plate strips)
+
+-- the plan of the draft
+abbrev pub IsDraftPlan : Problem → Forest → Type 0
+IsDraftPlan b plan = (strips : List Strip) × IsDraft b strips × (plan ≡ plan_with b.params strips)

@@ -1,12 +1,17 @@
 //! The draft: the strips of the items, one after another.
 
 ghost use Rattle.std.specs.Prelude.{◌≡◌, ◌++◌, IfOk, OnOk, MatchResult, option_to_list, slice_get, All};
+ghost use Rattle.cut_model.specs.Fits.{Fits};
+ghost use Rattle.cut_model.specs.Tree.{tree};
+ghost use Rattle.first_plan.specs.Drafts.{IsDraftPlan};
 ghost use Rattle.first_plan.specs.Drawings.{IsWithin};
 ghost use Rattle.std.specs.List.{filter_map};
 ghost use Rattle.first_plan.specs.Strips.{IsDraft, HasNoDraft, by_stacks};
 
+use crate::drawing::plan_of_strips;
 use crate::placing::next_strip;
 use crate::strip::Strip;
+use cut_model::Plan;
 use glass_base::{Instance, Item, Memory, Run, append};
 use std::alloc::Global;
 
@@ -48,12 +53,8 @@ fn items_by_stacks(alloc: Global, instance: &Instance) -> Result<Run<Item>, Memo
     Ok(items)
 }
 
-/// Every item alone in a strip on plates without defects, or the number of the first item that may have none.
-///
-/// Stacks are taken by number, the items of each in ascending sequence. Each item gets, of all strips that it may have on
-/// the plate in use or on the next one, the one that comes first by plate, right side, left side, lower side, upper side
-/// and turn. Defects are not looked at.
-pub fn draft(alloc: Global, instance: &Instance) -> Result<Result<Run<Strip>, u32>, Memory>
+/// The strips of the draft, or the number of the first item that may have none.
+fn draft(alloc: Global, instance: &Instance) -> Result<Result<Run<Strip>, u32>, Memory>
     ensures drafted { IfOk result (λ drafted. MatchResult drafted (λ strips. IsDraft instance.now strips.items) (HasNoDraft instance.now)) }
     ensures within { IfOk result (λ drafted. IfOk drafted (λ strips. All IsWithin strips.items)) }
 {
@@ -72,4 +73,24 @@ pub fn draft(alloc: Global, instance: &Instance) -> Result<Result<Run<Strip>, u3
         }
     }
     Ok(Ok(strips))
+}
+
+/// The plan of the draft, which lays every item alone in a strip on plates without defects, or the number of the first item
+/// that may have no strip.
+///
+/// Stacks are taken by number, the items of each in ascending sequence. Each item gets, of all strips that it may have on
+/// the plate in use or on the next one, the one that comes first by plate, right side, left side, lower side, upper side
+/// and turn. Each gap becomes one waste, and the last plate ends in the residual where glass remains. Defects are not looked
+/// at.
+pub fn draft_plan(alloc: Global, instance: &Instance) -> Result<Result<Plan, u32>, Memory>
+    ensures drafted { IfOk result (λ drafted. MatchResult drafted (λ plan. IsDraftPlan instance.now (tree plan)) (HasNoDraft instance.now)) }
+    ensures fits { IfOk result (λ drafted. IfOk drafted (λ plan. Fits (tree plan))) }
+{
+    match draft(alloc, instance)? {
+        Ok(strips) => {
+            let plan = plan_of_strips(alloc, instance.params(), strips.as_slice())?;
+            Ok(Ok(plan))
+        }
+        Err(number) => Ok(Err(number)),
+    }
 }

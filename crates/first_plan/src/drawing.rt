@@ -160,7 +160,7 @@ fn body_with_band(alloc: Global, params: &Params, strip: &Strip) -> Result<Body1
 
 /// A plan that is drawn strip by strip.
 #[derive(Drop)]
-pub struct Drawing {
+pub(crate) struct Drawing {
     /// The plates before this one.
     pub plates: Run<Plate>,
     /// The pieces of this plate so far.
@@ -239,7 +239,7 @@ fn draw_strip(alloc: Global, params: &Params, drawing: &mut Drawing, strip: &Str
 
 /// The plan that strips make: each gap is one waste, the last plate ends in the residual where glass remains, and a piece
 /// that is exactly an item is the item. It fails only where memory runs out.
-pub fn plan_of_strips(alloc: Global, params: &Params, strips: &[Strip]) -> Result<Plan, Memory>
+pub(crate) fn plan_of_strips(alloc: Global, params: &Params, strips: &[Strip]) -> Result<Plan, Memory>
     requires { All IsWithin strips.now }
     ensures { IfOk result (λ plan. tree plan ≡ plan_with params.now strips.now) }
 {

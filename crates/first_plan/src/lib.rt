@@ -8,6 +8,5 @@ pub mod laws;
 mod placing;
 pub mod strip;
 
-pub use drafting::draft;
-pub use drawing::plan_of_strips;
+pub use drafting::draft_plan;
 pub use strip::Strip;

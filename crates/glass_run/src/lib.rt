@@ -1,0 +1,12 @@
+//! The top call: from the words of a command line to files and printed lines.
+#![tactic(auto)]
+
+pub mod gate;
+mod reply;
+pub mod run;
+pub mod status;
+mod words;
+
+pub use gate::{Gate, OpenGate};
+pub use run::glass;
+pub use status::Status;
