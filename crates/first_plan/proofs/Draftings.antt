@@ -1,5 +1,5 @@
 -- A draft as it grows.
-use Rattle.std.proofs.Common.{◌≡◌, ℕ, ◌+◌, ◌<◌, ◌≤◌, ◌⊎◌, inl, inr, List, [], ◌∷◌, ◌++◌, length, drop, get_or, refl, sym, subst, ◌∙◌, append_assoc, append-nil, arith, All}
+use Rattle.std.proofs.Common.{◌≡◌, ℕ, ◌+◌, ◌<◌, ◌≤◌, inl, inr, List, [], ◌∷◌, ◌++◌, length, drop, get_or, refl, sym, subst, ◌∙◌, append_assoc, append-nil, arith, All}
 use Rattle.std.proofs.lemmas.List.{at_drop_more, drop_all}
 use Rattle.std.proofs.lemmas.List.Elements.{All-nil, All-push}
 use Rattle.glass_base.specs.declared.params.Params.{Params}
@@ -7,7 +7,7 @@ use Rattle.glass_base.specs.declared.item.Item.{Item}
 use Rattle.glass_base.specs.Plates.{Width}
 use Rattle.glass_base.specs.Problem.{Problem}
 use Rattle.first_plan.specs.declared.strip.Strip.{Strip}
-use Rattle.first_plan.specs.Strips.{AreStrips, FailsAt, Gap, HasNoStrip, IsAllowed, IsDraft, IsNext, HasNoDraft, MayStand, by_stacks, item_width, item_height}
+use Rattle.first_plan.specs.Strips.{AreStrips, FailsAt, Gap, HasNoStrip, IsAllowed, IsDraft, IsNext, HasNoDraft, MayStand, by_stacks, item_width}
 use Rattle.first_plan.specs.Drawings.{IsWithin}
 
 -- the strips so far, and those of the items that are left, are the draft

@@ -1,5 +1,5 @@
 -- Plans that are drawn strip by strip.
-use Rattle.std.proofs.Common.{◌≡◌, ◌≢◌, ℕ, ◌-◌, ◌==◌, List, [], ◌∷◌, ◌++◌, refl, sym, ap, ◌∙◌, cond, Bool, true, false, arith, Option, Some, None}
+use Rattle.std.proofs.Common.{◌≡◌, ◌≢◌, ℕ, ◌-◌, ◌==◌, List, [], ◌∷◌, ◌++◌, refl, sym, ap, ◌∙◌, true, false, arith, Some}
 use Rattle.std.specs.Prelude.{slice_get}
 use Rattle.std.proofs.lemmas.Bool.Decides.{nat_tests}
 use Rattle.glass_base.specs.declared.params.Params.{Params}
@@ -12,7 +12,7 @@ use Rattle.cut_model.specs.declared.family.Sort.{Sort}
 use Rattle.cut_model.specs.Tree.{Forest, nothing, piece, sort1, inner1, strips, plates_of}
 use Rattle.first_plan.specs.declared.strip.Strip.{Strip}
 use Rattle.first_plan.specs.Drafts.{bands_of, cut_into, gap, plan_with, plates_behind, strips_behind, whole_inner, whole_sort}
-use Rattle.first_plan.specs.Drawings.{followed, plates_then, strips_then}
+use Rattle.first_plan.specs.Drawings.{plates_then, strips_then}
 use Rattle.first_plan.proofs.Following.{followed-push, followed-nothing}
 
 same_plate : (n m : ℕ) → n ≡ m → (n == m) ≡ true

@@ -1,5 +1,5 @@
 -- Where a piece along one direction can end.
-use Rattle.std.proofs.Common.{◌≡◌, ℕ, ◌+◌, ◌-◌, ◌<◌, ◌≤◌, ◌⊎◌, inl, inr, arith, sym, refl, true}
+use Rattle.std.proofs.Common.{◌≡◌, ℕ, ◌+◌, ◌-◌, ◌<◌, ◌≤◌, inl, inr, arith, sym, refl}
 use Rattle.std.proofs.lemmas.Bool.{cases_lt}
 use Rattle.first_plan.specs.Strips.{Gap}
 use Rattle.first_plan.specs.Extents.{Spans, IsHeld, MayReach}

@@ -1,5 +1,5 @@
 -- The least strip of an item.
-use Rattle.std.proofs.Common.{◌≡◌, ℕ, zero, suc, ◌+◌, ◌<◌, ◌≤◌, ◌⊎◌, ◌==◌, ◌&&◌, ◌||◌, nat_lt, nat_le, inl, inr, arith, sym, ap, refl, ◌∙◌, subst, Bool, true, false, cond, List, [], ◌∷◌, Option, Some, None}
+use Rattle.std.proofs.Common.{◌≡◌, ℕ, zero, suc, ◌<◌, ◌≤◌, ◌⊎◌, inl, inr, arith, sym, ap, refl, ◌∙◌, subst, Bool, true, false, cond, Option, Some, None}
 use Rattle.std.specs.Prelude.{MatchOption}
 use Rattle.std.proofs.lemmas.Bool.{cases_lt, cases_order, false≢true}
 use Rattle.std.proofs.lemmas.Bool.Decides.{nat_tests}
@@ -8,7 +8,7 @@ use Rattle.glass_base.specs.declared.item.Item.{Item}
 use Rattle.glass_base.specs.Plates.{Width}
 use Rattle.first_plan.specs.declared.strip.Strip.{Strip}
 use Rattle.first_plan.specs.declared.extent.Extent.{Extent}
-use Rattle.first_plan.specs.Strips.{Gap, IsAllowed, NotAfter, rank, width_in, height_in}
+use Rattle.first_plan.specs.Strips.{Gap, NotAfter, rank, width_in, height_in}
 use Rattle.first_plan.specs.Extents.{Spans}
 use Rattle.first_plan.proofs.Ends.{from_gap}
 use Rattle.first_plan.specs.Choices.{across, upward, strip_between, comes_first, lesser_of, StandsOn, IsLeastTurned, HasNoTurned, IsLeastOn, HasNoneOn}
@@ -123,6 +123,7 @@ first_facts s t e =
   where
     not_first : s.b ≡ t.b → t.d ≤ s.d → comes_first s t ≡ false
     not_first same ge = grind (arith, nat_tests)
+
     behind : t.b < s.b → comes_first s t ≡ false
     behind gt = grind (arith, nat_tests)
 
@@ -134,6 +135,7 @@ second_facts s t e = (
   where
     before : t.b < s.b → comes_first t s ≡ true
     before lt = grind (arith, nat_tests)
+
     under : s.b ≡ t.b → t.d < s.d → comes_first t s ≡ true
     under same lt = grind (arith, nat_tests)
 

@@ -4,7 +4,7 @@ use Rattle.glass_base.specs.declared.params.Params.{Params}
 use Rattle.glass_base.specs.declared.item.Item.{Item}
 use Rattle.glass_base.specs.Problem.{Problem}
 use Rattle.first_plan.specs.declared.strip.Strip.{Strip}
-use Rattle.first_plan.specs.Strips.{AreStrips, FailsAt, HasNoDraft, HasNoStrip, IsDraft, IsNext, by_stacks}
+use Rattle.first_plan.specs.Strips.{AreStrips, FailsAt, HasNoDraft, IsDraft, IsNext, by_stacks}
 
 level : {A B : Type 0} (n m : ℕ) → (n < m) ⊎ ((n ≡ m) × A) → (m < n) ⊎ ((m ≡ n) × B) → (n ≡ m) × A × B
 level n m x y =
@@ -66,11 +66,11 @@ fails_at_one p begun from (item ∷ items) number other x y =
     elim x [
       | inl none ↦ elim y [ inl also ↦ none.1 ∙ sym also.1 | inr (t, next, later) ↦ absurd (none.0 t next.open_is) ]
       | inr (s, first, rest) ↦ elim y [
-          | inl also ↦ absurd (also.0 s first.open_is)
-          | inr (t, next, later) ↦
-              let same = next_is_one p begun from item s t first next in
-              fails_at_one p (s.plate + 1) s.b items number other rest (subst (λ (u : Strip). FailsAt p (u.plate + 1) u.b items other) (sym same) later)
-        ]
+        | inl also ↦ absurd (also.0 s first.open_is)
+        | inr (t, next, later) ↦
+            let same = next_is_one p begun from item s t first next in
+            fails_at_one p (s.plate + 1) s.b items number other rest (subst (λ (u : Strip). FailsAt p (u.plate + 1) u.b items other) (sym same) later)
+      ]
     ]
 
 pub drafts_one : (b : Problem) (strips others : List Strip) → IsDraft b strips → IsDraft b others → strips ≡ others

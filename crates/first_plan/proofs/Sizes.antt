@@ -1,5 +1,5 @@
 -- The sizes of a plan that strips make, and that it fits.
-use Rattle.std.proofs.Common.{◌≡◌, ℕ, ◌+◌, ◌-◌, ◌*◌, ◌<◌, ◌≤◌, ◌⊎◌, inl, inr, List, [], ◌∷◌, length, refl, sym, ap, subst, ◌∙◌, arith, cond, nat_lt, Bool, true, false, All}
+use Rattle.std.proofs.Common.{◌≡◌, ℕ, ◌+◌, ◌-◌, ◌*◌, ◌≤◌, ◌⊎◌, inl, inr, List, [], ◌∷◌, length, refl, sym, ap, subst, arith, nat_lt, false, All}
 use Rattle.std.proofs.lemmas.Bool.{cases_lt}
 use Rattle.std.proofs.lemmas.Bool.Decides.{nat_tests}
 use Rattle.std.proofs.lemmas.List.Elements.{All-head, All-tail}
@@ -11,7 +11,7 @@ use Rattle.cut_model.specs.declared.family.Sort.{Sort}
 use Rattle.cut_model.specs.Tree.{Forest, nothing, piece, count, total_size}
 use Rattle.cut_model.specs.Fits.{Fits, InRange, IsNumbered}
 use Rattle.first_plan.specs.declared.strip.Strip.{Strip}
-use Rattle.first_plan.specs.Strips.{AreStrips, Gap, IsAllowed, IsDraft, MayStand, by_stacks, item_width, item_height}
+use Rattle.first_plan.specs.Strips.{AreStrips, IsAllowed, IsDraft, MayStand, by_stacks, item_width, item_height}
 use Rattle.first_plan.specs.Drafts.{bands_of, cells_of, cut_into, gap, leaves_of, plan_with, plates_behind, strips_behind, whole_inner, whole_sort}
 use Rattle.first_plan.specs.Drawings.{IsWithin}
 use Rattle.first_plan.proofs.Draftings.{gap_end, within_plate}
@@ -36,10 +36,10 @@ pub gap_sized : (from to total most : ℕ) (sort : Sort) (later : Forest) → fr
 gap_sized from to total most sort later le small numbered h =
     elim (cases_lt from to) [
       | inl lt ↦ rw (gap_there from to sort later lt) (record {
-          total_is = omega (arith, h.total_is);
-          in_range = (omega (arith, small), numbered, omega arith, tt, h.in_range);
-          few = omega (arith, h.few);
-        })
+        total_is = omega (arith, h.total_is);
+        in_range = (omega (arith, small), numbered, omega arith, tt, h.in_range);
+        few = omega (arith, h.few);
+      })
       | inr ge ↦ rw (gap_none from to sort later ge) (record { total_is = omega (arith, h.total_is, le, ge); in_range = h.in_range; few = omega (arith, h.few) })
     ]
 

@@ -189,7 +189,12 @@ fn push_rest(pieces: &mut Run<Piece1>, from: u32, to: u32, body: Body1) -> Resul
 }
 
 /// Appends an item's strip to this plate.
-fn push_strip(alloc: Global, params: &Params, drawing: &mut Drawing, strip: &Strip) -> Result<(), Memory>
+fn push_strip(
+    alloc: Global,
+    params: &Params,
+    drawing: &mut Drawing,
+    strip: &Strip,
+) -> Result<(), Memory>
     requires within { IsWithin strip.now }
     requires same { strip.now.plate ≡ drawing.old.plate }
     ensures { OnOk result ((later : List Strip) → drawn params.now drawing.new later ≡ drawn params.now drawing.old (strip.now ∷ later)) }
@@ -203,7 +208,12 @@ fn push_strip(alloc: Global, params: &Params, drawing: &mut Drawing, strip: &Str
 }
 
 /// Ends this plate with a piece of this kind.
-fn end_plate(alloc: Global, params: &Params, drawing: &mut Drawing, body: Body1) -> Result<(), Memory>
+fn end_plate(
+    alloc: Global,
+    params: &Params,
+    drawing: &mut Drawing,
+    body: Body1,
+) -> Result<(), Memory>
     requires { inner1 body ≡ nothing }
     ensures empty { OnOk result (drawing.new.pieces.items ≡ []) }
     ensures drawn { OnOk result ((later : Forest) → plates_then drawing.new.plates.items later ≡ plates_then drawing.old.plates.items (piece 0 sort.Branch (strips_then drawing.old.pieces.items (gap drawing.old.from (Width params.now drawing.old.plate) (sort1 body) nothing)) later)) }
@@ -215,7 +225,12 @@ fn end_plate(alloc: Global, params: &Params, drawing: &mut Drawing, body: Body1)
 }
 
 /// Goes on to another plate.
-fn begin_plate(alloc: Global, params: &Params, drawing: &mut Drawing, strip: &Strip) -> Result<(), Memory>
+fn begin_plate(
+    alloc: Global,
+    params: &Params,
+    drawing: &mut Drawing,
+    strip: &Strip,
+) -> Result<(), Memory>
     requires { strip.now.plate ≢ drawing.old.plate }
     ensures plate { OnOk result (drawing.new.plate ≡ strip.now.plate) }
     ensures drawn { OnOk result ((later : List Strip) → drawn params.now drawing.new (strip.now ∷ later) ≡ drawn params.now drawing.old (strip.now ∷ later)) }
@@ -227,7 +242,12 @@ fn begin_plate(alloc: Global, params: &Params, drawing: &mut Drawing, strip: &St
 }
 
 /// Draws the next strip.
-fn draw_strip(alloc: Global, params: &Params, drawing: &mut Drawing, strip: &Strip) -> Result<(), Memory>
+fn draw_strip(
+    alloc: Global,
+    params: &Params,
+    drawing: &mut Drawing,
+    strip: &Strip,
+) -> Result<(), Memory>
     requires { IsWithin strip.now }
     ensures { OnOk result ((later : List Strip) → drawn params.now drawing.new later ≡ drawn params.now drawing.old (strip.now ∷ later)) }
 {
@@ -239,7 +259,11 @@ fn draw_strip(alloc: Global, params: &Params, drawing: &mut Drawing, strip: &Str
 
 /// The plan that strips make: each gap is one waste, the last plate ends in the residual where glass remains, and a piece
 /// that is exactly an item is the item. It fails only where memory runs out.
-pub(crate) fn plan_of_strips(alloc: Global, params: &Params, strips: &[Strip]) -> Result<Plan, Memory>
+pub(crate) fn plan_of_strips(
+    alloc: Global,
+    params: &Params,
+    strips: &[Strip],
+) -> Result<Plan, Memory>
     requires { All IsWithin strips.now }
     ensures { IfOk result (λ plan. tree plan ≡ plan_with params.now strips.now) }
 {

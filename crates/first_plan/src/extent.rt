@@ -34,7 +34,11 @@ fn least_length(extent: &Extent) -> Option<u32>
     } else {
         return None;
     };
-    if length <= extent.most { Some(length) } else { None }
+    if length <= extent.most {
+        Some(length)
+    } else {
+        None
+    }
 }
 
 /// Whether nothing, or a waste, lies between two places.

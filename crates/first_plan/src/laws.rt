@@ -10,5 +10,4 @@ pub fn drafts_are_one()
     ensures one { (b : Problem) → (strips others : List Strip) → IsDraft b strips → IsDraft b others → strips ≡ others }
     ensures none { (b : Problem) → (strips : List Strip) → (number : ℕ) → IsDraft b strips → HasNoDraft b number → ⊥ }
     ensures first { (b : Problem) → (number other : ℕ) → HasNoDraft b number → HasNoDraft b other → number ≡ other }
-{
-}
+{}

@@ -27,6 +27,13 @@ fn main(rt: HostRuntime) -> ExitCode {
     };
     let mut files = StdFiles::new(&rt, alloc);
     let mut out = StdSink::new(&rt);
-    let status = glass(&rt, alloc, words.as_slice(), &mut files, &mut out, &OpenGate);
+    let status = glass(
+        &rt,
+        alloc,
+        words.as_slice(),
+        &mut files,
+        &mut out,
+        &OpenGate,
+    );
     ExitCode::from(status.code())
 }

@@ -15,9 +15,7 @@ pub trait Gate {
 pub struct OpenGate;
 
 impl Gate for OpenGate {
-    fn pass(&self, _worker: u32, _id: u64) {
-    }
+    fn pass(&self, _worker: u32, _id: u64) {}
 
-    fn idle(&self, _worker: u32) {
-    }
+    fn idle(&self, _worker: u32) {}
 }

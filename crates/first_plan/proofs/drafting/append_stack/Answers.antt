@@ -1,4 +1,4 @@
-use Rattle.std.proofs.Common.{◌∙◌, ap, ◌++◌, List, Option}
+use Rattle.std.proofs.Common.{◌∙◌, ap, ◌++◌, Option}
 use Rattle.std.specs.Prelude.{option_to_list}
 use Rattle.glass_base.specs.declared.item.Item.{Item}
 use Rattle.first_plan.proofs.Orders.{stack_more}

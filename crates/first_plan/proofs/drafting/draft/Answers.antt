@@ -1,7 +1,7 @@
-use Rattle.std.proofs.Common.{◌≡◌, ◌∙◌, arith, refl, All}
+use Rattle.std.proofs.Common.{refl, All}
 use Rattle.glass_base.specs.Items.{IsItemInRange}
 use Rattle.first_plan.specs.Strips.{by_stacks}
-use Rattle.first_plan.proofs.Draftings.{drafting_more, drafting_end, drafting_fails}
+use Rattle.first_plan.proofs.Draftings.{drafting_more, drafting_end}
 use Rattle.first_plan.proofs.Orders.{stacks_keep}
 use Rattle.first_plan.proofs.drafting.draft.Goals as goal
 
@@ -14,7 +14,7 @@ pub loop-item-preserved : goal.loop-item-preserved
 loop-item-preserved c =
     rw c.in_ok-append-in-Some.ensures.ok
     (drafting_more c.args.instance.now c.as_slice-item-items.result.now c.loop-item.item-index c.loop-item.begun c.loop-item.from c.loop-item.strips.items _ _ c.in-Some.strip
-      c.loop-item-test.true refl c.loop-item.invariant (rw c.params.ensures.value at c.in-Some.ensures))
+    c.loop-item-test.true refl c.loop-item.invariant (rw c.params.ensures.value at c.in-Some.ensures))
 
 pub returns-clause-drafted : goal.returns-clause-drafted
 returns-clause-drafted c =

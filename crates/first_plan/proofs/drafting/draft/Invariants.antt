@@ -1,6 +1,3 @@
-use Rattle.std.proofs.Common.{◌++◌, ◌≤◌, ℕ, List, drop}
-use Rattle.first_plan.specs.declared.strip.Strip.{Strip}
-use Rattle.first_plan.specs.Strips.{AreStrips, FailsAt, IsDraft, HasNoDraft, by_stacks}
 use Rattle.first_plan.proofs.Draftings.{IsDrafting}
 use Rattle.first_plan.proofs.drafting.draft.Given as goal
 

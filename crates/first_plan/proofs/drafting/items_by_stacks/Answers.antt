@@ -1,7 +1,4 @@
-use Rattle.std.proofs.Common.{◌∙◌, ◌≡◌, ◌<◌, ◌++◌, ap, refl, arith, length, ℕ, List}
-use Rattle.std.specs.Prelude.{slice_get}
-use Rattle.std.specs.List.{filter_map}
-use Rattle.glass_base.specs.declared.item.Item.{Item}
+use Rattle.std.proofs.Common.{◌∙◌, ◌<◌, refl, arith, length}
 use Rattle.first_plan.proofs.Orders.{stacks_more}
 use Rattle.first_plan.proofs.drafting.items_by_stacks.Goals as goal
 

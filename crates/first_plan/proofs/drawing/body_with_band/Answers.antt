@@ -1,4 +1,4 @@
-use Rattle.std.proofs.Common.{◌≡◌, ◌∙◌, ◌-◌, ap, sym, refl, List, [], ◌∷◌}
+use Rattle.std.proofs.Common.{◌≡◌, ◌∙◌, ◌-◌, ap, sym, refl, List}
 use Rattle.cut_model.specs.declared.plan.Piece2.{Piece2}
 use Rattle.cut_model.specs.declared.plan.Body1.{Body1}
 use Rattle.cut_model.specs.Tree.{Forest, bands, sort1, inner1}

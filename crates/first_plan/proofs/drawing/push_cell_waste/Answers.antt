@@ -1,4 +1,4 @@
-use Rattle.std.proofs.Common.{◌∙◌, ap, sym, List, [], ◌∷◌}
+use Rattle.std.proofs.Common.{◌∙◌, ap, sym, List}
 use Rattle.cut_model.specs.declared.plan.Piece3.{Piece3}
 use Rattle.cut_model.specs.declared.family.Sort.{Sort}
 use Rattle.cut_model.specs.Tree.{Forest, sort3, inner3}

@@ -1,4 +1,4 @@
-use Rattle.std.proofs.Common.{◌∙◌, ◌-◌, ap, sym, List, [], ◌∷◌}
+use Rattle.std.proofs.Common.{◌∙◌, ◌-◌, ap, sym, List}
 use Rattle.cut_model.specs.declared.plan.Piece1.{Piece1}
 use Rattle.cut_model.specs.Tree.{Forest, piece, sort1, inner1}
 use Rattle.first_plan.specs.Drawings.{strips_then}
