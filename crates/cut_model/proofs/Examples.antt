@@ -25,7 +25,7 @@ use Rattle.cut_model.specs.Traces.{trace_of}
 use Rattle.cut_model.specs.Tree.{tree}
 
 -- the challenge's parameters
-abbrev usual : Params
+abbrev pub usual : Params
 usual = record {
   plates = 100;
   width = 6000;
@@ -50,23 +50,23 @@ usual = record {
   };
 }
 
-abbrev item : ℕ → ℕ → ℕ → Item
+abbrev pub item : ℕ → ℕ → ℕ → Item
 item number length width = record { id = number; length = length; width = width; stack = 0; sequence = number + 1 }
 
 -- items of one stack
-abbrev batch : List Item → List ℕ → Problem
+abbrev pub batch : List Item → List ℕ → Problem
 batch items places = record { params = usual; items = items; defects = []; stacks = places ∷ [] }
 
-abbrev plate : List Piece1 → Plate
+abbrev pub plate : List Piece1 → Plate
 plate pieces = record { pieces = record { items = pieces; spare = 0 } }
 
-abbrev plan : List Plate → Plan
+abbrev pub plan : List Plate → Plan
 plan plates = record { plates = record { items = plates; spare = 0 } }
 
-abbrev bands_of : List Piece2 → Body1
+abbrev pub bands_of : List Piece2 → Body1
 bands_of pieces = b1.Cut (record { items = pieces; spare = 0 })
 
-abbrev cells_of : List Piece3 → Body2
+abbrev pub cells_of : List Piece3 → Body2
 cells_of pieces = b2.Cut (record { items = pieces; spare = 0 })
 
 abbrev row : ℕ → ℕ → ℕ → ℕ → ℕ → ℕ → ℤ → ℕ → Option ℕ → Row
@@ -96,7 +96,7 @@ step stack turn kind lift a b c d e = record {
 }
 
 -- an item of 500 by 300, turned: a strip of 300 with the item below and a waste above
-abbrev turned_plan : Plan
+abbrev pub turned_plan : Plan
 turned_plan =
     plan (
     plate (
@@ -229,7 +229,7 @@ unfolding families
 four_order = refl
 
 -- the second item of a stack cut before the first: the order is 1, 0
-abbrev crossed_plan : Plan
+abbrev pub crossed_plan : Plan
 crossed_plan =
     plan (
     plate (

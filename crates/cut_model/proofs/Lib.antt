@@ -4,3 +4,5 @@ pub mod Fitting
 pub mod Parents
 pub mod Numbers
 pub mod Examples
+pub mod Cutting
+pub mod RuleExamples

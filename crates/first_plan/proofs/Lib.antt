@@ -7,3 +7,9 @@ pub mod Wholes
 pub mod Drawn
 pub mod Ones
 pub mod Sizes
+pub mod Cutting
+pub mod Gathered
+pub mod Served
+pub mod Cuts
+pub mod Plates
+pub mod Lawful

@@ -1,7 +1,8 @@
 //! The draft: the strips of the items, one after another.
 
-ghost use Rattle.std.specs.Prelude.{◌≡◌, ◌++◌, IfOk, OnOk, MatchResult, option_to_list, slice_get, All};
+ghost use Rattle.std.specs.Prelude.{◌≡◌, ◌++◌, [], IfOk, OnOk, MatchResult, option_to_list, slice_get, All};
 ghost use Rattle.cut_model.specs.Fits.{Fits};
+ghost use Rattle.cut_model.specs.Lawful.{IsLawful};
 ghost use Rattle.cut_model.specs.Tree.{tree};
 ghost use Rattle.first_plan.specs.Drafts.{IsDraftPlan};
 ghost use Rattle.first_plan.specs.Drawings.{IsWithin};
@@ -81,10 +82,11 @@ fn draft(alloc: Global, instance: &Instance) -> Result<Result<Run<Strip>, u32>, 
 /// Stacks are taken by number, the items of each in ascending sequence. Each item gets, of all strips that it may have on
 /// the plate in use or on the next one, the one that comes first by plate, right side, left side, lower side, upper side
 /// and turn. Each gap becomes one waste, and the last plate ends in the residual where glass remains. Defects are not looked
-/// at.
+/// at; on plates without defects the plan is lawful.
 pub fn draft_plan(alloc: Global, instance: &Instance) -> Result<Result<Plan, u32>, Memory>
     ensures drafted { IfOk result (λ drafted. MatchResult drafted (λ plan. IsDraftPlan instance.now (tree plan)) (HasNoDraft instance.now)) }
     ensures fits { IfOk result (λ drafted. IfOk drafted (λ plan. Fits (tree plan))) }
+    ensures lawful { IfOk result (λ drafted. IfOk drafted (λ plan. instance.now.defects ≡ [] → IsLawful instance.now (tree plan))) }
 {
     match draft(alloc, instance)? {
         Ok(strips) => {

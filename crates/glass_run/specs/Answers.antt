@@ -11,6 +11,7 @@ use Rattle.glass_base.specs.declared.instance.BadInstance.TheVariants as bad_ins
 use Rattle.glass_base.specs.declared.item.Item.{Item}
 use Rattle.glass_base.specs.declared.params.Params.{Params}
 use Rattle.batch_csv.specs.Batches.{items_of}
+use Rattle.cut_model.specs.Lawful.{IsLawful}
 use Rattle.cut_model.specs.Loss.{loss_of}
 use Rattle.cut_model.specs.Tree.{Forest, neighbour_count}
 use Rattle.first_plan.specs.Drafts.{IsDraftPlan}
@@ -61,10 +62,10 @@ drafted params plan = record {
   lines = summary (loss_of params plan) (neighbour_count plan);
 }
 
--- the answer to an instance: the plan of its draft, or the first item without a place
+-- the answer to an instance: the plan of its draft, which is lawful, or the first item without a place
 abbrev pub AnswersInstance : Problem → Answer → Type 0
 AnswersInstance b answer =
-    ((plan : Forest) × IsDraftPlan b plan × (answer ≡ drafted b.params plan))
+    ((plan : Forest) × IsDraftPlan b plan × IsLawful b plan × (answer ≡ drafted b.params plan))
     ⊎ ((number : ℕ) × HasNoDraft b number × (answer ≡ no_draft number))
 
 -- the challenge's parameters

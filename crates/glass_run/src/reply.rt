@@ -64,8 +64,9 @@ fn reply_with_plan(alloc: Global, instance: &Instance, plan: &Plan) -> Result<Re
     })
 }
 
-/// The reply to an instance: the plan of its draft, or the first item without a place.
+/// The reply to an instance without defects: the plan of its draft, which is lawful, or the first item without a place.
 fn reply_to_instance(alloc: Global, instance: &Instance) -> Result<Reply, Memory>
+    requires { instance.now.defects ≡ [] }
     ensures { IfOk result (λ r. AnswersInstance instance.now (answer_in r)) }
 {
     match draft_plan(alloc, instance)? {
