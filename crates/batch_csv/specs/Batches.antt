@@ -1,11 +1,10 @@
 -- The items that a batch file says, or its first refusal.
-use Rattle.std.specs.Prelude.{◌==◌, ◌+◌, ℕ, List, [], ◌∷◌, drop, length, if◌then◌else◌, Result, Ok, Err}
+use Rattle.std.specs.Prelude.{◌==◌, ℕ, List, length, if◌then◌else◌, Result, Ok, Err}
 use Rattle.csv.specs.Records.{field_at}
 use Rattle.glass_base.specs.declared.bad_text.BadText.{BadText}
 use Rattle.glass_base.specs.declared.bad_text.BadText.TheVariants as bad
 use Rattle.glass_base.specs.declared.item.Item.{Item}
-use Rattle.csv_table.specs.Rows.{rows_of}
-use Rattle.csv_table.specs.Readings.{◌>>=◌, whole_in}
+use Rattle.csv_table.specs.Readings.{◌>>=◌, table, whole_in}
 
 -- the item of a row: its number, its two sides, its stack and its place in the stack
 unfoldable pub item_at : ℕ → List (List ℕ) → Result Item BadText
@@ -19,11 +18,6 @@ item_at row fields =
       Ok (record { id = id; length = length; width = width; stack = stack; sequence = sequence }))
     else Err (bad.Record row (length fields))
 
--- the items of rows that are numbered from this one on
-abbrev pub items_from : ℕ → List (List (List ℕ)) → Result (List Item) BadText
-items_from row [] = Ok []
-items_from row (fields ∷ rest) = item_at row fields >>= λ item. items_from (row + 1) rest >>= λ items. Ok (item ∷ items)
-
--- the items of a batch: those of all rows behind the first
+-- the items of a batch, one for each row
 abbrev pub items_of : List ℕ → Result (List Item) BadText
-items_of bytes = items_from 2 (drop 1 (rows_of bytes))
+items_of bytes = table item_at bytes

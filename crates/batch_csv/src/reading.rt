@@ -43,7 +43,8 @@ fn item_of(row: u64, fields: &ByteRecord) -> Result<Item, BadText>
 /// The items of a batch file in the order of its rows, or the first refusal.
 ///
 /// The first row is the header and is skipped, whatever it says. Every other row has the five fields ITEM_ID, LENGTH_ITEM,
-/// WIDTH_ITEM, STACK and SEQUENCE, each a number of one to nine digits; the two sides are at most 20,000 mm.
+/// WIDTH_ITEM, STACK and SEQUENCE, each a whole number; the two sides are at most 20,000 mm, the others at most 999,999,999.
+/// `Record`, `Number` and `Range` come as `BadText` says; the first row in error decides, and in it the first column.
 pub fn read_batch(alloc: Global, bytes: &[u8]) -> Result<Run<Item>, BadText>
     ensures items { Gives (λ run. run.items) result (items_of bytes.now) }
     ensures ranges { IfOk result (λ run. All IsItemInRange run.items) }

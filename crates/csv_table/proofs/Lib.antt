@@ -1,3 +1,4 @@
 pub mod RowFacts
 pub mod DigitFacts
 pub mod Plain
+pub mod Tables

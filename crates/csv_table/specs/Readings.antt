@@ -1,8 +1,10 @@
 -- What a reader of a table gives, or its first refusal.
-use Rattle.std.specs.Prelude.{◌≡◌, ℕ, List, nat_le, if◌then◌else◌, Option, Some, None, Result, Ok, Err}
+use Rattle.std.specs.Prelude.{◌≡◌, ◌==◌, ◌+◌, ◌*◌, ℕ, List, [], ◌∷◌, drop, nat_le, if◌then◌else◌, Option, Some, None, Result, Ok, Err}
 use Rattle.glass_base.specs.declared.bad_text.BadText.{BadText}
 use Rattle.glass_base.specs.declared.bad_text.BadText.TheVariants as bad
-use Rattle.csv_table.specs.Numbers.{digits}
+use Rattle.csv_table.specs.Numbers.{decimal, millionths_in}
+use Rattle.csv_table.specs.Rows.{rows_of}
+use Rattle.csv_table.specs.declared.number.Decimal.{Decimal}
 
 -- what is read next is read from this, unless it was refused
 infixl 10 ◌>>=◌
@@ -24,15 +26,35 @@ abbrev pub Gives : {X Y : Type 0} → (X → Y) → Result X BadText → Result 
 Gives view (Ok x) said = said ≡ Ok (view x)
 Gives view (Err e) said = Fails e said
 
--- a number of a column whose numbers are at most this
-abbrev pub in_range : ℕ → ℕ → ℕ → Option ℕ → Result ℕ BadText
-in_range row column most None = Err (bad.Number row column)
-in_range row column most (Some n) = if nat_le n most then Ok n else Err (bad.Range row column)
+-- a number of a column whose numbers are whole and at most this
+abbrev pub whole_number : ℕ → ℕ → ℕ → Option Decimal → Result ℕ BadText
+whole_number row column most None = Err (bad.Number row column)
+whole_number row column most (Some n) =
+    if n.millionths == 0 then (if nat_le n.whole most then Ok n.whole else Err (bad.Range row column)) else Err (bad.Number row column)
 
 -- the number in a field of such a column
 abbrev pub whole : ℕ → ℕ → ℕ → List ℕ → Result ℕ BadText
-whole row column most field = in_range row column most (digits 9 field)
+whole row column most field = whole_number row column most (decimal field)
 
 abbrev pub whole_in : ℕ → ℕ → ℕ → Option (List ℕ) → Result ℕ BadText
 whole_in row column most None = Err (bad.Number row column)
 whole_in row column most (Some field) = whole row column most field
+
+-- a number of a column whose numbers may have decimals and are at most this
+abbrev pub measured : ℕ → ℕ → ℕ → Option Decimal → Result Decimal BadText
+measured row column most None = Err (bad.Number row column)
+measured row column most (Some n) = if nat_le (millionths_in n) (most * 1000000) then Ok n else Err (bad.Range row column)
+
+-- the number in a field of such a column
+abbrev pub measure_in : ℕ → ℕ → ℕ → Option (List ℕ) → Result Decimal BadText
+measure_in row column most None = Err (bad.Number row column)
+measure_in row column most (Some field) = measured row column most (decimal field)
+
+-- what rows say that are numbered from this one on, row by row: the first refusal decides
+abbrev pub each_row : {A : Type 0} → (ℕ → List (List ℕ) → Result A BadText) → ℕ → List (List (List ℕ)) → Result (List A) BadText
+each_row say row [] = Ok []
+each_row say row (fields ∷ rest) = say row fields >>= λ x. each_row say (row + 1) rest >>= λ xs. Ok (x ∷ xs)
+
+-- what a table says: all its rows but the first, which is skipped
+abbrev pub table : {A : Type 0} → (ℕ → List (List ℕ) → Result A BadText) → List ℕ → Result (List A) BadText
+table say bytes = each_row say 2 (drop 1 (rows_of bytes))

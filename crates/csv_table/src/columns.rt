@@ -2,9 +2,10 @@
 
 ghost use Rattle.std.specs.Prelude.{◌≡◌, ◌<◌, ◌≤◌, ◌-◌, IfOk};
 ghost use Rattle.csv.specs.Records.{field_at, fields_of};
-ghost use Rattle.csv_table.specs.Readings.{whole, whole_in};
+ghost use Rattle.csv_table.specs.Numbers.{IsAtMost, decimal};
+ghost use Rattle.csv_table.specs.Readings.{measure_in, measured, whole, whole_in};
 
-use crate::number::digits_of;
+use crate::number::{Decimal, decimal_of};
 use csv::ByteRecord;
 use glass_base::BadText;
 
@@ -13,20 +14,20 @@ fn whole_of(row: u64, column: u64, most: u32, field: &[u8]) -> Result<u32, BadTe
     ensures value { result ≡ whole row column most field.now }
     ensures range { IfOk result (λ number. number ≤ most) }
 {
-    match digits_of(field, 9) {
-        None => Err(BadText::Number(row, column)),
-        Some(number) => {
-            if number <= most {
-                Ok(number)
+    match decimal_of(field) {
+        Some(number) if number.millionths == 0 => {
+            if number.whole <= most {
+                Ok(number.whole)
             } else {
                 Err(BadText::Range(row, column))
             }
         }
+        _ => Err(BadText::Number(row, column)),
     }
 }
 
-/// The whole number in a column of a row, counted from 1. `Number` comes where the field is no number, `Range` where the
-/// number is above `most`.
+/// The whole number in a column of a row, counted from 1. Zeros alone may stand behind a point. `Number` comes where the
+/// field is no whole number, `Range` where the number is above `most`.
 pub fn whole_at(row: u64, column: u64, most: u32, fields: &ByteRecord) -> Result<u32, BadText>
     requires { 0 < column }
     ensures value { result ≡ whole_in row column most (field_at (fields_of fields.now) (column - 1)) }
@@ -34,6 +35,38 @@ pub fn whole_at(row: u64, column: u64, most: u32, fields: &ByteRecord) -> Result
 {
     match fields.get((column - 1) as usize) {
         Some(field) => whole_of(row, column, most, field),
+        None => Err(BadText::Number(row, column)),
+    }
+}
+
+/// The number, at most `most`, of a field that may have decimals.
+fn measure_of(row: u64, column: u64, most: u32, field: &[u8]) -> Result<Decimal, BadText>
+    requires { most ≤ 1000000 }
+    ensures value { result ≡ measured row column most (decimal field.now) }
+    ensures range { IfOk result (IsAtMost most) }
+{
+    match decimal_of(field) {
+        Some(number) => {
+            if number.whole < most || (number.whole == most && number.millionths == 0) {
+                Ok(number)
+            } else {
+                Err(BadText::Range(row, column))
+            }
+        }
+        None => Err(BadText::Number(row, column)),
+    }
+}
+
+/// The number in a column of a row, counted from 1, that may have decimals. `Number` comes where the field is no number,
+/// `Range` where the number is above `most`.
+pub fn measure_at(row: u64, column: u64, most: u32, fields: &ByteRecord) -> Result<Decimal, BadText>
+    requires column { 0 < column }
+    requires most { most ≤ 1000000 }
+    ensures value { result ≡ measure_in row column most (field_at (fields_of fields.now) (column - 1)) }
+    ensures range { IfOk result (IsAtMost most) }
+{
+    match fields.get((column - 1) as usize) {
+        Some(field) => measure_of(row, column, most, field),
         None => Err(BadText::Number(row, column)),
     }
 }

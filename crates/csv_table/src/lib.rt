@@ -6,7 +6,7 @@ pub mod lines;
 pub mod number;
 pub mod rows;
 
-pub use columns::whole_at;
+pub use columns::{measure_at, whole_at};
 pub use lines::{Lines, optional, signed, unsigned};
-pub use number::digits_of;
+pub use number::{Decimal, decimal_of, trim};
 pub use rows::Rows;

@@ -22,8 +22,15 @@ pub struct StdFiles<'a, R> {
 }
 
 impl<'a, R> StdFiles<'a, R> {
+    ghost use Rattle.std.specs.Prelude.{◌≡◌};
+    ghost use Rattle.glass_base.specs.declared.role.Role.{Role};
+    ghost use Rattle.glass_io.specs.Held.{faults_of};
+
     /// The files of the system, with no fault so far.
-    pub fn new(rt: &'a R, alloc: Global) -> StdFiles<'a, R> {
+    pub fn new(rt: &'a R, alloc: Global) -> StdFiles<'a, R>
+        ensures unread { (of : Role) → faults_of result.read_faults of ≡ 0 }
+        ensures unwritten { result.write_faults ≡ 0 }
+    {
         StdFiles {
             rt,
             alloc,
@@ -91,8 +98,12 @@ pub struct StdSink<'a, R> {
 }
 
 impl<'a, R> StdSink<'a, R> {
+    ghost use Rattle.std.specs.Prelude.{◌≡◌};
+
     /// Standard output, with no fault so far.
-    pub fn new(rt: &'a R) -> StdSink<'a, R> {
+    pub fn new(rt: &'a R) -> StdSink<'a, R>
+        ensures { result.faults ≡ 0 }
+    {
         StdSink { rt, faults: 0 }
     }
 }

@@ -1,15 +1,20 @@
 -- What a run stores and prints, by what stands under the name of the batch.
-use Rattle.std.specs.Prelude.{◌≡◌, ◌≢◌, ◌⊎◌, ◌++◌, ◌<◌, ◌≤◌, ℕ, List, [], length, Option, Some, None, Result, Ok, Err, codes, option_map}
+use Rattle.std.specs.Prelude.{◌≡◌, ◌⊎◌, ◌++◌, ◌<◌, ◌≤◌, ℕ, List, [], length, Option, Some, None, Result, Ok, Err, codes, option_map}
 use Rattle.std.specs.Fmt.{decimal}
 use Rattle.std.specs.String.{string_bytes}
 use Rattle.glass_base.specs.BadInstance.{RefusesLists}
 use Rattle.glass_base.specs.BadParams.{HasSizes}
 use Rattle.glass_base.specs.Problem.{Problem, IsMadeOf}
 use Rattle.glass_base.specs.declared.bad_text.BadText.{BadText}
+use Rattle.glass_base.specs.declared.bad_text.BadText.TheVariants as bad_text
 use Rattle.glass_base.specs.declared.instance.BadInstance.{BadInstance}
 use Rattle.glass_base.specs.declared.instance.BadInstance.TheVariants as bad_instance
 use Rattle.glass_base.specs.declared.item.Item.{Item}
 use Rattle.glass_base.specs.declared.params.Params.{Params}
+use Rattle.glass_base.specs.declared.params.BadParams.{BadParams}
+use Rattle.glass_base.specs.declared.params.BadParams.TheVariants as bad_params
+use Rattle.glass_base.specs.declared.role.Role.{Role}
+use Rattle.glass_base.specs.declared.role.Role.TheVariants as role
 use Rattle.batch_csv.specs.Batches.{items_of}
 use Rattle.cut_model.specs.Lawful.{IsLawful}
 use Rattle.cut_model.specs.Loss.{loss_of}
@@ -17,6 +22,9 @@ use Rattle.cut_model.specs.Tree.{Forest, neighbour_count}
 use Rattle.first_plan.specs.Drafts.{IsDraftPlan}
 use Rattle.first_plan.specs.Strips.{HasNoDraft}
 use Rattle.plan_csv.specs.Solutions.{solution_text}
+use Rattle.stock_csv.specs.Settings.{ReadAs, RefusesSettings, settings_of}
+use Rattle.glass_io.specs.Told.{Contents}
+use Rattle.glass_run.specs.Words.{Names}
 use Rattle.glass_run.specs.declared.status.Status.{Status}
 use Rattle.glass_run.specs.declared.status.Status.TheVariants as status
 use Rattle.glass_run.specs.declared.reply.Reply.{Reply}
@@ -35,14 +43,56 @@ answer_in r = record { status = r.status; text = option_map (λ run. run.items) 
 abbrev pub refusal : Status → List ℕ → Answer
 refusal status lines = record { status = status; text = None; lines = lines }
 
-abbrev pub absent : Answer
-absent = refusal status.Absent (codes "absent batch\n")
+-- the word by which a line names a file
+abbrev pub role_word : Role → List ℕ
+role_word role.Batch = codes "batch"
+role_word role.Defects = codes "defects"
+role_word role.Params = codes "params"
+role_word role.Plan = codes "plan"
+role_word role.Cert = codes "cert"
 
-abbrev pub too_long : Answer
-too_long = refusal status.TooLong (codes "too long batch\n")
+abbrev pub absent_line : Role → List ℕ
+absent_line of = codes "absent " ++ role_word of ++ codes "\n"
 
-abbrev pub bad_input : Answer
-bad_input = refusal status.BadInput (codes "bad input batch\n")
+abbrev pub absent : Role → Answer
+absent of = refusal status.Absent (absent_line of)
+
+abbrev pub too_long_line : Role → List ℕ
+too_long_line of = codes "too long " ++ role_word of ++ codes "\n"
+
+abbrev pub too_long : Role → Answer
+too_long of = refusal status.TooLong (too_long_line of)
+
+-- a refusal by its number and its two values
+abbrev pub bad_input_line : Role → ℕ → ℕ → ℕ → List ℕ
+bad_input_line of number x y = codes "bad input " ++ role_word of ++ codes " " ++ decimal number ++ codes " " ++ decimal x ++ codes " " ++ decimal y ++ codes "\n"
+
+abbrev pub bad_input : Role → ℕ → ℕ → ℕ → Answer
+bad_input of number x y = refusal status.BadInput (bad_input_line of number x y)
+
+-- the answer to parameters that are refused
+abbrev pub params_refused : BadParams → Answer
+params_refused bad_params.ZeroSide = bad_input role.Params 1 0 0
+params_refused (bad_params.Order left right) = bad_input role.Params 2 left right
+params_refused (bad_params.OverLimit value limit) = bad_input role.Params 3 value limit
+
+-- the answer to a text that is refused
+abbrev pub TextRefused : Role → BadText → Answer → Type 0
+TextRefused of bad_text.Memory answer = ⊥
+TextRefused of (bad_text.Record row fields) answer = answer ≡ bad_input of 10 row fields
+TextRefused of (bad_text.Number row column) answer = answer ≡ bad_input of 11 row column
+TextRefused of (bad_text.Range row column) answer = answer ≡ bad_input of 12 row column
+TextRefused of (bad_text.EmptyDefect row) answer = answer ≡ bad_input of 13 row 0
+TextRefused of (bad_text.Params reason) answer = answer ≡ params_refused reason
+
+-- the answer to lists that make no instance
+abbrev pub ListsRefused : BadInstance → Answer → Type 0
+ListsRefused bad_instance.Memory answer = ⊥
+ListsRefused bad_instance.NoItems answer = answer ≡ bad_input role.Batch 4 0 0
+ListsRefused (bad_instance.TooMany of count limit) answer = answer ≡ bad_input of 5 count limit
+ListsRefused (bad_instance.DoubleId first second) answer = answer ≡ bad_input role.Batch 6 first second
+ListsRefused (bad_instance.DoubleSequence first second) answer = answer ≡ bad_input role.Batch 7 first second
+ListsRefused (bad_instance.ZeroItem position) answer = answer ≡ bad_input role.Batch 8 position 0
 
 abbrev pub no_draft_line : ℕ → List ℕ
 no_draft_line number = codes "no draft " ++ decimal number ++ codes "\n"
@@ -68,27 +118,42 @@ AnswersInstance b answer =
     ((plan : Forest) × IsDraftPlan b plan × IsLawful b plan × (answer ≡ drafted b.params plan))
     ⊎ ((number : ℕ) × HasNoDraft b number × (answer ≡ no_draft number))
 
+-- the answer to items on plates of these parameters, without defects
+abbrev pub AnswersItems : List Item → Params → Answer → Type 0
+AnswersItems items params answer =
+    ((b : Problem) × IsMadeOf b params items [] × AnswersInstance b answer)
+    ⊎ ((reason : BadInstance) × RefusesLists reason items [] × ListsRefused reason answer)
+
 -- the challenge's parameters
 abbrev pub AreUsual : Params → Type 0
 AreUsual params = HasSizes params 100 6000 3210 100 3500 100 20
 
--- the answer to items on plates without defects, with the challenge's parameters
-abbrev pub AnswersItems : List Item → Answer → Type 0
-AnswersItems items answer =
-    ((b : Problem) × (params : Params) × AreUsual params × IsMadeOf b params items [] × AnswersInstance b answer)
-    ⊎ ((bad : BadInstance) × (bad ≢ bad_instance.Memory) × RefusesLists bad items [] × (answer ≡ bad_input))
+-- the answer to items with the parameters of a file, if there is one, else with the usual ones
+abbrev pub AnswersParams : List Item → Option (List ℕ) → Answer → Type 0
+AnswersParams items None answer = (params : Params) × AreUsual params × AnswersItems items params answer
+AnswersParams items (Some bytes) answer =
+    ((params : Params) × ReadAs params (settings_of bytes) × AnswersItems items params answer)
+    ⊎ ((reason : BadText) × RefusesSettings reason (settings_of bytes) × TextRefused role.Params reason answer)
 
 -- the answer to the items that a batch says, or to its refusal
-abbrev pub AnswersBatch : Result (List Item) BadText → Answer → Type 0
-AnswersBatch (Ok items) answer = AnswersItems items answer
-AnswersBatch (Err bad) answer = answer ≡ bad_input
+abbrev pub AnswersBatch : Result (List Item) BadText → Option (List ℕ) → Answer → Type 0
+AnswersBatch (Ok items) params answer = AnswersParams items params answer
+AnswersBatch (Err reason) params answer = TextRefused role.Batch reason answer
 
--- the answer to a file: one that is longer than 4,194,304 bytes is too long
-abbrev pub AnswersBytes : List ℕ → Answer → Type 0
-AnswersBytes bytes answer =
-    ((4194304 < length bytes) × (answer ≡ too_long)) ⊎ ((length bytes ≤ 4194304) × AnswersBatch (items_of bytes) answer)
+-- the answer to the bytes of the files: the batch is read first
+abbrev pub AnswersTexts : List ℕ → Option (List ℕ) → Answer → Type 0
+AnswersTexts batch params answer = AnswersBatch (items_of batch) params answer
 
--- the answer to what stands under the name of the batch
-abbrev pub AnswersFile : Option (List ℕ) → Answer → Type 0
-AnswersFile None answer = answer ≡ absent
-AnswersFile (Some bytes) answer = AnswersBytes bytes answer
+-- a file that is not there, or is longer than 4,194,304 bytes, ends the run; else the run goes on with its bytes
+abbrev pub WithText : Role → Option (List ℕ) → (List ℕ → Type 0) → Answer → Type 0
+WithText of None Next answer = answer ≡ absent of
+WithText of (Some bytes) Next answer =
+    ((4194304 < length bytes) × (answer ≡ too_long of)) ⊎ ((length bytes ≤ 4194304) × Next bytes)
+
+abbrev pub AnswersOption : Contents → Option (List ℕ) → List ℕ → Answer → Type 0
+AnswersOption contents None batch answer = AnswersTexts batch None answer
+AnswersOption contents (Some name) batch answer = WithText role.Params (contents name) (λ params. AnswersTexts batch (Some params) answer) answer
+
+-- the answer to what stands under the names: all files are fetched, in their order, before one is read
+abbrev pub AnswersFiles : Contents → Names → Answer → Type 0
+AnswersFiles contents names answer = WithText role.Batch (contents names.batch) (λ batch. AnswersOption contents names.params batch answer) answer

@@ -2,6 +2,7 @@
 #![tactic(auto)]
 
 pub mod gate;
+mod lines;
 mod reply;
 pub mod run;
 pub mod status;

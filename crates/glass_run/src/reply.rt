@@ -1,21 +1,25 @@
-//! What a run answers to the bytes of a batch.
+//! What a run answers to the bytes of its files.
 
-ghost use Rattle.std.specs.Prelude.{◌≡◌, ◌≢◌, ◌<◌, ◌≤◌, IfOk, [], length, All};
+ghost use Rattle.std.specs.Prelude.{◌≡◌, ◌≢◌, IfOk, [], All, option_map};
 ghost use Rattle.std.specs.String.{string_bytes};
 ghost use Rattle.cut_model.specs.Fits.{Fits};
 ghost use Rattle.cut_model.specs.Tree.{tree};
 ghost use Rattle.glass_base.specs.Items.{IsItemInRange};
+ghost use Rattle.glass_base.specs.declared.bad_text.BadText.TheVariants as bad_text;
+ghost use Rattle.glass_base.specs.declared.instance.BadInstance.TheVariants as bad_instance;
 ghost use Rattle.batch_csv.specs.Batches.{items_of};
-ghost use Rattle.glass_run.specs.Answers.{AnswersBatch, AnswersInstance, AnswersItems, answer_in, drafted, no_draft_line as no_draft_line_of, refusal, summary};
+ghost use Rattle.glass_run.specs.Answers.{AnswersInstance, AnswersItems, AnswersParams, AnswersTexts, ListsRefused, TextRefused, absent as absent_of, answer_in, bad_input as bad_input_of, drafted, params_refused as params_refused_of, refusal, too_long as too_long_of};
 
+use crate::lines::{absent_line, bad_input_line, no_draft_line, summary_lines, too_long_line};
 use crate::status::Status;
 use batch_csv::read_batch;
 use cut_model::{Plan, plates_used};
 use first_plan::draft_plan;
-use glass_base::{BadInstance, BadText, Instance, Item, Memory, Params, Run};
+use glass_base::{BadInstance, BadParams, BadText, Instance, Item, Memory, Params, Role, Run};
 use loss_area::loss;
 use plan_csv::write_plan;
 use std::alloc::Global;
+use stock_csv::read_params;
 
 /// What a run is to store, if anything, and to print.
 #[derive(Drop)]
@@ -26,28 +30,93 @@ pub struct Reply {
 }
 
 /// A reply that stores nothing and prints this.
-pub(crate) fn refuse(alloc: Global, status: Status, line: &str) -> Result<Reply, Memory>
-    ensures { IfOk result (λ r. answer_in r ≡ refusal status line.now) }
+fn refuse(status: Status, lines: String) -> Reply
+    ensures { answer_in result ≡ refusal status (string_bytes lines) }
 {
-    Ok(Reply {
+    Reply {
         status,
         text: None,
-        lines: String::from_str(alloc, line)?,
-    })
+        lines,
+    }
 }
 
-/// The lines that tell of a plan.
-fn summary_lines(alloc: Global, loss: u64, plates: u64) -> Result<String, Memory>
-    ensures { IfOk result (λ lines. string_bytes lines ≡ summary loss plates) }
+/// The reply to a file that is not there.
+pub(crate) fn absent(alloc: Global, role: Role) -> Result<Reply, Memory>
+    ensures { IfOk result (λ r. answer_in r ≡ absent_of role) }
 {
-    Ok(format!(in alloc; "loss {loss}\nplates {plates}\n")?)
+    Ok(refuse(Status::Absent, absent_line(alloc, role)?))
 }
 
-/// The line that names an item without a place.
-fn no_draft_line(alloc: Global, number: u32) -> Result<String, Memory>
-    ensures { IfOk result (λ line. string_bytes line ≡ no_draft_line_of number) }
+/// The reply to a file that is longer than its limit.
+pub(crate) fn too_long(alloc: Global, role: Role) -> Result<Reply, Memory>
+    ensures { IfOk result (λ r. answer_in r ≡ too_long_of role) }
 {
-    Ok(format!(in alloc; "no draft {number}\n")?)
+    Ok(refuse(Status::TooLong, too_long_line(alloc, role)?))
+}
+
+/// The reply to a refusal of this number.
+fn bad_input(
+    alloc: Global,
+    role: Role,
+    number: u32,
+    first: u64,
+    second: u64,
+) -> Result<Reply, Memory>
+    ensures { IfOk result (λ r. answer_in r ≡ bad_input_of role number first second) }
+{
+    Ok(refuse(
+        Status::BadInput,
+        bad_input_line(alloc, role, number, first, second)?,
+    ))
+}
+
+/// The reply to parameters that are refused.
+fn params_refused(alloc: Global, reason: BadParams) -> Result<Reply, Memory>
+    ensures { IfOk result (λ r. answer_in r ≡ params_refused_of reason) }
+{
+    match reason {
+        BadParams::ZeroSide => bad_input(alloc, Role::Params, 1, 0, 0),
+        BadParams::Order(left, right) => {
+            bad_input(alloc, Role::Params, 2, u64::from(left), u64::from(right))
+        }
+        BadParams::OverLimit(value, limit) => {
+            bad_input(alloc, Role::Params, 3, u64::from(value), u64::from(limit))
+        }
+    }
+}
+
+/// The reply to a text that is refused.
+fn text_refused(alloc: Global, role: Role, reason: BadText) -> Result<Reply, Memory>
+    ensures { IfOk result (λ r. TextRefused role reason (answer_in r)) }
+{
+    match reason {
+        BadText::Memory => Err(Memory),
+        BadText::Record(row, fields) => bad_input(alloc, role, 10, row, fields),
+        BadText::Number(row, column) => bad_input(alloc, role, 11, row, column),
+        BadText::Range(row, column) => bad_input(alloc, role, 12, row, column),
+        BadText::EmptyDefect(row) => bad_input(alloc, role, 13, row, 0),
+        BadText::Params(reason) => params_refused(alloc, reason),
+    }
+}
+
+/// The reply to lists that make no instance.
+fn lists_refused(alloc: Global, reason: BadInstance) -> Result<Reply, Memory>
+    ensures { IfOk result (λ r. ListsRefused reason (answer_in r)) }
+{
+    match reason {
+        BadInstance::Memory => Err(Memory),
+        BadInstance::NoItems => bad_input(alloc, Role::Batch, 4, 0, 0),
+        BadInstance::TooMany { of, count, limit } => bad_input(alloc, of, 5, count, limit),
+        BadInstance::DoubleId(first, second) => {
+            bad_input(alloc, Role::Batch, 6, u64::from(first), u64::from(second))
+        }
+        BadInstance::DoubleSequence(first, second) => {
+            bad_input(alloc, Role::Batch, 7, u64::from(first), u64::from(second))
+        }
+        BadInstance::ZeroItem(position) => {
+            bad_input(alloc, Role::Batch, 8, u64::from(position), 0)
+        }
+    }
 }
 
 /// The reply that stores a plan.
@@ -71,32 +140,49 @@ fn reply_to_instance(alloc: Global, instance: &Instance) -> Result<Reply, Memory
 {
     match draft_plan(alloc, instance)? {
         Ok(plan) => reply_with_plan(alloc, instance, &plan),
-        Err(number) => {
-            let line = no_draft_line(alloc, number)?;
-            refuse(alloc, Status::NoDraft, line.as_str())
-        }
+        Err(number) => Ok(refuse(Status::NoDraft, no_draft_line(alloc, number)?)),
     }
 }
 
-/// The reply to items on plates without defects.
-fn reply_to_items(alloc: Global, items: Run<Item>) -> Result<Reply, Memory>
+/// The reply to items on plates of these parameters, without defects.
+fn reply_to_items(alloc: Global, items: Run<Item>, params: Params) -> Result<Reply, Memory>
     requires { All IsItemInRange items.items }
-    ensures { IfOk result (λ r. AnswersItems items.items (answer_in r)) }
+    ensures { IfOk result (λ r. AnswersItems items.items params (answer_in r)) }
 {
-    match Instance::new(alloc, Params::usual(), items, Run::new(alloc)) {
+    match Instance::new(alloc, params, items, Run::new(alloc)) {
         Ok(instance) => reply_to_instance(alloc, &instance),
-        Err(BadInstance::Memory) => Err(Memory),
-        Err(_) => refuse(alloc, Status::BadInput, "bad input batch\n"),
+        Err(reason) => lists_refused(alloc, reason),
     }
 }
 
-/// The reply to the bytes of a batch.
-pub(crate) fn reply_to_bytes(alloc: Global, bytes: &[u8]) -> Result<Reply, Memory>
-    ensures { IfOk result (λ r. AnswersBatch (items_of bytes.now) (answer_in r)) }
+/// The reply to items, with the parameters of a file if there is one.
+fn reply_with_params(
+    alloc: Global,
+    items: Run<Item>,
+    params: Option<&[u8]>,
+) -> Result<Reply, Memory>
+    requires { All IsItemInRange items.items }
+    ensures { IfOk result (λ r. AnswersParams items.items (option_map (λ bytes. bytes.now) params.entry) (answer_in r)) }
 {
-    match read_batch(alloc, bytes) {
-        Ok(items) => reply_to_items(alloc, items),
-        Err(BadText::Memory) => Err(Memory),
-        Err(_) => refuse(alloc, Status::BadInput, "bad input batch\n"),
+    match params {
+        None => reply_to_items(alloc, items, Params::usual()),
+        Some(bytes) => match read_params(alloc, bytes) {
+            Ok(params) => reply_to_items(alloc, items, params),
+            Err(reason) => text_refused(alloc, Role::Params, reason),
+        },
+    }
+}
+
+/// The reply to the bytes of a batch, and of a parameters file if there is one.
+pub(crate) fn reply_to_texts(
+    alloc: Global,
+    batch: &[u8],
+    params: Option<&[u8]>,
+) -> Result<Reply, Memory>
+    ensures { IfOk result (λ r. AnswersTexts batch.now (option_map (λ bytes. bytes.now) params.entry) (answer_in r)) }
+{
+    match read_batch(alloc, batch) {
+        Ok(items) => reply_with_params(alloc, items, params),
+        Err(reason) => text_refused(alloc, Role::Batch, reason),
     }
 }

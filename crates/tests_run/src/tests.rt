@@ -17,22 +17,29 @@ fn words(alloc: Global, line: &str) -> Result<Vec<String>, AllocError> {
     Ok(words)
 }
 
-/// Files that hold a batch of these rows under the name `batch`, and fail at the calls of a list.
-fn files_with(alloc: Global, header: &str, rows: &str, fails: &[u64]) -> Result<MemFiles, Memory> {
+/// Puts a text of a header and these rows under a name.
+fn put(files: &mut MemFiles, name: &str, header: &str, rows: &str) -> Result<(), Memory> {
+    let alloc = files.alloc;
     let text = format!(in alloc; "{header}{rows}")?;
-    let mut files = BTreeMap::new(alloc);
-    files.insert(
-        String::from_str(alloc, "batch")?,
+    files.files.insert(
+        String::from_str(alloc, name)?,
         Run::from(text.as_bytes().to_vec(alloc)?),
     )?;
-    Ok(MemFiles {
+    Ok(())
+}
+
+/// Files that hold a batch of these rows under the name `batch`, and fail at the calls of a list.
+fn files_with(alloc: Global, rows: &str, fails: &[u64]) -> Result<MemFiles, Memory> {
+    let mut files = MemFiles {
         alloc,
-        files,
+        files: BTreeMap::new(alloc),
         fails: Run::from(fails.to_vec(alloc)?),
         calls: 0,
         read_faults: [0; 7],
         write_faults: 0,
-    })
+    };
+    put(&mut files, "batch", HEADER, rows)?;
+    Ok(files)
 }
 
 fn sink_with(alloc: Global, fails: &[u64]) -> Result<MemSink, Memory> {
@@ -42,6 +49,18 @@ fn sink_with(alloc: Global, fails: &[u64]) -> Result<MemSink, Memory> {
         calls: 0,
         faults: 0,
     })
+}
+
+/// Runs a line over files and a sink in memory.
+fn run(
+    rt: &HostRuntime,
+    line: &str,
+    files: &mut MemFiles,
+    sink: &mut MemSink,
+) -> Result<Status, AllocError> {
+    let alloc = rt.alloc();
+    let words = words(alloc, line)?;
+    Ok(glass(rt, alloc, words.as_slice(), files, sink, &OpenGate))
 }
 
 #[test]
@@ -58,7 +77,7 @@ fn drafts_store_their_plan(rt: HostRuntime) -> Result<(), Fail> {
              0;4;300;0;5700;3210;-3;1;0\n",
         ),
         (
-            "0;50;50;0;1\n",
+            "0; 50.000 ;\t050;0;\"1\"\n",
             "loss 318500\nplates 1\n",
             "0;0;0;0;6000;3210;-2;0;\n\
              0;1;0;0;100;3210;-2;1;0\n\
@@ -92,17 +111,9 @@ fn drafts_store_their_plan(rt: HostRuntime) -> Result<(), Fail> {
              1;5;3000;0;3000;3210;-3;1;3\n",
         ),
     ] {
-        let words = words(alloc, "draft batch out")?;
-        let mut files = files_with(alloc, HEADER, rows, &[])?;
+        let mut files = files_with(alloc, rows, &[])?;
         let mut sink = sink_with(alloc, &[])?;
-        let status = glass(
-            &rt,
-            alloc,
-            words.as_slice(),
-            &mut files,
-            &mut sink,
-            &OpenGate,
-        );
+        let status = run(&rt, "draft batch out", &mut files, &mut sink)?;
         assert_eq!(rt; status, Status::Done, "{rows}");
         assert_eq!(rt; status.code(), 0);
         assert_eq!(rt; sink.bytes.as_slice(), printed.as_bytes(), "{rows}");
@@ -131,48 +142,71 @@ fn refusals_store_nothing(rt: HostRuntime) -> Result<(), Fail> {
             Status::NoDraft,
             "no draft 8\n",
         ),
-        ("draft batch out", "", Status::BadInput, "bad input batch\n"),
+        (
+            "draft batch out",
+            "",
+            Status::BadInput,
+            "bad input batch 4 0 0\n",
+        ),
         (
             "draft batch out",
             "0;500;300;0\n",
             Status::BadInput,
-            "bad input batch\n",
+            "bad input batch 10 2 4\n",
         ),
         (
             "draft batch out",
             "0;;300;0;1\n",
             Status::BadInput,
-            "bad input batch\n",
+            "bad input batch 11 2 2\n",
         ),
         (
             "draft batch out",
             "0;1000000000;300;0;1\n",
             Status::BadInput,
-            "bad input batch\n",
+            "bad input batch 11 2 2\n",
         ),
         (
             "draft batch out",
             "0;20001;300;0;1\n",
             Status::BadInput,
-            "bad input batch\n",
+            "bad input batch 12 2 2\n",
         ),
         (
             "draft batch out",
             "0;0;300;0;1\n",
             Status::BadInput,
-            "bad input batch\n",
+            "bad input batch 8 0 0\n",
         ),
         (
             "draft batch out",
             "5;500;300;0;1\n5;500;300;0;2\n",
             Status::BadInput,
-            "bad input batch\n",
+            "bad input batch 6 0 1\n",
         ),
         (
             "draft batch out",
             "5;500;300;0;1\n6;500;300;0;1\n",
             Status::BadInput,
-            "bad input batch\n",
+            "bad input batch 7 0 1\n",
+        ),
+        (
+            "draft batch out",
+            "0;500;300;0;1\n1;500;300;0\n",
+            Status::BadInput,
+            "bad input batch 10 3 4\n",
+        ),
+        (
+            "draft batch out",
+            "0;500.5;300;0;1\n",
+            Status::BadInput,
+            "bad input batch 11 2 2\n",
+        ),
+        (
+            "draft batch out",
+            "5;500;300;0;1\n6;500;300;0;1\n5;500;300;0;2\n",
+            Status::BadInput,
+            "bad input batch 6 0 2\n",
         ),
         (
             "draft other out",
@@ -187,20 +221,36 @@ fn refusals_store_nothing(rt: HostRuntime) -> Result<(), Fail> {
         ("draft batch --out", "", Status::Usage, "usage\n"),
         ("draft - out", "", Status::Usage, "usage\n"),
         ("draft batch out more", "", Status::Usage, "usage\n"),
+        ("draft batch out --params=", "", Status::Usage, "usage\n"),
+        ("draft batch out --params=-", "", Status::Usage, "usage\n"),
+        ("draft batch out --params=--p", "", Status::Usage, "usage\n"),
+        ("draft batch out --params=out", "", Status::Usage, "usage\n"),
+        (
+            "draft batch out --params=p --params=p",
+            "",
+            Status::Usage,
+            "usage\n",
+        ),
+        ("draft batch out --parms=p", "", Status::Usage, "usage\n"),
+        ("draft --params=p batch out", "", Status::Usage, "usage\n"),
+        (
+            "draft batch out --params=p",
+            "0;500;300;0;1\n",
+            Status::Absent,
+            "absent params\n",
+        ),
+        (
+            "draft batch out --params=p",
+            "",
+            Status::Absent,
+            "absent params\n",
+        ),
         ("--help", "", Status::Usage, "usage\n"),
         ("plan batch defects out cert", "", Status::Usage, "usage\n"),
     ] {
-        let words = words(alloc, line)?;
-        let mut files = files_with(alloc, HEADER, rows, &[])?;
+        let mut files = files_with(alloc, rows, &[])?;
         let mut sink = sink_with(alloc, &[])?;
-        let got = glass(
-            &rt,
-            alloc,
-            words.as_slice(),
-            &mut files,
-            &mut sink,
-            &OpenGate,
-        );
+        let got = run(&rt, line, &mut files, &mut sink)?;
         assert_eq!(rt; got, status, "{line} {rows}");
         assert_eq!(rt; sink.bytes.as_slice(), printed.as_bytes(), "{line} {rows}");
         assert_eq!(rt; files.files.len(), 1, "{line} {rows}");
@@ -212,21 +262,13 @@ fn refusals_store_nothing(rt: HostRuntime) -> Result<(), Fail> {
 fn a_long_file_is_refused(rt: HostRuntime) -> Result<(), Fail> {
     let alloc = rt.alloc();
     for (length, status) in [(4_194_304, Status::BadInput), (4_194_305, Status::TooLong)] {
-        let words = words(alloc, "draft batch out")?;
-        let mut files = files_with(alloc, HEADER, "", &[])?;
+        let mut files = files_with(alloc, "", &[])?;
         let blank_lines = vec![in alloc; b'\n'; length]?;
         files
             .files
             .insert(String::from_str(alloc, "batch")?, Run::from(blank_lines))?;
         let mut sink = sink_with(alloc, &[])?;
-        let got = glass(
-            &rt,
-            alloc,
-            words.as_slice(),
-            &mut files,
-            &mut sink,
-            &OpenGate,
-        );
+        let got = run(&rt, "draft batch out", &mut files, &mut sink)?;
         assert_eq!(rt; got, status);
     }
     Ok(())
@@ -245,21 +287,116 @@ fn faults_are_told_by_their_cause(rt: HostRuntime) -> Result<(), Fail> {
         (first, first, Status::WriteFault, "read fau", 0),
         (&[2], &[1], Status::Done, "loss 813000\nplates 1\n", 173),
     ] {
-        let words = words(alloc, "draft batch out")?;
-        let mut files = files_with(alloc, HEADER, "0;500;300;0;1\n", file_fails)?;
+        let mut files = files_with(alloc, "0;500;300;0;1\n", file_fails)?;
         let mut sink = sink_with(alloc, sink_fails)?;
-        let got = glass(
-            &rt,
-            alloc,
-            words.as_slice(),
-            &mut files,
-            &mut sink,
-            &OpenGate,
-        );
+        let got = run(&rt, "draft batch out", &mut files, &mut sink)?;
         assert_eq!(rt; got, status);
         assert_eq!(rt; sink.bytes.as_slice(), printed.as_bytes());
         let kept = files.files.get("out").map_or(0, |text| text.len());
         assert_eq!(rt; kept, stored);
+    }
+    Ok(())
+}
+
+#[test]
+fn too_many_items_are_refused(rt: HostRuntime) -> Result<(), Fail> {
+    let alloc = rt.alloc();
+    let mut rows = String::new(alloc);
+    for number in 0..801 {
+        let row = format!(in alloc; "{number};500;300;0;{number}\n")?;
+        rows.push_str(row.as_str())?;
+    }
+    let mut files = files_with(alloc, rows.as_str(), &[])?;
+    let mut sink = sink_with(alloc, &[])?;
+    let got = run(&rt, "draft batch out", &mut files, &mut sink)?;
+    assert_eq!(rt; got, Status::BadInput);
+    assert_eq!(rt;
+        sink.bytes.as_slice(),
+        b"bad input batch 5 801 800\n".as_slice()
+    );
+    Ok(())
+}
+
+#[test]
+fn parameters_are_those_of_their_file(rt: HostRuntime) -> Result<(), Fail> {
+    let alloc = rt.alloc();
+    let none: &[u64] = &[];
+    let second: &[u64] = &[1];
+    for (rows, fails, status, printed) in [
+        (
+            "min1Cut;50\nmin2Cut;50\n",
+            none,
+            Status::Done,
+            "loss 158000\nplates 1\n",
+        ),
+        (
+            "min1Cut;50\nmin2Cut;50\nminWaste;60\n",
+            none,
+            Status::BadInput,
+            "bad input params 2 60 50\n",
+        ),
+        (
+            "nPlates;0\n",
+            none,
+            Status::BadInput,
+            "bad input params 1 0 0\n",
+        ),
+        (
+            "heightPlates;20001\n",
+            none,
+            Status::BadInput,
+            "bad input params 3 20001 20000\n",
+        ),
+        (
+            "colour;red\n",
+            none,
+            Status::Done,
+            "loss 318500\nplates 1\n",
+        ),
+        ("", none, Status::Done, "loss 318500\nplates 1\n"),
+        (
+            "min1Cut;60\n min1Cut\t;\"50.0\"\nmin2Cut;050\n",
+            none,
+            Status::Done,
+            "loss 158000\nplates 1\n",
+        ),
+        (
+            "colour;red;green\n",
+            none,
+            Status::BadInput,
+            "bad input params 10 2 3\n",
+        ),
+        (
+            "nPlates;red\n",
+            none,
+            Status::BadInput,
+            "bad input params 11 2 2\n",
+        ),
+        (
+            "nPlates;1,5\n",
+            none,
+            Status::BadInput,
+            "bad input params 11 2 2\n",
+        ),
+        (
+            "nPlates;999999999\n",
+            none,
+            Status::BadInput,
+            "bad input params 3 999999999 1000\n",
+        ),
+        ("", second, Status::ReadFault, "read fault params\n"),
+    ] {
+        let mut files = files_with(alloc, "0;50;50;0;1\n", fails)?;
+        put(&mut files, "params", "name;value\n", rows)?;
+        let mut sink = sink_with(alloc, &[])?;
+        let got = run(
+            &rt,
+            "draft batch out --params=params",
+            &mut files,
+            &mut sink,
+        )?;
+        assert_eq!(rt; got, status, "{rows}");
+        assert_eq!(rt; sink.bytes.as_slice(), printed.as_bytes(), "{rows}");
     }
     Ok(())
 }

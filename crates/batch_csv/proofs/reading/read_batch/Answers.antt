@@ -1,15 +1,16 @@
 use Rattle.std.proofs.Common.{◌≡◌, ◌+◌, ◌∙◌, length, sym, arith}
 use Rattle.std.proofs.lemmas.List.Elements.{All-push}
 use Rattle.csv.specs.Records.{fields_of}
+use Rattle.batch_csv.specs.Batches.{item_at}
 use Rattle.glass_base.specs.Items.{IsItemInRange}
-use Rattle.batch_csv.proofs.Items.{with_front-more}
+use Rattle.csv_table.proofs.Tables.{with_front-more}
 use Rattle.batch_csv.proofs.reading.read_batch.Goals as goal
 
 pub rows-preserved : goal.rows-preserved
 rows-preserved c =
     let items = c.in_ok-append.ensures.ok in
     let rest = rw c.in-Some.is at c.in_ok-fields.ensures in
-    let more = with_front-more c.rows.items.items (c.rows.row + 1) (fields_of c.in-Some.fields) c.next_row-in-rows.new.self c.in_ok-item_of.field-0 (sym c.item_of.ensures.value ∙ c.in_ok-item_of.was) in
+    let more = with_front-more item_at c.rows.items.items (c.rows.row + 1) (fields_of c.in-Some.fields) c.next_row-in-rows.new.self c.in_ok-item_of.field-0 (sym c.item_of.ensures.value ∙ c.in_ok-item_of.was) in
     let size : length c.rows.rows ≡ length c.next_row-in-rows.new.self + 1 = rw rest (omega arith) in
     record {
       same = rw items more ∙ rw rest at c.rows.invariant.same;

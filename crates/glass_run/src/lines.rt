@@ -1,0 +1,74 @@
+//! The lines that a run prints.
+
+ghost use Rattle.std.specs.Prelude.{◌≡◌, IfOk};
+ghost use Rattle.std.specs.String.{string_bytes};
+ghost use Rattle.glass_run.specs.Answers.{absent_line as absent_line_of, bad_input_line as bad_input_line_of, no_draft_line as no_draft_line_of, role_word as role_word_of, summary, too_long_line as too_long_line_of};
+ghost use Rattle.glass_run.specs.Runs.{read_fault_line as read_fault_line_of};
+
+use glass_base::{Memory, Role};
+use std::alloc::Global;
+
+/// The word by which a line names a file.
+fn role_word(role: Role) -> &'static str
+    ensures { result.now ≡ role_word_of role }
+{
+    match role {
+        Role::Batch => "batch",
+        Role::Defects => "defects",
+        Role::Params => "params",
+        Role::Plan => "plan",
+        Role::Cert => "cert",
+    }
+}
+
+/// The line for a file that cannot be read.
+pub(crate) fn read_fault_line(alloc: Global, role: Role) -> Result<String, Memory>
+    ensures { IfOk result (λ line. string_bytes line ≡ read_fault_line_of role) }
+{
+    let word = role_word(role);
+    Ok(format!(in alloc; "read fault {word}\n")?)
+}
+
+/// The line for a file that is not there.
+pub(crate) fn absent_line(alloc: Global, role: Role) -> Result<String, Memory>
+    ensures { IfOk result (λ line. string_bytes line ≡ absent_line_of role) }
+{
+    let word = role_word(role);
+    Ok(format!(in alloc; "absent {word}\n")?)
+}
+
+/// The line for a file that is longer than its limit.
+pub(crate) fn too_long_line(alloc: Global, role: Role) -> Result<String, Memory>
+    ensures { IfOk result (λ line. string_bytes line ≡ too_long_line_of role) }
+{
+    let word = role_word(role);
+    Ok(format!(in alloc; "too long {word}\n")?)
+}
+
+/// The line for a refusal, with its number and its two values.
+pub(crate) fn bad_input_line(
+    alloc: Global,
+    role: Role,
+    number: u32,
+    first: u64,
+    second: u64,
+) -> Result<String, Memory>
+    ensures { IfOk result (λ line. string_bytes line ≡ bad_input_line_of role number first second) }
+{
+    let word = role_word(role);
+    Ok(format!(in alloc; "bad input {word} {number} {first} {second}\n")?)
+}
+
+/// The line that names an item without a place.
+pub(crate) fn no_draft_line(alloc: Global, number: u32) -> Result<String, Memory>
+    ensures { IfOk result (λ line. string_bytes line ≡ no_draft_line_of number) }
+{
+    Ok(format!(in alloc; "no draft {number}\n")?)
+}
+
+/// The lines that tell of a plan.
+pub(crate) fn summary_lines(alloc: Global, loss: u64, plates: u64) -> Result<String, Memory>
+    ensures { IfOk result (λ lines. string_bytes lines ≡ summary loss plates) }
+{
+    Ok(format!(in alloc; "loss {loss}\nplates {plates}\n")?)
+}

@@ -1,0 +1,2 @@
+pub mod DefectRows
+pub mod Settings

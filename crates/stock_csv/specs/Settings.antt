@@ -1,0 +1,94 @@
+-- The parameters that a parameters file says, or its first refusal.
+use Rattle.std.specs.Prelude.{◌≡◌, ◌==◌, ℕ, List, length, if◌then◌else◌, codes, fold, Option, Some, None, Result, Ok, Err}
+use Rattle.std.specs.Str.{bytes_eq}
+use Rattle.csv.specs.Records.{field_at}
+use Rattle.glass_base.specs.BadParams.{HasSizes, Refuses}
+use Rattle.glass_base.specs.declared.bad_text.BadText.{BadText}
+use Rattle.glass_base.specs.declared.bad_text.BadText.TheVariants as bad
+use Rattle.glass_base.specs.declared.params.Params.{Params}
+use Rattle.glass_base.specs.declared.params.BadParams.{BadParams}
+use Rattle.csv_table.specs.Numbers.{trimmed}
+use Rattle.csv_table.specs.Readings.{◌>>=◌, Fails, table, whole_in}
+use Rattle.stock_csv.specs.declared.parameters.Name.{Name}
+use Rattle.stock_csv.specs.declared.parameters.Name.TheVariants.{Plates, Width, Height, Min1, Max1, Min2, Waste}
+use Rattle.stock_csv.specs.declared.parameters.Setting.{Setting}
+use Rattle.stock_csv.specs.declared.parameters.Sizes.{Sizes}
+
+-- the parameter of this name, which is compared byte by byte
+abbrev pub parameter_named : List ℕ → Option Name
+parameter_named name =
+    if bytes_eq name (codes "nPlates") then Some Plates
+    else if bytes_eq name (codes "widthPlates") then Some Width
+    else if bytes_eq name (codes "heightPlates") then Some Height
+    else if bytes_eq name (codes "min1Cut") then Some Min1
+    else if bytes_eq name (codes "max1Cut") then Some Max1
+    else if bytes_eq name (codes "min2Cut") then Some Min2
+    else if bytes_eq name (codes "minWaste") then Some Waste
+    else None
+
+-- the parameter that a field names, between blanks
+abbrev pub parameter_in : Option (List ℕ) → Option Name
+parameter_in None = None
+parameter_in (Some field) = parameter_named (trimmed field)
+
+-- a row of another name is ignored with its value
+abbrev pub setting : ℕ → Option Name → Option (List ℕ) → Result (Option Setting) BadText
+setting row None value = Ok None
+setting row (Some name) value = whole_in row 2 999999999 value >>= λ n. Ok (Some (record { name = name; value = n }))
+
+-- what a row sets, if anything: a name and its value
+unfoldable pub setting_at : ℕ → List (List ℕ) → Result (Option Setting) BadText
+setting_at row fields =
+    if length fields == 2 then setting row (parameter_in (field_at fields 0)) (field_at fields 1) else Err (bad.Record row (length fields))
+
+-- the challenge's parameters
+abbrev pub usual_sizes : Sizes
+usual_sizes = record { plates = 100; width = 6000; height = 3210; min1 = 100; max1 = 3500; min2 = 100; waste = 20 }
+
+-- the sizes with this one set
+abbrev pub set_to : Sizes → Name → ℕ → Sizes
+set_to s Plates n = record s { plates = n }
+set_to s Width n = record s { width = n }
+set_to s Height n = record s { height = n }
+set_to s Min1 n = record s { min1 = n }
+set_to s Max1 n = record s { max1 = n }
+set_to s Min2 n = record s { min2 = n }
+set_to s Waste n = record s { waste = n }
+
+abbrev pub set_by : Sizes → Option Setting → Sizes
+set_by s None = s
+set_by s (Some x) = set_to s x.name x.value
+
+-- the usual sizes with those that are set: of a repeated name the last row counts
+abbrev pub sizes_of : List (Option Setting) → Sizes
+sizes_of settings = fold set_by usual_sizes settings
+
+abbrev pub settings_of : List ℕ → Result (List (Option Setting)) BadText
+settings_of bytes = table setting_at bytes
+
+abbrev pub AreSizes : Params → Sizes → Type 0
+AreSizes p s = HasSizes p s.plates s.width s.height s.min1 s.max1 s.min2 s.waste
+
+abbrev pub RefusesSizes : BadParams → Sizes → Type 0
+RefusesSizes reason s = Refuses reason s.plates s.width s.height s.min1 s.max1 s.min2 s.waste
+
+-- a reader refused the text for its first reason, or the sizes that it says for the first rule that they break, or memory ran out
+abbrev pub RefusesSettings : BadText → Result (List (Option Setting)) BadText → Type 0
+RefusesSettings e (Err said) = Fails {Y = List (Option Setting)} e (Err said)
+RefusesSettings bad.Memory (Ok settings) = Unit {0}
+RefusesSettings (bad.Params reason) (Ok settings) = RefusesSizes reason (sizes_of settings)
+RefusesSettings (bad.Record row fields) (Ok settings) = ⊥
+RefusesSettings (bad.Number row column) (Ok settings) = ⊥
+RefusesSettings (bad.Range row column) (Ok settings) = ⊥
+RefusesSettings (bad.EmptyDefect row) (Ok settings) = ⊥
+
+-- the parameters that settings make
+abbrev pub ReadAs : Params → Result (List (Option Setting)) BadText → Type 0
+ReadAs p (Ok settings) = AreSizes p (sizes_of settings)
+ReadAs p (Err e) = ⊥
+
+-- the sizes that settings make, or the refusal of their text, or memory ran out
+abbrev pub Reads : Result Sizes BadText → Result (List (Option Setting)) BadText → Type 0
+Reads (Ok sizes) (Ok settings) = sizes ≡ sizes_of settings
+Reads (Ok sizes) (Err e) = ⊥
+Reads (Err e) said = Fails e said

@@ -1,0 +1,57 @@
+//! The defects that a defects file says.
+
+ghost use Rattle.std.specs.Prelude.{◌≡◌, All, IfOk};
+ghost use Rattle.csv.specs.Records.{fields_of};
+ghost use Rattle.glass_base.specs.Items.{IsDefectInRange};
+ghost use Rattle.csv_table.specs.Readings.{Gives};
+ghost use Rattle.stock_csv.specs.DefectRows.{defect_at, defects_of};
+
+use crate::widening::widened;
+use csv::ByteRecord;
+use csv_table::{Rows, measure_at, whole_at};
+use glass_base::{BadText, Defect, Run, append};
+use std::alloc::Global;
+
+/// The greatest number of a defect or a plate.
+const NUMBER_LIMIT: u32 = 999_999_999;
+
+/// The greatest corner or side of a defect, in mm.
+const LENGTH_LIMIT: u32 = 20_000;
+
+/// The defect of a row.
+#[tactic(auto, unfolding(crate::specs::DefectRows::defect_at))]
+fn defect_of(row: u64, fields: &ByteRecord) -> Result<Defect, BadText>
+    ensures value { result ≡ defect_at row (fields_of fields.now) }
+    ensures range { IfOk result IsDefectInRange }
+{
+    if fields.len() != 6 {
+        return Err(BadText::Record(row, fields.len() as u64));
+    }
+    let _number = whole_at(row, 1, NUMBER_LIMIT, fields)?;
+    let plate = whole_at(row, 2, NUMBER_LIMIT, fields)?;
+    let x = measure_at(row, 3, LENGTH_LIMIT, fields)?;
+    let y = measure_at(row, 4, LENGTH_LIMIT, fields)?;
+    let width = measure_at(row, 5, LENGTH_LIMIT, fields)?;
+    let height = measure_at(row, 6, LENGTH_LIMIT, fields)?;
+    widened(row, plate, x, y, width, height)
+}
+
+/// The defects of a defects file in the order of its rows, or the first refusal.
+///
+/// The first row is the header and is skipped, whatever it says. Every other row has the six fields DEFECT_ID, PLATE_ID, X, Y,
+/// WIDTH and HEIGHT; the last four are 0 to 20,000 mm and may have decimals. A defect is widened to whole millimetres on all
+/// four sides. `EmptyDefect` comes where its width or height is 0 as it is written.
+pub fn read_defects(alloc: Global, bytes: &[u8]) -> Result<Run<Defect>, BadText>
+    ensures defects { Gives (λ run. run.items) result (defects_of bytes.now) }
+    ensures ranges { IfOk result (λ run. All IsDefectInRange run.items) }
+{
+    let mut rows = Rows::new(alloc, bytes);
+    let mut defects = Run::new(alloc);
+    let mut row = 1u64;
+    rows.next_row()?;
+    'rows: while let Some(fields) = rows.next_row()? {
+        row += 1;
+        append(&mut defects, defect_of(row, &fields)?)?;
+    }
+    Ok(defects)
+}

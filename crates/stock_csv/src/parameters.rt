@@ -1,0 +1,212 @@
+//! The parameters that a parameters file says.
+
+ghost use Rattle.std.specs.Prelude.{◌≡◌, IfOk, IfErr};
+ghost use Rattle.std.specs.Str.{bytes_eq};
+ghost use Rattle.csv.specs.Records.{field_at, fields_of};
+ghost use Rattle.stock_csv.specs.Settings.{AreSizes, ReadAs, Reads, RefusesSettings, RefusesSizes, parameter_in, parameter_named, set_by, set_to, setting_at, settings_of, usual_sizes};
+
+use csv::ByteRecord;
+use csv_table::{Rows, trim, whole_at};
+use glass_base::{BadParams, BadText, Params};
+use std::alloc::Global;
+
+/// The greatest value of a parameter.
+const VALUE_LIMIT: u32 = 999_999_999;
+
+/// A parameter.
+#[derive(Clone, Copy, Debug, PartialEq, Eq)]
+pub enum Name {
+    Plates,
+    Width,
+    Height,
+    Min1,
+    Max1,
+    Min2,
+    Waste,
+}
+
+/// A parameter and its value.
+#[derive(Clone, Copy, Debug)]
+pub struct Setting {
+    pub name: Name,
+    pub value: u32,
+}
+
+/// Parameters that are not yet checked: the number of plates, and sizes in mm.
+#[derive(Clone, Copy, Debug)]
+pub struct Sizes {
+    pub plates: u32,
+    pub width: u32,
+    pub height: u32,
+    pub min1: u32,
+    pub max1: u32,
+    pub min2: u32,
+    pub waste: u32,
+}
+
+impl Sizes {
+    /// The challenge's parameters.
+    fn usual() -> Sizes
+        ensures { result ≡ usual_sizes }
+    {
+        Sizes {
+            plates: 100,
+            width: 6000,
+            height: 3210,
+            min1: 100,
+            max1: 3500,
+            min2: 100,
+            waste: 20,
+        }
+    }
+
+    /// These sizes with one of them set.
+    fn with(self, name: Name, value: u32) -> Sizes
+        ensures { result ≡ set_to self name value }
+    {
+        match name {
+            Name::Plates => Sizes {
+                plates: value,
+                ..self
+            },
+            Name::Width => Sizes {
+                width: value,
+                ..self
+            },
+            Name::Height => Sizes {
+                height: value,
+                ..self
+            },
+            Name::Min1 => Sizes {
+                min1: value,
+                ..self
+            },
+            Name::Max1 => Sizes {
+                max1: value,
+                ..self
+            },
+            Name::Min2 => Sizes {
+                min2: value,
+                ..self
+            },
+            Name::Waste => Sizes {
+                waste: value,
+                ..self
+            },
+        }
+    }
+
+    /// These sizes with what a row sets.
+    fn set(self, setting: Option<Setting>) -> Sizes
+        ensures { result ≡ set_by self setting }
+    {
+        match setting {
+            None => self,
+            Some(setting) => self.with(setting.name, setting.value),
+        }
+    }
+
+    /// The parameters of these sizes.
+    fn check(self) -> Result<Params, BadParams>
+        ensures made { IfOk result (λ p. AreSizes p self) }
+        ensures refused { IfErr result (λ e. RefusesSizes e self) }
+    {
+        Params::check(
+            self.plates,
+            self.width,
+            self.height,
+            self.min1,
+            self.max1,
+            self.min2,
+            self.waste,
+        )
+    }
+}
+
+/// Whether these bytes are this word.
+fn is(name: &[u8], word: &str) -> bool
+    ensures { result ≡ bytes_eq name.now word.now }
+{
+    name == word.as_bytes()
+}
+
+/// The parameter of this name.
+fn parameter_of(name: &[u8]) -> Option<Name>
+    ensures { result ≡ parameter_named name.now }
+{
+    if is(name, "nPlates") {
+        Some(Name::Plates)
+    } else if is(name, "widthPlates") {
+        Some(Name::Width)
+    } else if is(name, "heightPlates") {
+        Some(Name::Height)
+    } else if is(name, "min1Cut") {
+        Some(Name::Min1)
+    } else if is(name, "max1Cut") {
+        Some(Name::Max1)
+    } else if is(name, "min2Cut") {
+        Some(Name::Min2)
+    } else if is(name, "minWaste") {
+        Some(Name::Waste)
+    } else {
+        None
+    }
+}
+
+/// The parameter that the first field of a row names.
+fn parameter_at(fields: &ByteRecord) -> Option<Name>
+    ensures { result ≡ parameter_in (field_at (fields_of fields.now) 0) }
+{
+    match fields.get(0) {
+        None => None,
+        Some(field) => parameter_of(trim(field)),
+    }
+}
+
+/// What a row sets, if anything.
+#[tactic(auto, unfolding(crate::specs::Settings::setting_at))]
+fn setting_of(row: u64, fields: &ByteRecord) -> Result<Option<Setting>, BadText>
+    ensures { result ≡ setting_at row (fields_of fields.now) }
+{
+    if fields.len() != 2 {
+        return Err(BadText::Record(row, fields.len() as u64));
+    }
+    match parameter_at(fields) {
+        None => Ok(None),
+        Some(name) => {
+            let value = whole_at(row, 2, VALUE_LIMIT, fields)?;
+            Ok(Some(Setting { name, value }))
+        }
+    }
+}
+
+/// The usual sizes with those that a file sets, or its first refusal.
+fn read_sizes(alloc: Global, bytes: &[u8]) -> Result<Sizes, BadText>
+    ensures { Reads result (settings_of bytes.now) }
+{
+    let mut rows = Rows::new(alloc, bytes);
+    let mut sizes = Sizes::usual();
+    let mut row = 1u64;
+    rows.next_row()?;
+    'rows: while let Some(fields) = rows.next_row()? {
+        row += 1;
+        sizes = sizes.set(setting_of(row, &fields)?);
+    }
+    Ok(sizes)
+}
+
+/// The parameters of a parameters file, or the first refusal.
+///
+/// The first row is the header and is skipped, whatever it says. Every other row has two fields, a name and a value. The names are
+/// `nPlates`, `widthPlates`, `heightPlates`, `min1Cut`, `max1Cut`, `min2Cut` and `minWaste`; the value of one of these is a whole
+/// number up to 999,999,999. A row of another name is ignored with its value. A parameter without a row is the challenge's, and of
+/// a repeated name the last row counts. `Params` comes where `Params::check` refuses what was read.
+pub fn read_params(alloc: Global, bytes: &[u8]) -> Result<Params, BadText>
+    ensures params { IfOk result (λ p. ReadAs p (settings_of bytes.now)) }
+    ensures refused { IfErr result (λ e. RefusesSettings e (settings_of bytes.now)) }
+{
+    match read_sizes(alloc, bytes)?.check() {
+        Ok(params) => Ok(params),
+        Err(reason) => Err(BadText::Params(reason)),
+    }
+}

@@ -1,0 +1,61 @@
+//! Defects widened to whole millimetres.
+
+ghost use Rattle.std.specs.Prelude.{◌≡◌, ◌==◌, ◌+◌, IfOk};
+ghost use Rattle.csv_table.specs.Numbers.{IsAtMost, millionths_in};
+ghost use Rattle.glass_base.specs.Items.{IsDefectInRange};
+ghost use Rattle.stock_csv.specs.DefectRows.{down, up, widened as widened_of};
+
+use csv_table::Decimal;
+use glass_base::{BadText, Defect};
+
+/// The greatest whole number that is not above a number.
+fn floor(number: Decimal) -> u32
+    requires { IsAtMost 20000 number }
+    ensures { result ≡ down (millionths_in number) }
+{
+    number.whole
+}
+
+/// The least whole number that is not below the sum of two numbers.
+fn ceiling_of_sum(corner: Decimal, side: Decimal) -> u32
+    requires corner { IsAtMost 20000 corner }
+    requires side { IsAtMost 20000 side }
+    ensures { result ≡ up (millionths_in corner + millionths_in side) }
+{
+    corner.whole + side.whole + (corner.millionths + side.millionths).div_ceil(1_000_000)
+}
+
+/// Whether a number is 0.
+fn is_zero(number: Decimal) -> bool
+    ensures { result ≡ (millionths_in number == 0) }
+{
+    number.whole == 0 && number.millionths == 0
+}
+
+/// The least defect with whole sides in mm that covers the written one. `EmptyDefect` comes where a side is 0.
+pub(crate) fn widened(
+    row: u64,
+    plate: u32,
+    x: Decimal,
+    y: Decimal,
+    width: Decimal,
+    height: Decimal,
+) -> Result<Defect, BadText>
+    requires x { IsAtMost 20000 x }
+    requires y { IsAtMost 20000 y }
+    requires width { IsAtMost 20000 width }
+    requires height { IsAtMost 20000 height }
+    ensures value { result ≡ widened_of row plate (millionths_in x) (millionths_in y) (millionths_in width) (millionths_in height) }
+    ensures range { IfOk result IsDefectInRange }
+{
+    if is_zero(width) || is_zero(height) {
+        return Err(BadText::EmptyDefect(row));
+    }
+    Ok(Defect {
+        plate,
+        x0: floor(x),
+        y0: floor(y),
+        x1: ceiling_of_sum(x, width),
+        y1: ceiling_of_sum(y, height),
+    })
+}

@@ -1,0 +1,5 @@
+//! Tests of lists, parameters and instances.
+#![tactic(auto)]
+
+#[cfg(test)]
+mod tests;
