@@ -1,10 +1,11 @@
 ghost use Rattle.std.specs.Prelude.{◌≡◌, [], ◌∷◌, IfOk, All};
-ghost use Rattle.glass_base.specs.Items.{IsItemInRange};
+ghost use Rattle.glass_base.specs.Items.{IsDefectInRange, IsItemInRange};
 
 use cut_model::{
     Body1, Body2, Body3, Body4, Leaf4, Piece1, Piece2, Piece3, Plan, Plate, fits, plates_used, rows,
 };
-use glass_base::{Instance, Item, Memory, Params, Run, append};
+use defect_map::DefectMap;
+use glass_base::{Defect, Instance, Item, Memory, Params, Run, append};
 use loss_area::loss;
 use plan_csv::write_plan;
 use std::alloc::Global;
@@ -76,8 +77,10 @@ const SMALL_TEXT: &str = "PLATE_ID;NODE_ID;X;Y;WIDTH;HEIGHT;TYPE;CUT;PARENT\n\
     0;7;0;100;100;3110;-1;2;1\n\
     0;8;100;0;5900;3210;-3;1;0\n";
 
-/// The instance of one item of 50 by 50.
-fn small_instance(alloc: Global) -> Result<Instance, Fail> {
+/// The instance of one item of 50 by 50, with these defects.
+fn small_instance(alloc: Global, defects: Run<Defect>) -> Result<Instance, Fail>
+    requires { All IsDefectInRange defects.items }
+{
     let item = Item {
         id: 0,
         length: 50,
@@ -85,12 +88,12 @@ fn small_instance(alloc: Global) -> Result<Instance, Fail> {
         stack: 0,
         sequence: 1,
     };
-    Ok(Instance::new(alloc, Params::usual(), one(alloc, item)?, Run::new(alloc))?)
+    Ok(Instance::new(alloc, Params::usual(), one(alloc, item)?, defects)?)
 }
 
 #[test]
 fn a_plan_has_its_rows_its_loss_and_its_text(rt: HostRuntime) -> Result<(), Fail> {
-    let instance = small_instance(rt.alloc())?;
+    let instance = small_instance(rt.alloc(), Run::new(rt.alloc()))?;
     let plan = small_plan(rt.alloc())?;
     assert!(rt; fits(&plan));
     let rows = rows(rt.alloc(), instance.params(), &plan)?;
@@ -147,5 +150,33 @@ fn a_plan_out_of_range_does_not_fit(rt: HostRuntime) -> Result<(), Fail> {
         plates: one(rt.alloc(), Plate { pieces })?,
     };
     assert!(rt; !fits(&plan));
+    Ok(())
+}
+
+#[test]
+fn defects_stand_in_the_way(rt: HostRuntime) -> Result<(), Fail> {
+    let defect = Defect {
+        plate: 0,
+        x0: 60,
+        y0: 95,
+        x1: 70,
+        y1: 105,
+    };
+    let instance = small_instance(rt.alloc(), one(rt.alloc(), defect)?)?;
+    let map = DefectMap::new(rt.alloc(), &instance)?;
+    assert!(rt; map.hits(0, 50, 90, 61, 96));
+    assert!(rt; !map.hits(0, 50, 90, 60, 96));
+    assert!(rt; !map.hits(1, 50, 90, 61, 96));
+    assert!(rt; map.crosses_x(0, 65, 104, 200));
+    assert!(rt; !map.crosses_x(0, 65, 105, 200));
+    assert!(rt; !map.crosses_x(0, 60, 0, 3210));
+    assert!(rt; map.crosses_y(0, 100, 0, 100));
+    assert!(rt; !map.crosses_y(0, 95, 0, 100));
+    assert!(rt; map.hits_all(0, (10, 65), 60, (50, 100), 50));
+    assert!(rt; !map.hits_all(0, (10, 70), 60, (50, 100), 50));
+    assert!(rt; map.crosses_x_all(0, (61, 69), 0, 3210));
+    assert!(rt; !map.crosses_x_all(0, (60, 69), 0, 3210));
+    assert!(rt; map.crosses_y_all(0, (96, 104), 0, 6000));
+    assert!(rt; !map.crosses_y_all(0, (96, 105), 0, 6000));
     Ok(())
 }

@@ -77,6 +77,15 @@ fn drafts_store_their_plan(rt: HostRuntime) -> Result<(), Fail> {
              0;4;300;0;5700;3210;-3;1;0\n",
         ),
         (
+            "0; 500.000 ;300;0;1\n",
+            "loss 813000\nplates 1\n",
+            "0;0;0;0;6000;3210;-2;0;\n\
+             0;1;0;0;300;3210;-2;1;0\n\
+             0;2;0;0;300;500;0;2;1\n\
+             0;3;0;500;300;2710;-1;2;1\n\
+             0;4;300;0;5700;3210;-3;1;0\n",
+        ),
+        (
             "0; 50.000 ;\t050;0;\"1\"\n",
             "loss 318500\nplates 1\n",
             "0;0;0;0;6000;3210;-2;0;\n\
@@ -261,7 +270,10 @@ fn refusals_store_nothing(rt: HostRuntime) -> Result<(), Fail> {
 #[test]
 fn a_long_file_is_refused(rt: HostRuntime) -> Result<(), Fail> {
     let alloc = rt.alloc();
-    for (length, status) in [(4_194_304, Status::BadInput), (4_194_305, Status::TooLong)] {
+    for (length, status, printed) in [
+        (4_194_304, Status::BadInput, "bad input batch 4 0 0\n"),
+        (4_194_305, Status::TooLong, "too long batch\n"),
+    ] {
         let mut files = files_with(alloc, "", &[])?;
         let blank_lines = vec![in alloc; b'\n'; length]?;
         files
@@ -270,6 +282,7 @@ fn a_long_file_is_refused(rt: HostRuntime) -> Result<(), Fail> {
         let mut sink = sink_with(alloc, &[])?;
         let got = run(&rt, "draft batch out", &mut files, &mut sink)?;
         assert_eq!(rt; got, status);
+        assert_eq!(rt; sink.bytes.as_slice(), printed.as_bytes());
     }
     Ok(())
 }

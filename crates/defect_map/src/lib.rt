@@ -1,0 +1,6 @@
+//! Queries on the defects of the plates.
+#![tactic(auto)]
+
+pub mod map;
+
+pub use map::DefectMap;

@@ -1,0 +1,100 @@
+//! The defects of an instance, and what they stand in the way of.
+
+ghost use Rattle.std.specs.Prelude.{List};
+ghost use Rattle.glass_base.specs.declared.item.Defect.{Defect as GlassDefect};
+
+use glass_base::{Defect, Instance, Memory, Run};
+use std::alloc::Global;
+use std::marker::Model;
+
+/// The defects of an instance. A query asks whether some defect of a plate stands in the way; touching a defect's border is
+/// allowed. All lengths are in mm.
+#[derive(Drop)]
+pub struct DefectMap {
+    defects: Run<Defect>,
+}
+
+impl Model for DefectMap {
+    ghost Value = { List GlassDefect };
+
+    ghost view = { λ m. m.defects.items };
+
+    ghost invariant = { λ _. Unit {0} };
+}
+
+impl DefectMap {
+    ghost use Rattle.std.specs.Prelude.{◌≡◌, ◌+◌, ◌^◌, ◌<◌, IfOk};
+    ghost use Rattle.std.specs.List.{list_any};
+    ghost use Rattle.glass_base.specs.Defects.{crosses_x as crosses_x_at, crosses_y as crosses_y_at, hits as hits_at};
+    ghost use Rattle.defect_map.specs.Queries.{crosses_x_all as crosses_x_everywhere, crosses_y_all as crosses_y_everywhere, hits_all as hits_everywhere};
+
+    /// The defects of this instance.
+    pub fn new(alloc: Global, instance: &Instance) -> Result<DefectMap, Memory>
+        ensures { IfOk result (λ m. m ≡ instance.now.defects) }
+    {
+        let mut defects = Run::new(alloc);
+        defects.extend_from_slice(instance.defects())?;
+        Ok(DefectMap { defects })
+    }
+
+    /// Whether the inside of some defect of the plate meets the inside of the rectangle from (x0, y0) to (x1, y1).
+    pub fn hits(&self, plate: u32, x0: u32, y0: u32, x1: u32, y1: u32) -> bool
+        requires wide { x0 < x1 }
+        requires high { y0 < y1 }
+        ensures { result ≡ list_any (hits_at plate x0 y0 x1 y1) self.now }
+    {
+        self.defects.as_slice().iter().any(|d| {
+            d.plate == plate && d.x0 < x1 && x0 < d.x1 && d.y0 < y1 && y0 < d.y1
+        })
+    }
+
+    /// Whether the upright line at x from y0 to y1 runs through the inside of some defect of the plate.
+    pub fn crosses_x(&self, plate: u32, x: u32, y0: u32, y1: u32) -> bool
+        requires { y0 < y1 }
+        ensures { result ≡ list_any (crosses_x_at plate x y0 y1) self.now }
+    {
+        self.defects.as_slice().iter().any(|d| {
+            d.plate == plate && d.x0 < x && x < d.x1 && d.y0 < y1 && y0 < d.y1
+        })
+    }
+
+    /// Whether the level line at y from x0 to x1 runs through the inside of some defect of the plate.
+    pub fn crosses_y(&self, plate: u32, y: u32, x0: u32, x1: u32) -> bool
+        requires { x0 < x1 }
+        ensures { result ≡ list_any (crosses_y_at plate y x0 x1) self.now }
+    {
+        self.defects.as_slice().iter().any(|d| {
+            d.plate == plate && d.y0 < y && y < d.y1 && d.x0 < x1 && x0 < d.x1
+        })
+    }
+
+    /// Whether some defect of the plate meets a rectangle of width `w` and height `h` wherever its lower left corner lies in
+    /// these ranges, the ends of a range included.
+    pub fn hits_all(&self, plate: u32, x: (u32, u32), w: u32, y: (u32, u32), h: u32) -> bool
+        requires wide { x.0 + w < 2 ^ 32 }
+        requires high { y.0 + h < 2 ^ 32 }
+        ensures { result ≡ list_any (hits_everywhere plate x.0 x.1 w y.0 y.1 h) self.now }
+    {
+        self.defects.as_slice().iter().any(|d| {
+            d.plate == plate && x.1 < d.x1 && d.x0 < x.0 + w && y.1 < d.y1 && d.y0 < y.0 + h
+        })
+    }
+
+    /// Whether the upright line from `from` to `to` runs through some defect of the plate at every x of this range.
+    pub fn crosses_x_all(&self, plate: u32, x: (u32, u32), from: u32, to: u32) -> bool
+        ensures { result ≡ list_any (crosses_x_everywhere plate x.0 x.1 from to) self.now }
+    {
+        self.defects.as_slice().iter().any(|d| {
+            d.plate == plate && d.x0 < x.0 && x.1 < d.x1 && from < d.y1 && d.y0 < to
+        })
+    }
+
+    /// Whether the level line from `from` to `to` runs through some defect of the plate at every y of this range.
+    pub fn crosses_y_all(&self, plate: u32, y: (u32, u32), from: u32, to: u32) -> bool
+        ensures { result ≡ list_any (crosses_y_everywhere plate y.0 y.1 from to) self.now }
+    {
+        self.defects.as_slice().iter().any(|d| {
+            d.plate == plate && d.y0 < y.0 && y.1 < d.y1 && from < d.x1 && d.x0 < to
+        })
+    }
+}
