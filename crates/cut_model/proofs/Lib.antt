@@ -6,3 +6,4 @@ pub mod Numbers
 pub mod Examples
 pub mod Cutting
 pub mod RuleExamples
+pub mod Firsts

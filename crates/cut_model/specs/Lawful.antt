@@ -26,13 +26,18 @@ IsItemOn plate row = (row.plate ≡ plate) × IsSome (item_named row.kind)
 abbrev pub UsesEachPlate : List Row → Type 0
 UsesEachPlate rows = All (λ p. Any (IsItemOn p.plate) rows) (plate_rows rows)
 
+-- the rules L9 and L10, on the order in which items are cut
+pub record KeepsOrderRules (b : Problem) (rows : List Row) : Type 0 where
+  -- L9: each item of the batch is cut once and nothing else, each plate has an item, and no plate too many is used
+  pub each_once : CutsEachOnce b.items (cut_order rows)
+  pub each_plate : UsesEachPlate rows
+  pub few_plates : length (plate_rows rows) ≤ b.params.plates
+  -- L10: the items of one stack are cut in ascending sequence
+  pub stacks : KeepsStacks (items_cut b.items rows)
+
 -- the plan obeys the rules L1 to L10
 pub record IsLawful (b : Problem) (plan : Forest) : Type 0 where
   -- L1 to L8, at each piece
   pub cuts : All (KeepsCutRules b) (families_of b.params plan)
-  -- L9: each item of the batch is cut once and nothing else, each plate has an item, and no plate too many is used
-  pub each_once : CutsEachOnce b.items (cut_order (rows_of b.params plan))
-  pub each_plate : UsesEachPlate (rows_of b.params plan)
-  pub few_plates : length (plate_rows (rows_of b.params plan)) ≤ b.params.plates
-  -- L10: the items of one stack are cut in ascending sequence
-  pub stacks : KeepsStacks (items_cut b.items (rows_of b.params plan))
+  -- L9 and L10
+  pub order : KeepsOrderRules b (rows_of b.params plan)

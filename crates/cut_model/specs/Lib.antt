@@ -5,6 +5,7 @@ pub mod Room
 pub mod Visits
 pub mod Parents
 pub mod Numbers
+pub mod Firsts
 pub mod Order
 pub mod Rules
 pub mod Lawful

@@ -1,7 +1,7 @@
 //! Which rule a plan breaks.
 
 /// The rules of a lawful plan, in the order in which they are judged. L9 has five ways to be broken.
-#[derive(Clone, Copy)]
+#[derive(Clone, Copy, Debug, PartialEq, Eq)]
 pub enum Rule {
     /// A plate or a piece that is cut has no child, or its children do not add up to its size.
     L1,
@@ -34,7 +34,7 @@ pub enum Rule {
 }
 
 /// The rule that a plan breaks, the plate and the node that break it, and the two numbers that disagree.
-#[derive(Clone, Copy)]
+#[derive(Clone, Copy, Debug, PartialEq, Eq)]
 pub struct Broken {
     pub rule: Rule,
     pub plate: u32,

@@ -12,8 +12,10 @@ pub draft_lawful : (b : Problem) (plan : Forest) → IsProblem b → b.defects �
 draft_lawful b plan rules clear (strips, drafted, is) =
     subst (IsLawful b) (sym is) (record {
       cuts = draft_cuts b strips rules clear drafted;
-      each_once = draft_each_once b strips rules drafted;
-      each_plate = strips_use_plates b.params strips;
-      few_plates = draft_few_plates b strips drafted;
-      stacks = draft_stacks b strips rules drafted;
+      order = record {
+        each_once = draft_each_once b strips rules drafted;
+        each_plate = strips_use_plates b.params strips;
+        few_plates = draft_few_plates b strips drafted;
+        stacks = draft_stacks b strips rules drafted;
+      };
     })

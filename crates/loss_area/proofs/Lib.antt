@@ -1,1 +1,7 @@
 mod Wasting
+mod Shapes
+mod Areas
+mod Conserved
+mod Plates
+mod Served
+mod Balance

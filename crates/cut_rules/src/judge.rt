@@ -1,0 +1,137 @@
+//! The judge of a plan's cuts, which takes no memory.
+
+ghost use Rattle.std.specs.Prelude.{◌≡◌, ◌↔◌, All, Some, IsOk, IfErr, MatchOption};
+ghost use Rattle.cut_model.specs.Families.{families_of};
+ghost use Rattle.cut_model.specs.Fits.{Fits};
+ghost use Rattle.cut_model.specs.Rules.{KeepsCutRules};
+ghost use Rattle.cut_model.specs.Tree.{tree};
+ghost use Rattle.cut_model.specs.Visits.{IsSmall};
+ghost use Rattle.cut_rules.specs.Breaches.{BreaksWith, IsBreach, IsBreachOf, Keeps, Watched};
+
+use crate::rules::breach;
+use cut_model::{Broken, Family, Plan, Rule, Visitor, walk};
+use defect_map::DefectMap;
+use glass_base::Instance;
+use std::convert::Infallible;
+
+/// The breach of this rule by a piece, if it breaks it.
+fn breach_at(instance: &Instance, map: &DefectMap, rule: Rule, family: &Family) -> Option<Broken>
+    requires same { map.now ≡ instance.now.defects }
+    requires small { IsSmall family.now }
+    ensures { MatchOption result (Keeps instance.now rule family.now) (BreaksWith instance.now rule family.now) }
+{
+    let (left, right) = breach(instance, map, rule, family)?;
+    Some(Broken {
+        rule,
+        plate: family.row.plate,
+        node: family.row.node,
+        left,
+        right,
+    })
+}
+
+/// The first breach of one rule, among the pieces told so far.
+#[derive(Drop)]
+struct Watch<'a> {
+    instance: &'a Instance,
+    map: &'a DefectMap,
+    rule: Rule,
+    first: Option<Broken>,
+    ghost same: { map.now ≡ instance.now.defects },
+}
+
+/// The first breach, after one more piece.
+fn first_or_breach(watch: &Watch<'_>, family: &Family) -> Option<Broken>
+    requires { IsSmall family.now }
+    ensures { MatchOption watch.now.first (MatchOption result (Keeps watch.now.instance.now watch.now.rule family.now) (BreaksWith watch.now.instance.now watch.now.rule family.now)) (λ broken. result ≡ Some broken) }
+{
+    match watch.first {
+        Some(broken) => Some(broken),
+        None => breach_at(watch.instance, watch.map, watch.rule, family),
+    }
+}
+
+impl<'a> Visitor for Watch<'a> {
+    ghost use Rattle.cut_rules.specs.Breaches.{Watched};
+
+    type Stop = Infallible;
+
+    ghost has_seen = { λ start now seen.
+        (now.instance.now ≡ start.instance.now)
+        × (now.rule ≡ start.rule)
+        × Watched start.instance.now start.rule seen now.first };
+
+    fn visit(&mut self, family: &Family) -> Result<(), Infallible> {
+        self.first = first_or_breach(self, family);
+        Ok(())
+    }
+}
+
+/// The first breach of this rule, if some piece breaks it.
+fn first_breach(instance: &Instance, map: &DefectMap, plan: &Plan, rule: Rule) -> Option<Broken>
+    requires same { map.now ≡ instance.now.defects }
+    requires fits { Fits (tree plan.now) }
+    ensures { let b = instance.now in Watched b rule (families_of b.params (tree plan.now)) result }
+{
+    let mut watch = Watch {
+        instance,
+        map,
+        rule,
+        first: None,
+    };
+    match walk(&mut watch, instance.params(), plan) {
+        Ok(()) => watch.first,
+        Err(never) => match never {},
+    }
+}
+
+const CUT_RULES: [Rule; 8] = [
+    Rule::L1,
+    Rule::L2,
+    Rule::L3,
+    Rule::L4,
+    Rule::L5,
+    Rule::L6,
+    Rule::L7,
+    Rule::L8,
+];
+
+/// The first breach of the first of these rules that some piece breaks.
+fn first_of(instance: &Instance, map: &DefectMap, plan: &Plan, rules: &[Rule]) -> Option<Broken>
+    requires same { map.now ≡ instance.now.defects }
+    requires fits { Fits (tree plan.now) }
+    ensures { let b = instance.now in let fs = families_of b.params (tree plan.now) in MatchOption result (All (λ rule. All (Keeps b rule) fs) rules.now) (IsBreachOf b fs rules.now) }
+{
+    for rule in rules {
+        match first_breach(instance, map, plan, *rule) {
+            Some(broken) => return Some(broken),
+            None => {}
+        }
+    }
+    None
+}
+
+/// Whether a plan keeps the rules L1 to L8; else the first of them that it breaks, with the first piece in cutting order that
+/// breaks it, and the two numbers that disagree:
+///
+/// - `L1`, at the plate or piece that is cut: the sum of its children, and its size in the direction of the cut;
+/// - `L2`, at the item piece: its width, and its height;
+/// - `L3`, at the waste or residual: its smaller side, of the residual its width, and the least waste;
+/// - `L4`, at the 1-piece: its width, and the least width or, where that is kept, the greatest;
+/// - `L5`, at the 2-piece: its height, and the least height;
+/// - `L6`, at the 3-piece that is cut, or the residual: the level of its cut, 3 or 1, and 0;
+/// - `L7`, at the item piece: the item's number, and the position of the first defect that it meets;
+/// - `L8`, at the piece behind the cut: where the cut lies, and the position of the first defect that it runs through.
+///
+/// All lengths are in mm; positions count the instance's defects from 0. It takes no memory.
+pub fn judge_cuts(instance: &Instance, map: &DefectMap, plan: &Plan) -> Result<(), Broken>
+    requires same { map.now ≡ instance.now.defects }
+    requires fits { Fits (tree plan.now) }
+    ensures lawful { let b = instance.now in IsOk result ↔ All (KeepsCutRules b) (families_of b.params (tree plan.now)) }
+    ensures first { let b = instance.now in IfErr result (IsBreach b (families_of b.params (tree plan.now))) }
+{
+    match first_of(instance, map, plan, &CUT_RULES) {
+        Some(broken) => Err(broken),
+        None => Ok(()),
+    }
+}

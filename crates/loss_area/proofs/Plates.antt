@@ -1,0 +1,213 @@
+-- Wastes, items and the residual make up the plates.
+use Rattle.std.proofs.Common.{◌≡◌, ℕ, ◌+◌, ◌*◌, List, [], ◌++◌, Bool, true, false, ◌&&◌, refl, ap, subst, ◌∙◌, arith, Option, None, All}
+use Rattle.std.specs.Option.{option_map_or}
+use Rattle.std.proofs.lemmas.List.{append-nil}
+use Rattle.cut_model.specs.declared.family.Row.{Row}
+use Rattle.cut_model.specs.declared.family.Sort.{Sort}
+use Rattle.cut_model.specs.declared.family.Along.{Along}
+use Rattle.cut_model.specs.declared.family.Area.{Area}
+use Rattle.cut_model.specs.declared.family.Family.{Family}
+use Rattle.cut_model.specs.Tree.{Forest, nothing, piece, is_nothing, neighbour_count, total_size, type_number, count}
+use Rattle.cut_model.specs.Families.{families, behind, inside, moved, row_at, side_along, turned, width_at, height_at}
+use Rattle.cut_model.specs.Loss.{names_residual}
+use Rattle.cut_model.specs.Rules.{IsInPlace}
+use Rattle.loss_area.proofs.Areas.{families_below, family_at, first_residual, hold_of, residual_behind, residual_in, rows_at, rows_below, rows_after, rows_nothing, rows_piece, used_of, used_piece}
+use Rattle.loss_area.proofs.Conserved.{IsAcross, KeepsSum, across, across_at, moved_across, part_area, parts_area, turned_lies}
+use Rattle.loss_area.proofs.Shapes.{AreParts, ArePlates, AreStrips, IsPart, IsStripped}
+
+-- a residual is the last strip of the last plate
+abbrev pub KeepsPlace : Family → Type 0
+KeepsPlace f = IsInPlace f f.sort
+
+-- behind a piece the neighbours lie the same way
+moved_along : (along : Along) (at : Area) (size : ℕ) → (moved along at size).along ≡ at.along
+moved_along Along.Plates at size = refl
+moved_along Along.X at size = refl
+moved_along Along.Y at size = refl
+
+-- behind a piece of the last plate the plate is still the last
+moved_last : (along : Along) (at : Area) (size : ℕ) → (moved along at size).last ≡ at.last
+moved_last Along.Plates at size = refl
+moved_last Along.X at size = refl
+moved_last Along.Y at size = refl
+
+-- behind a piece the width of the place stays the same
+moved_width : (along : Along) (at : Area) (size : ℕ) → (moved along at size).width ≡ at.width
+moved_width Along.Plates at size = refl
+moved_width Along.X at size = refl
+moved_width Along.Y at size = refl
+
+-- behind a piece the height of the place stays the same
+moved_height : (along : Along) (at : Area) (size : ℕ) → (moved along at size).height ≡ at.height
+moved_height Along.Plates at size = refl
+moved_height Along.X at size = refl
+moved_height Along.Y at size = refl
+
+-- a row that is no residual is passed over
+residual_passed : (at : Area) (first : Bool) (node size : ℕ) (sort : Sort) (inner later : Forest) → names_residual (type_number sort) ≡ false →
+    first_residual (rows_at at first node (piece size sort inner later)) ≡ first_residual (rows_below at first node size sort inner later ++ rows_after at node size inner later)
+residual_passed at first node size sort inner later isnt = ap first_residual (rows_piece at first node size sort inner later) ∙ rw isnt refl
+
+-- so are the rows inside a piece where none of them is a residual
+residual_later : (at : Area) (first : Bool) (node size : ℕ) (sort : Sort) (inner later : Forest) → names_residual (type_number sort) ≡ false →
+    first_residual (rows_below at first node size sort inner later) ≡ None →
+    first_residual (rows_at at first node (piece size sort inner later)) ≡ first_residual (rows_after at node size inner later)
+residual_later at first node size sort inner later isnt none =
+    residual_passed at first node size sort inner later isnt ∙ residual_behind (rows_below at first node size sort inner later) (rows_after at node size inner later) none
+
+-- the type of a piece inside a strip is not that of a residual
+part_kind : (sort : Sort) (inner : Forest) → IsPart sort inner → names_residual (type_number sort) ≡ false
+part_kind (Sort.Item number) inner h = refl
+part_kind Sort.Waste inner h = refl
+part_kind Sort.Branch inner h = refl
+part_kind Sort.Residual inner h = absurd h
+
+-- no piece inside a strip is a residual
+no_residual : (at : Area) (first : Bool) (node : ℕ) (forest : Forest) → AreParts forest → first_residual (rows_at at first node forest) ≡ None
+no_residual at first node nothing shape = ap first_residual (rows_nothing at first node nothing refl)
+no_residual at first node (piece size sort inner later) shape =
+    residual_later at first node size sort inner later (part_kind sort inner shape.0) (no_residual (inside (family_at at first node size sort inner later)) true (node + 1) inner shape.1)
+    ∙ no_residual (behind at size) false (node + 1 + count inner) later shape.2
+
+-- a piece that keeps its place on a plate before the last one is no residual
+not_before : (last ends : Bool) (sort : Sort) (f : Family) → last ≡ false → f.ends ≡ (last && ends) → IsInPlace f sort → names_residual (type_number sort) ≡ false
+not_before last ends (Sort.Item number) f is e h = refl
+not_before last ends Sort.Waste f is e h = refl
+not_before last ends Sort.Branch f is e h = refl
+not_before last ends Sort.Residual f is e h =
+    let wrong : f.ends ≡ false = e ∙ ap (λ (b : Bool). b && ends) is in
+    cc
+
+-- no strip is a residual on a plate before the last one
+none_before_last : (at : Area) (first : Bool) (node : ℕ) (forest : Forest) → at.last ≡ false → AreStrips forest → All KeepsPlace (families at first node forest) → first_residual (rows_at at first node forest) ≡ None
+none_before_last at first node nothing last shape places = ap first_residual (rows_nothing at first node nothing refl)
+none_before_last at first node (piece size sort inner later) last shape places =
+    let h = hold_of KeepsPlace at first node size sort inner later places in
+    let f : Family = family_at at first node size sort inner later in
+    residual_later at first node size sort inner later (not_before at.last (is_nothing later) sort f last refl h.here) (no_residual (inside f) true (node + 1) inner shape.1)
+    ∙ none_before_last (behind at size) false (node + 1 + count inner) later (moved_last at.along at size ∙ last) shape.2 h.after
+
+-- wastes, items and the residual of these strips have the area that the strips fill
+abbrev StripsArea : Area → Bool → ℕ → Forest → Type 0
+StripsArea at first node forest = used_of (rows_at at first node forest) + across_at at * residual_in (rows_at at first node forest) ≡ total_size forest * across_at at
+
+-- the width of a row that was found, 0 where there is none
+abbrev width_of : Option Row → ℕ
+width_of o = option_map_or (λ row. row.width) o 0
+
+-- a strip that is no residual, and the strips behind it
+other_strip : (at : Area) (first : Bool) (node size : ℕ) (sort : Sort) (inner later : Forest) → at.along ≡ Along.X → IsPart sort inner → AreParts inner →
+    KeepsSum (family_at at first node size sort inner later) → All KeepsSum (families_below at first node size sort inner later) → StripsArea (behind at size) false (node + 1 + count inner) later →
+    StripsArea at first node (piece size sort inner later)
+other_strip at first node size sort inner later lies is shape sum sums rest =
+    let f : Family = family_at at first node size sort inner later in
+    let after : List Row = rows_after at node size inner later in
+    let sideways : IsAcross at.along = rw lies tt in
+    let here = part_area at first node size sort inner later sideways is sum (parts_area (inside f) true (node + 1) inner (turned_lies at.along) shape sums) in
+    let behind_it : used_of after + across_at at * residual_in after ≡ total_size later * across_at at =
+    subst (λ n. used_of after + n * residual_in after ≡ total_size later * n) (moved_across at.along at size) rest in
+    let residual : residual_in (rows_at at first node (piece size sort inner later)) ≡ residual_in after =
+    ap width_of (residual_later at first node size sort inner later (part_kind sort inner is) (no_residual (inside f) true (node + 1) inner shape)) in
+    omega (arith, used_piece at first node size sort inner later, here, behind_it, ap (λ n. across_at at * n) residual)
+
+-- the residual, behind which there is nothing
+residual_strip : (at : Area) (first : Bool) (node size : ℕ) (inner later : Forest) → at.along ≡ Along.X → inner ≡ nothing → later ≡ nothing → StripsArea at first node (piece size Sort.Residual inner later)
+residual_strip at first node size inner later lies none last =
+    let below : rows_below at first node size Sort.Residual inner later ≡ [] = rows_nothing (inside (family_at at first node size Sort.Residual inner later)) true (node + 1) inner none in
+    let after : rows_after at node size inner later ≡ [] = rows_nothing (behind at size) false (node + 1 + count inner) later last in
+    let residual : residual_in (rows_at at first node (piece size Sort.Residual inner later)) ≡ size =
+    ap residual_in (rows_piece at first node size Sort.Residual inner later) ∙ ap (λ (along : Along). width_at along size at.width) lies in
+    omega (
+      arith,
+      used_piece at first node size Sort.Residual inner later,
+      ap used_of below,
+      ap used_of after,
+      ap (λ n. across_at at * n) residual,
+      ap (λ (forest : Forest). total_size forest * across_at at) last,
+    )
+
+-- behind a piece that ends a plan there is nothing
+ends_there : (last : Bool) (later : Forest) → (last && is_nothing later) ≡ true → later ≡ nothing
+ends_there last nothing h = refl
+ends_there true (piece size sort inner later) h = cc
+ends_there false (piece size sort inner later) h = cc
+
+-- a strip of any sort, and the strips behind it
+one_strip : (at : Area) (first : Bool) (node size : ℕ) (sort : Sort) (inner later : Forest) → at.along ≡ Along.X → IsStripped sort inner → AreParts inner →
+    KeepsSum (family_at at first node size sort inner later) → KeepsPlace (family_at at first node size sort inner later) → All KeepsSum (families_below at first node size sort inner later) →
+    StripsArea (behind at size) false (node + 1 + count inner) later → StripsArea at first node (piece size sort inner later)
+one_strip at first node size (Sort.Item number) inner later lies is shape sum place sums rest = other_strip at first node size (Sort.Item number) inner later lies is shape sum sums rest
+one_strip at first node size Sort.Waste inner later lies is shape sum place sums rest = other_strip at first node size Sort.Waste inner later lies is shape sum sums rest
+one_strip at first node size Sort.Branch inner later lies is shape sum place sums rest = other_strip at first node size Sort.Branch inner later lies is shape sum sums rest
+one_strip at first node size Sort.Residual inner later lies is shape sum place sums rest = residual_strip at first node size inner later lies is (ends_there at.last later place)
+
+-- the strips of a plate
+strips_area : (at : Area) (first : Bool) (node : ℕ) (forest : Forest) → at.along ≡ Along.X → AreStrips forest → All KeepsSum (families at first node forest) → All KeepsPlace (families at first node forest) →
+    StripsArea at first node forest
+strips_area at first node nothing lies shape sums places =
+    let none = rows_nothing at first node nothing refl in
+    omega (arith, ap used_of none, ap (λ (rows : List Row). across_at at * residual_in rows) none)
+strips_area at first node (piece size sort inner later) lies shape sums places =
+    let sum = hold_of KeepsSum at first node size sort inner later sums in
+    let place = hold_of KeepsPlace at first node size sort inner later places in
+    one_strip at first node size sort inner later lies shape.0 shape.1 sum.here place.here sum.below
+    (strips_area (behind at size) false (node + 1 + count inner) later (moved_along at.along at size ∙ lies) shape.2 sum.after place.after)
+
+-- what is not the last piece ends nothing
+and_false : (b : Bool) → (b && false) ≡ false
+and_false true = refl
+and_false false = refl
+
+-- of a plate and those behind it only the last one has a residual
+plate_residual : (at : Area) (first : Bool) (node size : ℕ) (inner later : Forest) → AreStrips inner → All KeepsPlace (families_below at first node size Sort.Branch inner later) →
+    residual_in (rows_at at first node (piece size Sort.Branch inner later)) ≡ residual_in (rows_below at first node size Sort.Branch inner later) + residual_in (rows_after at node size inner later)
+plate_residual at first node size inner nothing shape places =
+    let below : List Row = rows_below at first node size Sort.Branch inner nothing in
+    let after : rows_after at node size inner nothing ≡ [] = rows_nothing (behind at size) false (node + 1 + count inner) nothing refl in
+    let residual : residual_in (rows_at at first node (piece size Sort.Branch inner nothing)) ≡ residual_in below =
+    ap width_of (residual_passed at first node size Sort.Branch inner nothing refl) ∙ ap (λ (rows : List Row). residual_in (below ++ rows)) after ∙ ap residual_in (append-nil below) in
+    omega (arith, residual, ap residual_in after)
+plate_residual at first node size inner (piece s t i l) shape places =
+    let later : Forest = piece s t i l in
+    let f : Family = family_at at first node size Sort.Branch inner later in
+    let none : first_residual (rows_below at first node size Sort.Branch inner later) ≡ None = none_before_last (inside f) true (node + 1) inner (and_false at.last) shape places in
+    omega (arith, ap width_of (residual_later at first node size Sort.Branch inner later refl none), ap width_of none)
+
+-- the strips of a plate have its area
+plate_area : (at : Area) (first : Bool) (node size : ℕ) (inner later : Forest) → at.along ≡ Along.Plates → KeepsSum (family_at at first node size Sort.Branch inner later) →
+    StripsArea (inside (family_at at first node size Sort.Branch inner later)) true (node + 1) inner →
+    used_of (rows_below at first node size Sort.Branch inner later) + at.height * residual_in (rows_below at first node size Sort.Branch inner later) ≡ at.width * at.height
+plate_area at first node size inner later lies sum strips =
+    let f : Family = family_at at first node size Sort.Branch inner later in
+    let row : Row = row_at at node size Sort.Branch in
+    let below : List Row = rows_below at first node size Sort.Branch inner later in
+    let high : across_at (inside f) ≡ at.height = ap (λ (along : Along). across (turned along) (width_at along size at.width) (height_at along size at.height)) lies in
+    let wide : total_size inner ≡ at.width = sum.1 ∙ ap (λ (along : Along). side_along (turned along) row) lies ∙ ap (λ (along : Along). width_at along size at.width) lies in
+    subst (λ n. used_of below + n * residual_in below ≡ at.width * n) high (strips ∙ ap (λ n. n * across_at (inside f)) wide)
+
+-- wastes, items and the residual have the area of the plates
+pub plates_area : (at : Area) (first : Bool) (node : ℕ) (forest : Forest) → at.along ≡ Along.Plates → ArePlates forest → All KeepsSum (families at first node forest) → All KeepsPlace (families at first node forest) →
+    used_of (rows_at at first node forest) + at.height * residual_in (rows_at at first node forest) ≡ at.height * (at.width * neighbour_count forest)
+plates_area at first node nothing lies shape sums places =
+    let none = rows_nothing at first node nothing refl in
+    omega (arith, ap used_of none, ap (λ (rows : List Row). at.height * residual_in rows) none)
+plates_area at first node (piece size (Sort.Item number) inner later) lies shape sums places = absurd shape.0
+plates_area at first node (piece size Sort.Waste inner later) lies shape sums places = absurd shape.0
+plates_area at first node (piece size Sort.Residual inner later) lies shape sums places = absurd shape.0
+plates_area at first node (piece size Sort.Branch inner later) lies shape sums places =
+    let sum = hold_of KeepsSum at first node size Sort.Branch inner later sums in
+    let place = hold_of KeepsPlace at first node size Sort.Branch inner later places in
+    let f : Family = family_at at first node size Sort.Branch inner later in
+    let after : List Row = rows_after at node size inner later in
+    let strips = strips_area (inside f) true (node + 1) inner (ap turned lies) shape.1 sum.below place.below in
+    let rest = plates_area (behind at size) false (node + 1 + count inner) later (moved_along at.along at size ∙ lies) shape.2 sum.after place.after in
+    let behind_it : used_of after + at.height * residual_in after ≡ at.height * (at.width * neighbour_count later) =
+    subst (λ w. used_of after + at.height * residual_in after ≡ at.height * (w * neighbour_count later)) (moved_width at.along at size)
+    (subst (λ n. used_of after + n * residual_in after ≡ n * ((behind at size).width * neighbour_count later)) (moved_height at.along at size) rest) in
+    omega (
+      arith,
+      used_piece at first node size Sort.Branch inner later,
+      plate_area at first node size inner later lies sum.here strips,
+      behind_it,
+      ap (λ n. at.height * n) (plate_residual at first node size inner later shape.1 place.below),
+    )

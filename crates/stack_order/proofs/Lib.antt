@@ -1,0 +1,7 @@
+pub mod Searches
+pub mod Ordered
+pub mod Counted
+pub mod Places
+pub mod Gathers
+pub mod Answered
+pub mod Agreement

@@ -1,0 +1,8 @@
+//! The judge of the order in which a plan cuts its items.
+#![tactic(auto)]
+
+mod breaches;
+pub mod cuts;
+pub mod judge;
+
+pub use judge::judge_order;
