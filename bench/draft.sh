@@ -1,19 +1,10 @@
 #!/usr/bin/env bash
-# Prints how long a draft of 800 items takes: sides from 150 to 1499 mm in 41 stacks, from a fixed linear congruential generator.
+# Prints how long a draft of 800 items takes.
 set -eu
 top=$(cd "$(dirname "$(readlink -f "$0")")/.." && pwd)
 work=$(mktemp -d)
 trap 'rm -rf "$work"' EXIT
-awk '
-  function draw(n) { x = (1664525 * x + 1013904223) % 4294967296; return int(x / 65536) % n }
-  BEGIN {
-    x = 7
-    print "ITEM_ID;LENGTH_ITEM;WIDTH_ITEM;STACK;SEQUENCE"
-    for (k = 0; k < 800; k++) {
-      length_mm = 200 + draw(1300); width_mm = 150 + draw(850); stack = draw(41)
-      printf "%d;%d;%d;%d;%d\n", k, length_mm, width_mm, stack, k
-    }
-  }' > "$work/batch.csv"
+awk -f "$top/bench/items.awk" > "$work/batch.csv"
 "$top/glass" draft "$top/examples/tiny/batch.csv" "$work/plan.csv" > "$work/built"
 TIMEFORMAT='%R s'
 time "$top/glass" draft "$work/batch.csv" "$work/plan.csv"

@@ -41,7 +41,6 @@ pub fn whole_at(row: u64, column: u64, most: u32, fields: &ByteRecord) -> Result
 
 /// The number, at most `most`, of a field that may have decimals.
 fn measure_of(row: u64, column: u64, most: u32, field: &[u8]) -> Result<Decimal, BadText>
-    requires { most ≤ 1000000 }
     ensures value { result ≡ measured row column most (decimal field.now) }
     ensures range { IfOk result (IsAtMost most) }
 {
@@ -60,8 +59,7 @@ fn measure_of(row: u64, column: u64, most: u32, field: &[u8]) -> Result<Decimal,
 /// The number in a column of a row, counted from 1, that may have decimals. `Number` comes where the field is no number,
 /// `Range` where the number is above `most`.
 pub fn measure_at(row: u64, column: u64, most: u32, fields: &ByteRecord) -> Result<Decimal, BadText>
-    requires column { 0 < column }
-    requires most { most ≤ 1000000 }
+    requires { 0 < column }
     ensures value { result ≡ measure_in row column most (field_at (fields_of fields.now) (column - 1)) }
     ensures range { IfOk result (IsAtMost most) }
 {

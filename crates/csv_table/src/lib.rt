@@ -8,5 +8,5 @@ pub mod rows;
 
 pub use columns::{measure_at, whole_at};
 pub use lines::{Lines, optional, signed, unsigned};
-pub use number::{Decimal, decimal_of, trim};
+pub use number::{Decimal, decimal_of, plain_number, trim};
 pub use rows::Rows;

@@ -128,13 +128,12 @@ fn around_point(text: &[u8], at: usize) -> Option<Decimal>
     }
 }
 
-/// The number that a field says: between spaces and tabs one to nine digits, and perhaps a point and one to six digits behind
-/// it. Leading zeros are allowed.
-pub fn decimal_of(field: &[u8]) -> Option<Decimal>
-    ensures value { result ≡ decimal field.now }
+/// The number that a text says which has no blanks at its ends: one to nine digits, and perhaps a point and one to six digits
+/// behind it. Leading zeros are allowed.
+pub fn plain_number(text: &[u8]) -> Option<Decimal>
+    ensures value { result ≡ number_at text.now (position is_point text.now) }
     ensures below { IfSome result (λ number. number.millionths < 1000000) }
 {
-    let text = trim(field);
     match point_of(text) {
         Some(at) => around_point(text, at),
         None => match digits_of(text, 9) {
@@ -145,4 +144,12 @@ pub fn decimal_of(field: &[u8]) -> Option<Decimal>
             }),
         },
     }
+}
+
+/// The number that a field says between spaces and tabs, as `plain_number` reads it.
+pub fn decimal_of(field: &[u8]) -> Option<Decimal>
+    ensures value { result ≡ decimal field.now }
+    ensures below { IfSome result (λ number. number.millionths < 1000000) }
+{
+    plain_number(trim(field))
 }

@@ -1,2 +1,3 @@
 mod Positions
 mod Judged
+mod Ones

@@ -2,6 +2,7 @@
 #![tactic(auto)]
 
 pub mod judge;
+pub mod laws;
 mod rules;
 
 pub use judge::judge_cuts;

@@ -1,2 +1,4 @@
-pub mod Commands
-pub mod Faults
+mod Faults
+mod Given
+mod Judged
+mod FetchFacts

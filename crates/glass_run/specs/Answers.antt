@@ -1,5 +1,5 @@
 -- What a run stores and prints, by what stands under the name of the batch.
-use Rattle.std.specs.Prelude.{◌≡◌, ◌⊎◌, ◌++◌, ◌<◌, ◌≤◌, ℕ, List, [], length, Option, Some, None, Result, Ok, Err, codes, option_map}
+use Rattle.std.specs.Prelude.{◌≡◌, ◌⊎◌, ◌++◌, ℕ, List, [], Option, Some, None, Result, Ok, Err, codes, option_map}
 use Rattle.std.specs.Fmt.{decimal}
 use Rattle.std.specs.String.{string_bytes}
 use Rattle.glass_base.specs.BadInstance.{RefusesLists}
@@ -23,8 +23,6 @@ use Rattle.first_plan.specs.Drafts.{IsDraftPlan}
 use Rattle.first_plan.specs.Strips.{HasNoDraft}
 use Rattle.plan_csv.specs.Solutions.{solution_text}
 use Rattle.stock_csv.specs.Settings.{ReadAs, RefusesSettings, settings_of}
-use Rattle.glass_io.specs.Told.{Contents}
-use Rattle.glass_run.specs.Words.{Names}
 use Rattle.glass_run.specs.declared.status.Status.{Status}
 use Rattle.glass_run.specs.declared.status.Status.TheVariants as status
 use Rattle.glass_run.specs.declared.reply.Reply.{Reply}
@@ -128,32 +126,25 @@ AnswersItems items params answer =
 abbrev pub AreUsual : Params → Type 0
 AreUsual params = HasSizes params 100 6000 3210 100 3500 100 20
 
--- the answer to items with the parameters of a file, if there is one, else with the usual ones
-abbrev pub AnswersParams : List Item → Option (List ℕ) → Answer → Type 0
-AnswersParams items None answer = (params : Params) × AreUsual params × AnswersItems items params answer
-AnswersParams items (Some bytes) answer =
-    ((params : Params) × ReadAs params (settings_of bytes) × AnswersItems items params answer)
+-- the parameters of a file, if there is one, else the usual ones, or the reply to their refusal
+abbrev pub ParamsGiven : Option (List ℕ) → Result Params Reply → Type 0
+ParamsGiven None (Ok params) = AreUsual params
+ParamsGiven None (Err reply) = ⊥
+ParamsGiven (Some bytes) (Ok params) = ReadAs params (settings_of bytes)
+ParamsGiven (Some bytes) (Err reply) = (reason : BadText) × RefusesSettings reason (settings_of bytes) × TextRefused role.Params reason (answer_in reply)
+
+-- the answer with the parameters of a file, if there is one, else with the usual ones
+abbrev pub WithParams : Option (List ℕ) → (Params → Type 0) → Answer → Type 0
+WithParams None Next answer = (params : Params) × AreUsual params × Next params
+WithParams (Some bytes) Next answer =
+    ((params : Params) × ReadAs params (settings_of bytes) × Next params)
     ⊎ ((reason : BadText) × RefusesSettings reason (settings_of bytes) × TextRefused role.Params reason answer)
 
--- the answer to the items that a batch says, or to its refusal
-abbrev pub AnswersBatch : Result (List Item) BadText → Option (List ℕ) → Answer → Type 0
-AnswersBatch (Ok items) params answer = AnswersParams items params answer
-AnswersBatch (Err reason) params answer = TextRefused role.Batch reason answer
+-- the answer of a draft to the items that a batch says, or to its refusal
+abbrev pub DraftsBatch : Result (List Item) BadText → Option (List ℕ) → Answer → Type 0
+DraftsBatch (Ok items) params answer = WithParams params (λ p. AnswersItems items p answer) answer
+DraftsBatch (Err reason) params answer = TextRefused role.Batch reason answer
 
--- the answer to the bytes of the files: the batch is read first
-abbrev pub AnswersTexts : List ℕ → Option (List ℕ) → Answer → Type 0
-AnswersTexts batch params answer = AnswersBatch (items_of batch) params answer
-
--- a file that is not there, or is longer than 4,194,304 bytes, ends the run; else the run goes on with its bytes
-abbrev pub WithText : Role → Option (List ℕ) → (List ℕ → Type 0) → Answer → Type 0
-WithText of None Next answer = answer ≡ absent of
-WithText of (Some bytes) Next answer =
-    ((4194304 < length bytes) × (answer ≡ too_long of)) ⊎ ((length bytes ≤ 4194304) × Next bytes)
-
-abbrev pub AnswersOption : Contents → Option (List ℕ) → List ℕ → Answer → Type 0
-AnswersOption contents None batch answer = AnswersTexts batch None answer
-AnswersOption contents (Some name) batch answer = WithText role.Params (contents name) (λ params. AnswersTexts batch (Some params) answer) answer
-
--- the answer to what stands under the names: all files are fetched, in their order, before one is read
-abbrev pub AnswersFiles : Contents → Names → Answer → Type 0
-AnswersFiles contents names answer = WithText role.Batch (contents names.batch) (λ batch. AnswersOption contents names.params batch answer) answer
+-- the answer of a draft to the bytes of its files: the batch is read first
+abbrev pub Drafts : List ℕ → Option (List ℕ) → Answer → Type 0
+Drafts batch params answer = DraftsBatch (items_of batch) params answer

@@ -1,18 +1,26 @@
 -- What a fetch of a text gives.
-use Rattle.std.specs.Prelude.{◌≡◌, ◌<◌, ◌≤◌, ℕ, List, length, Option, Some, None, Result, Ok, Err}
+use Rattle.std.specs.Prelude.{◌≡◌, ℕ, List, map, Result, Ok, Err}
 use Rattle.glass_base.specs.Run.{Listed}
 use Rattle.glass_base.specs.declared.role.Role.{Role}
-use Rattle.glass_run.specs.Answers.{absent, answer_in, too_long}
+use Rattle.glass_run.specs.Answers.{Answer, answer_in}
 use Rattle.glass_run.specs.declared.reply.Reply.{Reply}
-use Rattle.glass_run.specs.declared.run.NoReply.{NoReply}
-use Rattle.glass_run.specs.declared.run.NoReply.TheVariants as no_reply
+use Rattle.glass_run.specs.declared.fetching.Wanted.{Wanted}
+use Rattle.glass_run.specs.declared.fetching.NoReply.{NoReply}
+use Rattle.glass_run.specs.declared.fetching.NoReply.TheVariants as no_reply
 
--- the bytes that stand under a name, or the reply where there are none within the limit
-abbrev pub Fetches : Role → Option (List ℕ) → Result (Listed ℕ) Reply → Type 0
-Fetches of None (Ok run) = ⊥
-Fetches of None (Err reply) = answer_in reply ≡ absent of
-Fetches of (Some bytes) (Ok run) = (run.items ≡ bytes) × (length bytes ≤ 4194304)
-Fetches of (Some bytes) (Err reply) = (4194304 < length bytes) × (answer_in reply ≡ too_long of)
+-- a file to be fetched, by its role and its name
+abbrev pub file_in : Wanted → Role × List ℕ
+file_in w = (w.role, w.name.now)
+
+-- the text of a file was fetched, or the reply to a file that gives none
+abbrev pub Fetches : Result (Listed ℕ) Reply → Result (List ℕ) Answer → Type 0
+Fetches (Ok run) said = said ≡ Ok run.items
+Fetches (Err reply) said = said ≡ Err (answer_in reply)
+
+-- the texts of files were fetched, or the reply to the first file that gives none
+abbrev pub Gathers : Result (Listed (Listed ℕ)) Reply → Result (List (List ℕ)) Answer → Type 0
+Gathers (Ok texts) said = said ≡ Ok (map (λ text. text.items) texts.items)
+Gathers (Err reply) said = said ≡ Err (answer_in reply)
 
 -- this holds of the role whose read failed, if one did
 abbrev pub OnFault : (Role → Type 0) → NoReply → Type 0

@@ -1,5 +1,7 @@
-pub mod Codes
 pub mod Words
+pub mod Codes
 pub mod Answers
+pub mod Judgements
+pub mod Calls
 pub mod Runs
 pub mod Fetched

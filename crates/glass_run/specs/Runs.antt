@@ -1,29 +1,20 @@
 -- What a run leaves, by how it ended.
-use Rattle.std.specs.Prelude.{◌≡◌, ◌≢◌, ◌⊎◌, ◌++◌, ◌≤◌, ℕ, List, length, codes, Option, Some, None, IsSome}
+use Rattle.std.specs.Prelude.{◌≡◌, ◌≢◌, ◌⊎◌, ◌++◌, ℕ, List, codes, Option, Some, None}
 use Rattle.glass_io.specs.Told.{Appended, AppendedPrefix, Contents, SameBytes, SameContents, Stored, StoredPrefix}
-use Rattle.glass_run.specs.Answers.{Answer, AnswersFiles, role_word}
+use Rattle.glass_run.specs.Answers.{Answer, role_word}
+use Rattle.glass_run.specs.Calls.{Answers, Reaches, files_of, out_of}
 use Rattle.glass_base.specs.declared.role.Role.{Role}
-use Rattle.glass_base.specs.declared.role.Role.TheVariants as role
-use Rattle.glass_run.specs.Words.{Names}
+use Rattle.glass_run.specs.Words.{Call}
 use Rattle.glass_run.specs.declared.status.Status.{Status}
 use Rattle.glass_run.specs.declared.status.Status.TheVariants as status
 
--- a status that tells what stands under the names
+-- a status that comes of what stands under the names
 abbrev pub TellsFile : Status → Type 0
-TellsFile status.Optimal = ⊥
-TellsFile status.Stopped = ⊥
-TellsFile status.Infeasible = ⊥
 TellsFile status.Usage = ⊥
 TellsFile status.ReadFault = ⊥
-TellsFile status.Absent = Unit {0}
-TellsFile status.TooLong = Unit {0}
-TellsFile status.BadInput = Unit {0}
 TellsFile status.Memory = ⊥
-TellsFile status.Unlawful = ⊥
-TellsFile status.Refused = ⊥
-TellsFile status.NoDraft = Unit {0}
 TellsFile status.WriteFault = ⊥
-TellsFile status.Done = Unit {0}
+TellsFile _ = Unit {0}
 
 -- the text, if there is one, stands under its name, and nothing else changed
 abbrev pub Stands : List ℕ → Option (List ℕ) → Option Contents → Option Contents → Type 0
@@ -65,25 +56,12 @@ abbrev pub read_fault_line : Role → List ℕ
 read_fault_line of = codes "read fault " ++ role_word of ++ codes "\n"
 
 -- some answer to what stands under the names
-abbrev pub SomeAnswer : Contents → Names → (Answer → Type 0) → Type 0
-SomeAnswer contents names P = (answer : Answer) × AnswersFiles contents names answer × P answer
+abbrev pub SomeAnswer : Contents → Call → (Answer → Type 0) → Type 0
+SomeAnswer contents call P = (answer : Answer) × Answers contents call answer × P answer
 
--- a file is there and within its limit
-abbrev pub IsWhole : Option (List ℕ) → Type 0
-IsWhole None = ⊥
-IsWhole (Some bytes) = length bytes ≤ 4194304
-
--- the file of this role is fetched: it is named, and all files before it were whole
-abbrev pub IsFetched : Contents → Names → Role → Type 0
-IsFetched contents names role.Batch = Unit {0}
-IsFetched contents names role.Defects = ⊥
-IsFetched contents names role.Params = IsSome names.params × IsWhole (contents names.batch)
-IsFetched contents names role.Plan = ⊥
-IsFetched contents names role.Cert = ⊥
-
--- a read of such a file failed, and its count of faults rose
-abbrev pub SomeFault : Contents → Names → (Role → Type 0) → (List ℕ → Type 0) → Type 0
-SomeFault contents names FaultRose P = (of : Role) × IsFetched contents names of × FaultRose of × P (read_fault_line of)
+-- a read of a file of the command failed, where all files before it were whole, and its count of faults rose
+abbrev pub SomeFault : Contents → Call → (Role → Type 0) → (List ℕ → Type 0) → Type 0
+SomeFault contents call FaultRose P = (of : Role) × Reaches contents of (files_of call) × FaultRose of × P (read_fault_line of)
 
 -- a run whose words are no command, by its status
 abbrev pub UsageRun : Option Contents → Option Contents → Option (List ℕ) → Option (List ℕ) → Status → Type 0
@@ -92,28 +70,19 @@ UsageRun old new before after status.Memory = SameContents old new × SameBytes 
 UsageRun old new before after status.WriteFault = PrintsFront usage_line old new before after
 UsageRun old new before after _ = ⊥
 
--- a run of a draft, by its status
-abbrev pub DraftRun : Names → Contents → Option Contents → Option (List ℕ) → Option (List ℕ) → (Role → Type 0) → Status → Type 0
-DraftRun names contents new before after FaultRose status.Optimal = ⊥
-DraftRun names contents new before after FaultRose status.Stopped = ⊥
-DraftRun names contents new before after FaultRose status.Infeasible = ⊥
-DraftRun names contents new before after FaultRose status.Usage = ⊥
-DraftRun names contents new before after FaultRose status.ReadFault = SomeFault contents names FaultRose (λ line. Prints line (Some contents) new before after)
-DraftRun names contents new before after FaultRose status.Absent = SomeAnswer contents names (λ answer. Completes names.out answer (Some contents) new before after status.Absent)
-DraftRun names contents new before after FaultRose status.TooLong = SomeAnswer contents names (λ answer. Completes names.out answer (Some contents) new before after status.TooLong)
-DraftRun names contents new before after FaultRose status.BadInput = SomeAnswer contents names (λ answer. Completes names.out answer (Some contents) new before after status.BadInput)
-DraftRun names contents new before after FaultRose status.Memory =
-    (SameContents (Some contents) new × SameBytes before after) ⊎ SomeAnswer contents names (λ answer. BreaksOff names.out answer (Some contents) new before after)
-DraftRun names contents new before after FaultRose status.Unlawful = ⊥
-DraftRun names contents new before after FaultRose status.Refused = ⊥
-DraftRun names contents new before after FaultRose status.NoDraft = SomeAnswer contents names (λ answer. Completes names.out answer (Some contents) new before after status.NoDraft)
-DraftRun names contents new before after FaultRose status.WriteFault =
-    SomeFault contents names FaultRose (λ line. PrintsFront line (Some contents) new before after)
-    ⊎ SomeAnswer contents names (λ answer. Fails names.out answer (Some contents) new before after)
-DraftRun names contents new before after FaultRose status.Done = SomeAnswer contents names (λ answer. Completes names.out answer (Some contents) new before after status.Done)
+-- a run of a command, by its status; every status that is not named here is that of an answer
+abbrev pub CallRun : Call → Contents → Option Contents → Option (List ℕ) → Option (List ℕ) → (Role → Type 0) → Status → Type 0
+CallRun call contents new before after FaultRose status.Usage = ⊥
+CallRun call contents new before after FaultRose status.ReadFault = SomeFault contents call FaultRose (λ line. Prints line (Some contents) new before after)
+CallRun call contents new before after FaultRose status.Memory =
+    (SameContents (Some contents) new × SameBytes before after) ⊎ SomeAnswer contents call (λ answer. BreaksOff (out_of call) answer (Some contents) new before after)
+CallRun call contents new before after FaultRose status.WriteFault =
+    SomeFault contents call FaultRose (λ line. PrintsFront line (Some contents) new before after)
+    ⊎ SomeAnswer contents call (λ answer. Fails (out_of call) answer (Some contents) new before after)
+CallRun call contents new before after FaultRose result = SomeAnswer contents call (λ answer. Completes (out_of call) answer (Some contents) new before after result)
 
 -- a run, by its words and by what the files hold, where that is told
-abbrev pub RunsTo : Option Names → Option Contents → Option Contents → Option (List ℕ) → Option (List ℕ) → (Role → Type 0) → Status → Type 0
+abbrev pub RunsTo : Option Call → Option Contents → Option Contents → Option (List ℕ) → Option (List ℕ) → (Role → Type 0) → Status → Type 0
 RunsTo None old new before after FaultRose result = UsageRun old new before after result
-RunsTo (Some names) None new before after FaultRose result = result ≢ status.Usage
-RunsTo (Some names) (Some contents) new before after FaultRose result = DraftRun names contents new before after FaultRose result
+RunsTo (Some call) None new before after FaultRose result = result ≢ status.Usage
+RunsTo (Some call) (Some contents) new before after FaultRose result = CallRun call contents new before after FaultRose result

@@ -3,8 +3,10 @@
 ghost use Rattle.std.specs.Prelude.{◌≡◌, IfOk};
 ghost use Rattle.std.specs.String.{string_bytes};
 ghost use Rattle.glass_run.specs.Answers.{absent_line as absent_line_of, bad_input_line as bad_input_line_of, no_draft_line as no_draft_line_of, role_word as role_word_of, summary, too_long_line as too_long_line_of};
+ghost use Rattle.glass_run.specs.Judgements.{lawful_line as lawful_line_of, rule_word as rule_word_of, unlawful_line as unlawful_line_of};
 ghost use Rattle.glass_run.specs.Runs.{read_fault_line as read_fault_line_of};
 
+use cut_model::{Broken, Rule};
 use glass_base::{Memory, Role};
 use std::alloc::Global;
 
@@ -71,4 +73,43 @@ pub(crate) fn summary_lines(alloc: Global, loss: u64, plates: u64) -> Result<Str
     ensures { IfOk result (λ lines. string_bytes lines ≡ summary loss plates) }
 {
     Ok(format!(in alloc; "loss {loss}\nplates {plates}\n")?)
+}
+
+/// The word by which a line names a rule.
+fn rule_word(rule: Rule) -> &'static str
+    ensures { result.now ≡ rule_word_of rule }
+{
+    match rule {
+        Rule::L1 => "L1",
+        Rule::L2 => "L2",
+        Rule::L3 => "L3",
+        Rule::L4 => "L4",
+        Rule::L5 => "L5",
+        Rule::L6 => "L6",
+        Rule::L7 => "L7",
+        Rule::L8 => "L8",
+        Rule::L9Unknown => "L9unknown",
+        Rule::L9Twice => "L9twice",
+        Rule::L9Missing => "L9missing",
+        Rule::L9EmptyPlate => "L9emptyplate",
+        Rule::L9Plates => "L9plates",
+        Rule::L10 => "L10",
+    }
+}
+
+/// The line that names the first breach of a plan.
+pub(crate) fn unlawful_line(alloc: Global, broken: &Broken) -> Result<String, Memory>
+    ensures { IfOk result (λ line. string_bytes line ≡ unlawful_line_of broken.now) }
+{
+    let word = rule_word(broken.rule);
+    let (plate, node) = (broken.plate, broken.node);
+    let (left, right) = (broken.left, broken.right);
+    Ok(format!(in alloc; "unlawful {word} plate {plate} node {node} {left} {right}\n")?)
+}
+
+/// The line that tells the loss of a lawful plan.
+pub(crate) fn lawful_line(alloc: Global, loss: u64) -> Result<String, Memory>
+    ensures { IfOk result (λ line. string_bytes line ≡ lawful_line_of loss) }
+{
+    Ok(format!(in alloc; "lawful loss {loss}\n")?)
 }

@@ -8,7 +8,7 @@ ghost use Rattle.glass_base.specs.Items.{IsItemInRange};
 ghost use Rattle.glass_base.specs.declared.bad_text.BadText.TheVariants as bad_text;
 ghost use Rattle.glass_base.specs.declared.instance.BadInstance.TheVariants as bad_instance;
 ghost use Rattle.batch_csv.specs.Batches.{items_of};
-ghost use Rattle.glass_run.specs.Answers.{AnswersInstance, AnswersItems, AnswersParams, AnswersTexts, ListsRefused, TextRefused, absent as absent_of, answer_in, bad_input as bad_input_of, drafted, params_refused as params_refused_of, refusal, too_long as too_long_of};
+ghost use Rattle.glass_run.specs.Answers.{AnswersInstance, AnswersItems, Drafts, ListsRefused, ParamsGiven, WithParams, TextRefused, absent as absent_of, answer_in, bad_input as bad_input_of, drafted, params_refused as params_refused_of, refusal, too_long as too_long_of};
 
 use crate::lines::{absent_line, bad_input_line, no_draft_line, summary_lines, too_long_line};
 use crate::status::Status;
@@ -30,7 +30,7 @@ pub struct Reply {
 }
 
 /// A reply that stores nothing and prints this.
-fn refuse(status: Status, lines: String) -> Reply
+pub(crate) fn refuse(status: Status, lines: String) -> Reply
     ensures { answer_in result ≡ refusal status (string_bytes lines) }
 {
     Reply {
@@ -55,7 +55,7 @@ pub(crate) fn too_long(alloc: Global, role: Role) -> Result<Reply, Memory>
 }
 
 /// The reply to a refusal of this number.
-fn bad_input(
+pub(crate) fn bad_input(
     alloc: Global,
     role: Role,
     number: u32,
@@ -86,7 +86,7 @@ fn params_refused(alloc: Global, reason: BadParams) -> Result<Reply, Memory>
 }
 
 /// The reply to a text that is refused.
-fn text_refused(alloc: Global, role: Role, reason: BadText) -> Result<Reply, Memory>
+pub(crate) fn text_refused(alloc: Global, role: Role, reason: BadText) -> Result<Reply, Memory>
     ensures { IfOk result (λ r. TextRefused role reason (answer_in r)) }
 {
     match reason {
@@ -100,7 +100,7 @@ fn text_refused(alloc: Global, role: Role, reason: BadText) -> Result<Reply, Mem
 }
 
 /// The reply to lists that make no instance.
-fn lists_refused(alloc: Global, reason: BadInstance) -> Result<Reply, Memory>
+pub(crate) fn lists_refused(alloc: Global, reason: BadInstance) -> Result<Reply, Memory>
     ensures { IfOk result (λ r. ListsRefused reason (answer_in r)) }
 {
     match reason {
@@ -155,34 +155,47 @@ fn reply_to_items(alloc: Global, items: Run<Item>, params: Params) -> Result<Rep
     }
 }
 
-/// The reply to items, with the parameters of a file if there is one.
-fn reply_with_params(
+/// The parameters of a file, or the usual ones where none is named.
+pub(crate) fn params_of(
+    alloc: Global,
+    params: Option<&[u8]>,
+) -> Result<Result<Params, Reply>, Memory>
+    ensures { IfOk result (ParamsGiven (option_map (λ bytes. bytes.now) params.entry)) }
+{
+    match params {
+        None => Ok(Ok(Params::usual())),
+        Some(bytes) => match read_params(alloc, bytes) {
+            Ok(params) => Ok(Ok(params)),
+            Err(reason) => Ok(Err(text_refused(alloc, Role::Params, reason)?)),
+        },
+    }
+}
+
+/// The reply of a draft to items, with the parameters of a file if there is one.
+fn draft_with_params(
     alloc: Global,
     items: Run<Item>,
     params: Option<&[u8]>,
 ) -> Result<Reply, Memory>
     requires { All IsItemInRange items.items }
-    ensures { IfOk result (λ r. AnswersParams items.items (option_map (λ bytes. bytes.now) params.entry) (answer_in r)) }
+    ensures { IfOk result (λ r. WithParams (option_map (λ bytes. bytes.now) params.entry) (λ p. AnswersItems items.items p (answer_in r)) (answer_in r)) }
 {
-    match params {
-        None => reply_to_items(alloc, items, Params::usual()),
-        Some(bytes) => match read_params(alloc, bytes) {
-            Ok(params) => reply_to_items(alloc, items, params),
-            Err(reason) => text_refused(alloc, Role::Params, reason),
-        },
+    match params_of(alloc, params)? {
+        Ok(params) => reply_to_items(alloc, items, params),
+        Err(reply) => Ok(reply),
     }
 }
 
-/// The reply to the bytes of a batch, and of a parameters file if there is one.
-pub(crate) fn reply_to_texts(
+/// The reply of a draft to the bytes of a batch, and of a parameters file if there is one.
+pub(crate) fn draft_texts(
     alloc: Global,
     batch: &[u8],
     params: Option<&[u8]>,
 ) -> Result<Reply, Memory>
-    ensures { IfOk result (λ r. AnswersTexts batch.now (option_map (λ bytes. bytes.now) params.entry) (answer_in r)) }
+    ensures { IfOk result (λ r. Drafts batch.now (option_map (λ bytes. bytes.now) params.entry) (answer_in r)) }
 {
     match read_batch(alloc, batch) {
-        Ok(items) => reply_with_params(alloc, items, params),
+        Ok(items) => draft_with_params(alloc, items, params),
         Err(reason) => text_refused(alloc, Role::Batch, reason),
     }
 }

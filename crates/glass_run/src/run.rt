@@ -1,104 +1,87 @@
 //! The top call.
 
-ghost use Rattle.std.specs.Prelude.{◌≡◌, ◌≢◌, ◌⊎◌, map, option_map, IfOk, IfErr, IfSome, IsSome, OnOk, IsErrOf};
+ghost use Rattle.std.specs.Prelude.{◌≡◌, ◌≢◌, ◌⊎◌, length, map, option_map, IfOk, IfErr, IfSome, OnOk, IsErrOf};
 ghost use Rattle.std.specs.String.{string_bytes};
 ghost use Rattle.glass_base.specs.declared.role.Role.{Role as GlassRole};
-ghost use Rattle.glass_base.specs.declared.role.Role.TheVariants as role;
 ghost use Rattle.glass_io.specs.Told.{Appended, AppendedPrefix, HasCause, NeverFall, Rose, SameContents};
 ghost use Rattle.glass_io.specs.declared.files.Trouble.TheVariants.{Failed, Memory as OutOfMemory};
-ghost use Rattle.glass_run.specs.Answers.{AnswersFiles, AnswersOption, answer_in};
-ghost use Rattle.glass_run.specs.Fetched.{Fetches, OnFault};
-ghost use Rattle.glass_run.specs.Words.{command_of, names_in};
-ghost use Rattle.glass_run.specs.Runs.{CutShort, Fails, IsFetched, RunsTo, Stands, TellsFile, read_fault_line as read_fault_line_of};
-ghost use Rattle.glass_run.specs.declared.run.NoReply.TheVariants.{Memory as OutOfReach};
+ghost use Rattle.glass_run.specs.Answers.{answer_in};
+ghost use Rattle.glass_run.specs.Calls.{Answers, AnswersTexts, Reaches, files_of};
+ghost use Rattle.glass_run.specs.Fetched.{OnFault};
+ghost use Rattle.glass_run.specs.Words.{call_in, command_of, draft as draft_call, draft_names, judge as judge_call, judge_names};
+ghost use Rattle.glass_run.specs.Runs.{CutShort, Fails, RunsTo, Stands, TellsFile, read_fault_line as read_fault_line_of};
 
+use crate::fetching::{NoReply, fetch_files};
 use crate::gate::Gate;
+use crate::judging::judge_texts;
 use crate::lines::read_fault_line;
-use crate::reply::{Reply, absent, reply_to_texts, too_long};
+use crate::reply::{Reply, draft_texts};
 use crate::status::Status;
-use crate::words::{Draft, command};
+use crate::words::{Command, Draft, Judge, command_named};
 use glass_base::{Memory, Role, Run};
-use glass_io::{Fetched, Files, Sink, Trouble};
+use glass_io::{Files, Sink, Trouble};
 use std::alloc::Global;
 
-/// The greatest number of bytes of a file that is read.
-const TEXT_LIMIT: u64 = 4_194_304;
-
-/// Why a run has no reply.
-#[derive(Clone, Copy, Debug)]
-pub enum NoReply {
-    /// The file of this role could not be read.
-    ReadFault(Role),
-    /// Memory ran out.
-    Memory,
-}
-
-impl From<Memory> for NoReply {
-    ghost from_gives = { λ _ e. e ≡ OutOfReach };
-
-    fn from(_refused: Memory) -> NoReply {
-        NoReply::Memory
-    }
-}
-
-/// The bytes of a file, or the reply that ends the run where it gives none.
-fn fetch_text<F: Files>(
-    alloc: Global,
-    files: &mut F,
-    role: Role,
-    name: &str,
-) -> Result<Result<Run<u8>, Reply>, NoReply>
-    ensures same { SameContents (F.told files.old) (F.told files.new) }
-    ensures fetched { IfOk result (λ r. IfSome (F.told files.old) (λ contents. Fetches role (contents name.now) r)) }
-    ensures tells { IfOk result (λ r. IfErr r (λ reply. TellsFile reply.status)) }
-    ensures cause { IfErr result (OnFault (λ of. (of ≡ role) × Rose (F.read_faults files.old of) (F.read_faults files.new of))) }
-    ensures counts { NeverFall (F.read_faults files.old) (F.read_faults files.new) (F.write_faults files.old) (F.write_faults files.new) }
-    ensures keeps { F.reliable files.old → F.reliable files.new × IfErr result (OnFault (λ _. ⊥)) }
+/// The reply of a draft to the texts of its files.
+fn draft_fetched(alloc: Global, draft: Draft, texts: &[Run<u8>]) -> Result<Reply, Memory>
+    requires { length texts.now ≡ length (files_of (draft_call (draft_names draft))) }
+    ensures { IfOk result (λ r. AnswersTexts (draft_call (draft_names draft.entry)) (map (λ text. text.items) texts.now) (answer_in r)) }
 {
-    match files.fetch(role, name, TEXT_LIMIT) {
-        Ok(Fetched::Bytes(bytes)) => Ok(Ok(bytes)),
-        Ok(Fetched::Absent) => Ok(Err(absent(alloc, role)?)),
-        Ok(Fetched::TooLong) => Ok(Err(too_long(alloc, role)?)),
-        Err(Trouble::Failed) => Err(NoReply::ReadFault(role)),
-        Err(Trouble::Memory) => Err(NoReply::Memory),
+    match texts {
+        [batch] => draft_texts(alloc, batch.as_slice(), None),
+        [batch, params] => draft_texts(alloc, batch.as_slice(), Some(params.as_slice())),
+        _ => unreachable!(),
     }
 }
 
-/// The reply to the bytes of a batch, with the parameters file of this name if one is named.
-fn reply_with_batch<F: Files>(
-    alloc: Global,
-    files: &mut F,
-    batch: &[u8],
-    params: Option<&str>,
-) -> Result<Reply, NoReply>
-    ensures same { SameContents (F.told files.old) (F.told files.new) }
-    ensures reply { IfOk result (λ r. IfSome (F.told files.old) (λ contents. AnswersOption contents (option_map (λ name. name.now) params.entry) batch.now (answer_in r))) }
-    ensures tells { IfOk result (λ r. TellsFile r.status) }
-    ensures cause { IfErr result (OnFault (λ of. (of ≡ role.Params) × IsSome params.entry × Rose (F.read_faults files.old of) (F.read_faults files.new of))) }
-    ensures counts { NeverFall (F.read_faults files.old) (F.read_faults files.new) (F.write_faults files.old) (F.write_faults files.new) }
-    ensures keeps { F.reliable files.old → F.reliable files.new × IfErr result (OnFault (λ _. ⊥)) }
+/// The reply of `judge` to the texts of its files.
+fn judge_fetched(alloc: Global, judge: Judge, texts: &[Run<u8>]) -> Result<Reply, Memory>
+    requires { length texts.now ≡ length (files_of (judge_call (judge_names judge))) }
+    ensures { IfOk result (λ r. AnswersTexts (judge_call (judge_names judge.entry)) (map (λ text. text.items) texts.now) (answer_in r)) }
 {
-    match params {
-        None => Ok(reply_to_texts(alloc, batch, None)?),
-        Some(name) => match fetch_text(alloc, files, Role::Params, name)? {
-            Ok(text) => Ok(reply_to_texts(alloc, batch, Some(text.as_slice()))?),
-            Err(reply) => Ok(reply),
-        },
+    match texts {
+        [batch, defects, plan] => judge_texts(
+            alloc,
+            batch.as_slice(),
+            defects.as_slice(),
+            None,
+            plan.as_slice(),
+        ),
+        [batch, defects, params, plan] => judge_texts(
+            alloc,
+            batch.as_slice(),
+            defects.as_slice(),
+            Some(params.as_slice()),
+            plan.as_slice(),
+        ),
+        _ => unreachable!(),
     }
 }
 
-/// The reply to what stands under the names of a draft. The files are fetched in their order before one is read.
-fn reply_of<F: Files>(alloc: Global, files: &mut F, draft: Draft) -> Result<Reply, NoReply>
-    ensures same { SameContents (F.told files.old) (F.told files.new) }
-    ensures reply { IfOk result (λ r. IfSome (F.told files.old) (λ contents. AnswersFiles contents (names_in draft.entry) (answer_in r))) }
+/// The reply of a command to the texts of its files.
+fn reply_to_texts(alloc: Global, command: Command, texts: &[Run<u8>]) -> Result<Reply, Memory>
+    requires { length texts.now ≡ length (files_of (call_in command)) }
+    ensures reply { IfOk result (λ r. AnswersTexts (call_in command.entry) (map (λ text. text.items) texts.now) (answer_in r)) }
     ensures tells { IfOk result (λ r. TellsFile r.status) }
-    ensures fetched { IfErr result (OnFault (λ of. IfSome (F.told files.old) (λ contents. IsFetched contents (names_in draft.entry) of))) }
+{
+    match command {
+        Command::Draft(draft) => draft_fetched(alloc, draft, texts),
+        Command::Judge(judge) => judge_fetched(alloc, judge, texts),
+    }
+}
+
+/// The reply of a command to what stands under the names of its files.
+fn reply_of<F: Files>(alloc: Global, files: &mut F, command: Command) -> Result<Reply, NoReply>
+    ensures same { SameContents (F.told files.old) (F.told files.new) }
+    ensures reply { IfOk result (λ r. IfSome (F.told files.old) (λ contents. Answers contents (call_in command.entry) (answer_in r))) }
+    ensures tells { IfOk result (λ r. TellsFile r.status) }
+    ensures reached { IfErr result (OnFault (λ of. IfSome (F.told files.old) (λ contents. Reaches contents of (files_of (call_in command.entry))))) }
     ensures cause { IfErr result (OnFault (λ of. Rose (F.read_faults files.old of) (F.read_faults files.new of))) }
     ensures counts { NeverFall (F.read_faults files.old) (F.read_faults files.new) (F.write_faults files.old) (F.write_faults files.new) }
     ensures keeps { F.reliable files.old → F.reliable files.new × IfErr result (OnFault (λ _. ⊥)) }
 {
-    match fetch_text(alloc, files, Role::Batch, draft.batch)? {
-        Ok(batch) => reply_with_batch(alloc, files, batch.as_slice(), draft.params),
+    match fetch_files(alloc, files, command)? {
+        Ok(texts) => Ok(reply_to_texts(alloc, command, texts.as_slice())?),
         Err(reply) => Ok(reply),
     }
 }
@@ -151,8 +134,9 @@ fn deliver<F: Files, S: Sink>(
 /// Runs a command line, its words being those after the program's name.
 ///
 /// `draft BATCH OUT` stores the plan of the draft of the batch, on plates without defects, and prints its loss and the number
-/// of its plates. The parameters are the challenge's, or those of the file that the option `--params=FILE` names. All is
-/// computed before anything is stored, and a run writes once at the most. A refusal stores nothing and prints its one line.
+/// of its plates. `judge BATCH DEFECTS PLAN` judges anybody's solution file: it prints the loss of a lawful plan, or the first
+/// rule that the plan breaks. The parameters are the challenge's, or those of the file that the option `--params=FILE` names. All
+/// is computed before anything is stored, and a run writes once at the most. A refusal stores nothing and prints its one line.
 pub fn glass<R, F: Files, S: Sink, G: Gate>(
     _rt: &R,
     alloc: Global,
@@ -171,14 +155,14 @@ pub fn glass<R, F: Files, S: Sink, G: Gate>(
     // where nothing fails there is no fault
     ensures no_fault { F.reliable files.old → S.reliable out.old → (result ≢ Status.ReadFault) × (result ≢ Status.WriteFault) }
 {
-    match command(words) {
+    match command_named(words) {
         None => match out.write(b"usage\n") {
             Ok(()) => Status::Usage,
             Err(Trouble::Failed) => Status::WriteFault,
             Err(Trouble::Memory) => Status::Memory,
         },
-        Some(draft) => match reply_of(alloc, files, draft) {
-            Ok(reply) => match deliver(files, out, draft.out, &reply) {
+        Some(command) => match reply_of(alloc, files, command) {
+            Ok(reply) => match deliver(files, out, command.out(), &reply) {
                 Ok(()) => reply.status,
                 Err(Trouble::Failed) => Status::WriteFault,
                 Err(Trouble::Memory) => Status::Memory,

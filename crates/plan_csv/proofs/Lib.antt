@@ -1,0 +1,24 @@
+pub mod WrittenNumbers
+pub mod WrittenRows
+mod Shaped
+mod Told
+mod Refusals
+mod PlateRows
+mod RowsBefore
+mod AcceptedRows
+mod OwnRows
+mod GrownTree
+mod RowsInRange
+mod AddedUp
+mod ReadAgain
+mod FieldsInRange
+mod RowsGrown
+mod RowsAccepted
+mod TreesInRange
+mod AllowedRows
+mod CheckFacts
+mod GrownPieces
+mod GrownRows
+mod NodeFacts
+mod NodeSteps
+mod RowSteps

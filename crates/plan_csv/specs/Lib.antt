@@ -1,1 +1,4 @@
 pub mod Solutions
+pub mod PlanRows
+pub mod PlanTexts
+pub mod ReadNodes

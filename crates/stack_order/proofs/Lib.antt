@@ -5,3 +5,4 @@ pub mod Places
 pub mod Gathers
 pub mod Answered
 pub mod Agreement
+mod Ones

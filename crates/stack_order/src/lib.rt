@@ -4,5 +4,6 @@
 mod breaches;
 pub mod cuts;
 pub mod judge;
+pub mod laws;
 
 pub use judge::judge_order;

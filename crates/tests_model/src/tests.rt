@@ -7,7 +7,7 @@ use cut_model::{
 use defect_map::DefectMap;
 use glass_base::{Defect, Instance, Item, Memory, Params, Run, append};
 use loss_area::loss;
-use plan_csv::write_plan;
+use plan_csv::{read_plan, write_plan};
 use std::alloc::Global;
 use std::test::Fail;
 
@@ -118,6 +118,15 @@ fn a_plan_has_its_rows_its_loss_and_its_text(rt: HostRuntime) -> Result<(), Fail
     assert_eq!(rt; loss(&instance, &plan), 318_500);
     assert_eq!(rt; plates_used(&plan), 1);
     let text = write_plan(rt.alloc(), instance.params(), &plan)?;
+    assert_eq!(rt; text.as_slice(), SMALL_TEXT.as_bytes());
+    Ok(())
+}
+
+#[test]
+fn a_text_is_read_as_the_plan_that_has_it(rt: HostRuntime) -> Result<(), Fail> {
+    let params = Params::usual();
+    let plan = read_plan(rt.alloc(), &params, SMALL_TEXT.as_bytes())?;
+    let text = write_plan(rt.alloc(), &params, &plan)?;
     assert_eq!(rt; text.as_slice(), SMALL_TEXT.as_bytes());
     Ok(())
 }

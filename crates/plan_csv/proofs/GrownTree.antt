@@ -1,0 +1,90 @@
+-- The tree that a plan's rows say is the plan's own.
+use Rattle.std.proofs.Common.{◌≡◌, ◌≤◌, ℕ, zero, suc, ◌+◌, List, [], ◌∷◌, Bool, true, false, refl, sym, subst, ap, ◌∙◌, arith}
+use Rattle.glass_base.specs.declared.params.Params.{Params}
+use Rattle.cut_model.specs.declared.plan.Plan.{Plan}
+use Rattle.cut_model.specs.declared.family.Row.{Row}
+use Rattle.cut_model.specs.declared.family.Sort.{Sort}
+use Rattle.cut_model.specs.declared.family.Along.{Along}
+use Rattle.cut_model.specs.declared.family.Area.{Area}
+use Rattle.cut_model.specs.Tree.{Forest, nothing, piece, count, tree, type_number}
+use Rattle.cut_model.specs.Families.{behind, row_at, first_plate, rows_of, side_along}
+use Rattle.cut_model.specs.Parents.{rows_in, tops}
+use Rattle.plan_csv.specs.PlanTexts.{lies, sort_named, grown, tree_of}
+use Rattle.plan_csv.proofs.Shaped.{IsOfLevel, IsShaped, tree_shaped}
+use Rattle.plan_csv.proofs.Told.{place_in, behind_next}
+use Rattle.plan_csv.proofs.PlateRows.{own_plates}
+use Rattle.plan_csv.proofs.RowsBefore.{inside_lies, side_is}
+use Rattle.plan_csv.proofs.OwnRows.{AllOwn, plan_own}
+
+-- a type names the sort that it is the number of
+sort_again : (sort : Sort) → sort_named (type_number sort) ≡ sort
+sort_again (Sort.Item number) = refl
+sort_again Sort.Waste = refl
+sort_again Sort.Branch = refl
+sort_again Sort.Residual = refl
+
+-- only plates lie apart
+lies_plates : (level : ℕ) → lies level ≡ Along.Plates → level ≡ 0
+lies_plates zero e = refl
+lies_plates (suc zero) e = cc
+lies_plates (suc (suc zero)) e = cc
+lies_plates (suc (suc (suc zero))) e = cc
+lies_plates (suc (suc (suc (suc n)))) e = cc
+
+-- what is grown inside a row, down to this depth
+abbrev grown_inside : ℕ → List Row → Row → Forest
+grown_inside zero whole r = nothing
+grown_inside (suc depth) whole r = grown depth whole (rows_in r.node whole)
+
+-- nothing grows of no row
+grown_nothing : (depth : ℕ) (whole : List Row) → grown depth whole [] ≡ nothing
+grown_nothing zero whole = refl
+grown_nothing (suc depth) whole = refl
+
+-- the first row is a piece, and the rows behind it are those behind it
+grown_row : (depth : ℕ) (whole : List Row) (r : Row) (rows : List Row) → grown depth whole (r ∷ rows) ≡ piece (side_along (lies r.cut) r) (sort_named r.kind) (grown_inside depth whole r) (grown depth whole rows)
+grown_row zero whole r rows = refl
+grown_row (suc depth) whole r rows = refl
+
+-- a leaf has nothing inside
+leaf_empty : (level : ℕ) (sort : Sort) (inner : Forest) → 4 ≤ level → IsOfLevel level sort inner → inner ≡ nothing
+leaf_empty level (Sort.Item number) inner le h = h.empty
+leaf_empty level Sort.Waste inner le h = h.empty
+leaf_empty level Sort.Branch inner le h = absurd (omega (arith, le, h.shallow))
+leaf_empty level Sort.Residual inner le h = h.empty
+
+-- what is grown inside a row is what is inside its piece, where that holds of the next level
+grown_inside_is : (depth : ℕ) (whole : List Row) (at place : Area) (node size : ℕ) (sort : Sort) (inner : Forest) →
+    rows_in node whole ≡ tops place true (node + 1) inner → at.cut + depth ≡ 4 → IsOfLevel at.cut sort inner →
+    ((d : ℕ) → at.cut + 1 + d ≡ 4 → grown d whole (tops place true (node + 1) inner) ≡ inner) →
+    grown_inside depth whole (row_at at node size sort) ≡ inner
+grown_inside_is zero whole at place node size sort inner own deep level more = sym (leaf_empty at.cut sort inner (omega (arith, deep)) level)
+grown_inside_is (suc depth) whole at place node size sort inner own deep level more = ap (grown depth whole) own ∙ more depth (omega (arith, deep))
+
+-- the rows of a list of neighbours grow into it again
+grown_again : (whole : List Row) (depth : ℕ) (at : Area) (first : Bool) (node : ℕ) (forest : Forest) →
+    at.along ≡ lies at.cut → at.cut + depth ≡ 4 → IsShaped at.cut forest → AllOwn whole at first node forest →
+    grown depth whole (tops at first node forest) ≡ forest
+unfolding tops
+grown_again whole depth at first node nothing lie deep shape own = grown_nothing depth whole
+grown_again whole depth at first node (piece size sort inner later) lie deep shape own =
+    let r : Row = row_at at node size sort in
+    let place : Area = place_in at first node size sort inner later in
+    let next = behind_next at size in
+    let side : side_along (lies at.cut) r ≡ size = side_is at node size sort (lies at.cut) lie (λ plates. shape.0 (lies_plates at.cut plates)) in
+    let inside : grown_inside depth whole r ≡ inner =
+    grown_inside_is depth whole at place node size sort inner own.0 deep shape.1
+    (λ d e. grown_again whole d place true (node + 1) inner (inside_lies at.along at.cut lie (omega (arith, e))) e shape.2 own.1) in
+    let rest : grown depth whole (tops (behind at size) false (node + 1 + count inner) later) ≡ later =
+    grown_again whole depth (behind at size) false (node + 1 + count inner) later
+    (next.along ∙ lie ∙ ap lies (sym next.cut)) (omega (arith, deep, next.cut))
+    (subst (λ (level : ℕ). IsShaped level later) (sym next.cut) shape.3) own.2 in
+    grown_row depth whole r (tops (behind at size) false (node + 1 + count inner) later)
+    ∙ rw (side, sort_again sort, inside, rest) refl
+
+-- the tree of a plan's rows is the plan
+pub plan_grown : (p : Params) (plan : Plan) → tree_of (rows_of p (tree plan)) ≡ tree plan
+plan_grown p plan =
+    let rs : List Row = rows_of p (tree plan) in
+    ap (grown 4 rs) (own_plates (first_plate p) true 0 (tree plan) refl)
+    ∙ grown_again rs 4 (first_plate p) true 0 (tree plan) refl refl (tree_shaped plan) (plan_own p (tree plan))

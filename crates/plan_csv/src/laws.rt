@@ -1,0 +1,27 @@
+//! Laws of the definitions on solution texts. The functions do nothing: their contracts are the laws.
+
+ghost use Rattle.std.specs.Prelude.{◌≡◌, ◌≤◌, ℕ, List, All, Ok};
+ghost use Rattle.glass_base.specs.declared.params.Params.{Params};
+ghost use Rattle.cut_model.specs.declared.plan.Plan.{Plan};
+ghost use Rattle.cut_model.specs.Families.{families_of, rows_of};
+ghost use Rattle.cut_model.specs.Fits.{Fits};
+ghost use Rattle.cut_model.specs.Rules.{AddsUp};
+ghost use Rattle.cut_model.specs.Tree.{Forest, count, tree};
+ghost use Rattle.plan_csv.specs.PlanTexts.{IsWritable, IsWithin, plan_said};
+ghost use Rattle.plan_csv.specs.Solutions.{solution_text};
+
+/// What is written is read again as the same plan, for each plan that is writable: it fits, its rows begin within 20,000 mm of
+/// the plate's corner, and it has at most 1,000,000,000 rows.
+pub fn plans_are_read_again()
+    ensures { (params : Params) → (plan : Plan) → IsWritable params (tree plan) → plan_said params (solution_text params (tree plan)) ≡ Ok (tree plan) }
+{}
+
+/// Where the children of each piece add up to its size, the rows of a plan that fits begin within 20,000 mm.
+pub fn plans_that_add_up_are_within()
+    ensures { (params : Params) → (plan : Plan) → Fits (tree plan) → All (λ f. AddsUp f f.sort) (families_of params (tree plan)) → All IsWithin (rows_of params (tree plan)) }
+{}
+
+/// The tree that a text says fits, and has at most 1,000,000,000 rows.
+pub fn plans_that_are_read_fit()
+    ensures { (params : Params) → (bytes : List ℕ) → (plan : Forest) → plan_said params bytes ≡ Ok plan → Fits plan × (count plan ≤ 1000000000) }
+{}

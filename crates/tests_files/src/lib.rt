@@ -1,0 +1,5 @@
+//! Tests of the system's files and of standard output.
+#![tactic(auto)]
+
+#[cfg(test)]
+mod tests;
