@@ -1,4 +1,4 @@
--- What a run stores and prints, by what stands under the name of the batch.
+-- What a run stores and prints, and what a draft answers to the bytes of its files.
 use Rattle.std.specs.Prelude.{◌≡◌, ◌⊎◌, ◌++◌, ℕ, List, [], Option, Some, None, Result, Ok, Err, codes, option_map}
 use Rattle.std.specs.Fmt.{decimal}
 use Rattle.std.specs.String.{string_bytes}
@@ -37,9 +37,9 @@ pub record Answer : Type 0 where
 abbrev pub answer_in : Reply → Answer
 answer_in r = record { status = r.status; text = option_map (λ run. run.items) r.text; lines = string_bytes r.lines }
 
--- an answer that stores nothing
-abbrev pub refusal : Status → List ℕ → Answer
-refusal status lines = record { status = status; text = None; lines = lines }
+-- an answer that stores nothing and prints these lines
+abbrev pub only_lines : Status → List ℕ → Answer
+only_lines status lines = record { status = status; text = None; lines = lines }
 
 -- the word by which a line names a file
 abbrev pub role_word : Role → List ℕ
@@ -53,20 +53,20 @@ abbrev pub absent_line : Role → List ℕ
 absent_line of = codes "absent " ++ role_word of ++ codes "\n"
 
 abbrev pub absent : Role → Answer
-absent of = refusal status.Absent (absent_line of)
+absent of = only_lines status.Absent (absent_line of)
 
 abbrev pub too_long_line : Role → List ℕ
 too_long_line of = codes "too long " ++ role_word of ++ codes "\n"
 
 abbrev pub too_long : Role → Answer
-too_long of = refusal status.TooLong (too_long_line of)
+too_long of = only_lines status.TooLong (too_long_line of)
 
 -- a refusal by its number and its two values
 abbrev pub bad_input_line : Role → ℕ → ℕ → ℕ → List ℕ
 bad_input_line of number x y = codes "bad input " ++ role_word of ++ codes " " ++ decimal number ++ codes " " ++ decimal x ++ codes " " ++ decimal y ++ codes "\n"
 
 abbrev pub bad_input : Role → ℕ → ℕ → ℕ → Answer
-bad_input of number x y = refusal status.BadInput (bad_input_line of number x y)
+bad_input of number x y = only_lines status.BadInput (bad_input_line of number x y)
 
 -- the answer to parameters that are refused
 abbrev pub params_refused : BadParams → Answer
@@ -96,7 +96,7 @@ abbrev pub no_draft_line : ℕ → List ℕ
 no_draft_line number = codes "no draft " ++ decimal number ++ codes "\n"
 
 abbrev pub no_draft : ℕ → Answer
-no_draft number = refusal status.NoDraft (no_draft_line number)
+no_draft number = only_lines status.NoDraft (no_draft_line number)
 
 -- the loss of a plan and the number of its plates
 abbrev pub summary : ℕ → ℕ → List ℕ

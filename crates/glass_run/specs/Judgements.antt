@@ -24,7 +24,7 @@ use Rattle.stack_order.specs.Cuts.{cuts_of}
 use Rattle.plan_csv.specs.PlanTexts.{plan_said}
 use Rattle.plan_csv.specs.declared.bad_plan.BadPlan.{BadPlan}
 use Rattle.plan_csv.specs.declared.bad_plan.BadPlan.TheVariants as bad_plan
-use Rattle.glass_run.specs.Answers.{Answer, ListsRefused, TextRefused, WithParams, bad_input, refusal}
+use Rattle.glass_run.specs.Answers.{Answer, ListsRefused, TextRefused, WithParams, bad_input, only_lines}
 use Rattle.glass_run.specs.declared.status.Status.TheVariants as status
 
 -- the word by which a line names a rule
@@ -51,14 +51,14 @@ unlawful_line b =
     ++ decimal b.left ++ codes " " ++ decimal b.right ++ codes "\n"
 
 abbrev pub unlawful : Broken → Answer
-unlawful b = refusal status.Unlawful (unlawful_line b)
+unlawful b = only_lines status.Unlawful (unlawful_line b)
 
 abbrev pub lawful_line : ℕ → List ℕ
 lawful_line loss = codes "lawful loss " ++ decimal loss ++ codes "\n"
 
 -- the loss of a lawful plan
 abbrev pub lawful : ℕ → Answer
-lawful loss = refusal status.Done (lawful_line loss)
+lawful loss = only_lines status.Done (lawful_line loss)
 
 -- the first breach of a plan: the rules on cuts come before those on the order of items
 abbrev pub IsFirstBroken : Problem → Forest → Broken → Type 0

@@ -12,7 +12,7 @@ ghost use Rattle.glass_run.specs.Answers.{WithParams, answer_in};
 ghost use Rattle.glass_run.specs.Judgements.{Judges, JudgesBatch, JudgesDefects, JudgesLists, JudgesPlan, JudgesTexts, PlanRefused, lawful as lawful_of, unlawful as unlawful_of};
 
 use crate::lines::{lawful_line, unlawful_line};
-use crate::reply::{Reply, bad_input, lists_refused, params_of, refuse, text_refused};
+use crate::reply::{Reply, bad_input, lists_refused, only_lines, params_of, text_refused};
 use crate::status::Status;
 use batch_csv::read_batch;
 use cut_model::{Broken, Plan};
@@ -29,14 +29,14 @@ use stock_csv::read_defects;
 fn unlawful(alloc: Global, broken: &Broken) -> Result<Reply, Memory>
     ensures { IfOk result (λ r. answer_in r ≡ unlawful_of broken.now) }
 {
-    Ok(refuse(Status::Unlawful, unlawful_line(alloc, broken)?))
+    Ok(only_lines(Status::Unlawful, unlawful_line(alloc, broken)?))
 }
 
 /// The reply to a lawful plan of this loss.
 fn lawful(alloc: Global, loss: u64) -> Result<Reply, Memory>
     ensures { IfOk result (λ r. answer_in r ≡ lawful_of loss) }
 {
-    Ok(refuse(Status::Done, lawful_line(alloc, loss)?))
+    Ok(only_lines(Status::Done, lawful_line(alloc, loss)?))
 }
 
 /// The reply to a text that is no plan.

@@ -8,7 +8,7 @@ ghost use Rattle.glass_base.specs.Items.{IsItemInRange};
 ghost use Rattle.glass_base.specs.declared.bad_text.BadText.TheVariants as bad_text;
 ghost use Rattle.glass_base.specs.declared.instance.BadInstance.TheVariants as bad_instance;
 ghost use Rattle.batch_csv.specs.Batches.{items_of};
-ghost use Rattle.glass_run.specs.Answers.{AnswersInstance, AnswersItems, Drafts, ListsRefused, ParamsGiven, WithParams, TextRefused, absent as absent_of, answer_in, bad_input as bad_input_of, drafted, params_refused as params_refused_of, refusal, too_long as too_long_of};
+ghost use Rattle.glass_run.specs.Answers.{AnswersInstance, AnswersItems, Drafts, ListsRefused, ParamsGiven, WithParams, TextRefused, absent as absent_of, answer_in, bad_input as bad_input_of, drafted, only_lines as only_lines_of, params_refused as params_refused_of, too_long as too_long_of};
 
 use crate::lines::{absent_line, bad_input_line, no_draft_line, summary_lines, too_long_line};
 use crate::status::Status;
@@ -29,9 +29,9 @@ pub struct Reply {
     pub lines: String,
 }
 
-/// A reply that stores nothing and prints this.
-pub(crate) fn refuse(status: Status, lines: String) -> Reply
-    ensures { answer_in result ≡ refusal status (string_bytes lines) }
+/// A reply that stores nothing and prints these lines.
+pub(crate) fn only_lines(status: Status, lines: String) -> Reply
+    ensures { answer_in result ≡ only_lines_of status (string_bytes lines) }
 {
     Reply {
         status,
@@ -44,14 +44,14 @@ pub(crate) fn refuse(status: Status, lines: String) -> Reply
 pub(crate) fn absent(alloc: Global, role: Role) -> Result<Reply, Memory>
     ensures { IfOk result (λ r. answer_in r ≡ absent_of role) }
 {
-    Ok(refuse(Status::Absent, absent_line(alloc, role)?))
+    Ok(only_lines(Status::Absent, absent_line(alloc, role)?))
 }
 
 /// The reply to a file that is longer than its limit.
 pub(crate) fn too_long(alloc: Global, role: Role) -> Result<Reply, Memory>
     ensures { IfOk result (λ r. answer_in r ≡ too_long_of role) }
 {
-    Ok(refuse(Status::TooLong, too_long_line(alloc, role)?))
+    Ok(only_lines(Status::TooLong, too_long_line(alloc, role)?))
 }
 
 /// The reply to a refusal of this number.
@@ -64,7 +64,7 @@ pub(crate) fn bad_input(
 ) -> Result<Reply, Memory>
     ensures { IfOk result (λ r. answer_in r ≡ bad_input_of role number first second) }
 {
-    Ok(refuse(
+    Ok(only_lines(
         Status::BadInput,
         bad_input_line(alloc, role, number, first, second)?,
     ))
@@ -140,7 +140,7 @@ fn reply_to_instance(alloc: Global, instance: &Instance) -> Result<Reply, Memory
 {
     match draft_plan(alloc, instance)? {
         Ok(plan) => reply_with_plan(alloc, instance, &plan),
-        Err(number) => Ok(refuse(Status::NoDraft, no_draft_line(alloc, number)?)),
+        Err(number) => Ok(only_lines(Status::NoDraft, no_draft_line(alloc, number)?)),
     }
 }
 
