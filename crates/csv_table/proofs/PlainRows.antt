@@ -10,7 +10,7 @@ use Rattle.csv.specs.Reading.{records_from, strip_bom}
 use Rattle.csv.specs.Writing.{needs_byte}
 use Rattle.csv.specs.declared.parser.State.TheVariants as st
 use Rattle.csv_table.specs.Lines.{IsPlain, ArePlain, line_of, semicolons as written}
-use Rattle.csv_table.specs.Rows.{rows_of, semicolons}
+use Rattle.csv_table.specs.Rows.{table_rows, semicolons}
 
 -- a byte that is no mark of a table
 record IsOrdinary (b : ℕ) : Type 0 where
@@ -132,7 +132,7 @@ length-lines (fields ∷ rows) =
     omega (arith, length-append (line_of fields) (flat_map line_of rows), length-append (join_with_byte 59 fields) (10 ∷ []))
 
 -- a text of lines that does not begin with a byte order mark reads as these lines' fields
-pub rows_of_lines : (rows : List (List (List ℕ))) → All IsLine rows → strip_bom (flat_map line_of rows) ≡ flat_map line_of rows → rows_of (flat_map line_of rows) ≡ rows
+pub rows_of_lines : (rows : List (List (List ℕ))) → All IsLine rows → strip_bom (flat_map line_of rows) ≡ flat_map line_of rows → table_rows (flat_map line_of rows) ≡ rows
 rows_of_lines rows h e = rw e (lines_run rows (length (flat_map line_of rows) + 1) h (omega (arith, length-lines rows)))
 
 -- a text that begins with another byte has no byte order mark

@@ -12,7 +12,7 @@ use Rattle.csv.specs.Reading.{RowStep, is_flexible}
 use Rattle.csv.specs.Records.{Row, fields_of}
 use Rattle.csv.specs.declared.iter.ByteRecordsIntoIter.{ByteRecordsIntoIter}
 use Rattle.std.proofs.Common.{Ok, inl}
-use Rattle.csv_table.specs.Rows.{IsOpen, rows_from, rows_left, rows_of, semicolons}
+use Rattle.csv_table.specs.Rows.{IsOpen, rows_from, rows_left, table_rows, semicolons}
 
 -- where this step ends a row, its state stands between rows
 abbrev Between : State × Action → Type 0
@@ -167,7 +167,7 @@ length-strip_bom (a ∷ b ∷ c ∷ rest) = by (is_bom a b c)
     by true = omega arith
     by false = omega arith
 
-pub length-rows_of : (bytes : List ℕ) → length (rows_of bytes) ≤ length bytes
-length-rows_of bytes =
+pub length-table_rows : (bytes : List ℕ) → length (table_rows bytes) ≤ length bytes
+length-table_rows bytes =
     let a = length-records semicolons (length (strip_bom bytes) + 1) st.StartRecord (strip_bom bytes) refl in
     omega (arith, length-strip_bom bytes)

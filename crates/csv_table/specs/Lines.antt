@@ -1,11 +1,16 @@
 -- The lines of a table.
-use Rattle.std.specs.Prelude.{◌≡◌, ◌++◌, ℕ, List, [], ◌∷◌, Option, Some, None, Vec, false}
+use Rattle.std.specs.Prelude.{◌≡◌, ◌++◌, ℕ, List, [], ◌∷◌, Bool, Option, Some, None, Vec, false}
 use Rattle.std.specs.Fmt.{decimal}
 use Rattle.std.specs.List.{join_with_byte}
 use Rattle.std.specs.declared.alloc.Global.{Global}
 use Rattle.csv.specs.Writing.{default_writer, fields_written, has_written, needs_quotes, text_written, writer_setup}
 use Rattle.csv.specs.declared.writer.Writer.{Writer}
 use Rattle.csv.specs.declared.writer.WriterBuilder.{WriterBuilder}
+
+-- lines as contracts see them: their text, and whether memory ran out, after which they are lost
+pub record Written : Type 0 where
+  pub text : List ℕ
+  pub failed : Bool
 
 -- fields between semicolons, and a line feed
 abbrev pub line_of : List (List ℕ) → List ℕ

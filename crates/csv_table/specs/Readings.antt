@@ -3,7 +3,7 @@ use Rattle.std.specs.Prelude.{◌≡◌, ◌==◌, ◌+◌, ◌*◌, ℕ, List, 
 use Rattle.glass_base.specs.declared.bad_text.BadText.{BadText}
 use Rattle.glass_base.specs.declared.bad_text.BadText.TheVariants as bad
 use Rattle.csv_table.specs.Numbers.{decimal, millionths_in}
-use Rattle.csv_table.specs.Rows.{rows_of}
+use Rattle.csv_table.specs.Rows.{table_rows}
 use Rattle.csv_table.specs.declared.number.Decimal.{Decimal}
 
 -- what is read next is read from this, unless it was refused
@@ -19,6 +19,7 @@ Fails (bad.Record row fields) said = said ≡ Err (bad.Record row fields)
 Fails (bad.Number row column) said = said ≡ Err (bad.Number row column)
 Fails (bad.Range row column) said = said ≡ Err (bad.Range row column)
 Fails (bad.EmptyDefect row) said = said ≡ Err (bad.EmptyDefect row)
+Fails (bad.ZeroWidth row) said = said ≡ Err (bad.ZeroWidth row)
 Fails (bad.Params reason) said = said ≡ Err (bad.Params reason)
 
 -- what a function returned, seen by `view`, is what the definition says, unless memory ran out
@@ -57,4 +58,4 @@ each_row say row (fields ∷ rest) = say row fields >>= λ x. each_row say (row 
 
 -- what a table says: all its rows but the first, which is skipped
 abbrev pub table : {A : Type 0} → (ℕ → List (List ℕ) → Result A BadText) → List ℕ → Result (List A) BadText
-table say bytes = each_row say 2 (drop 1 (rows_of bytes))
+table say bytes = each_row say 2 (drop 1 (table_rows bytes))

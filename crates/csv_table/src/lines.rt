@@ -1,9 +1,9 @@
 //! The lines of a table, written with `csv`.
 
-ghost use Rattle.std.specs.Prelude.{◌≡◌, ◌++◌, ◌≤◌, ℕ, List, [], ◌∷◌, OnOk, IfOk, IsSome, map, length, false, true, if◌then◌else◌, unwrap_or, All};
+ghost use Rattle.std.specs.Prelude.{◌≡◌, ◌++◌, ◌≤◌, ◌↔◌, [], OnOk, IfOk, IsErr, map, length, false, true};
 ghost use Rattle.std.specs.Fmt.{decimal, signed_decimal};
 ghost use Rattle.csv.specs.Writing.{row_text};
-ghost use Rattle.csv_table.specs.Lines.{IsBetween, IsPlain, ArePlain, number_or_none, line_of, semicolons, text_in, Wrote};
+ghost use Rattle.csv_table.specs.Lines.{IsBetween, IsPlain, ArePlain, number_or_none, line_of, semicolons, Wrote};
 
 use csv::{Writer, WriterBuilder};
 use glass_base::{Memory, Run};
@@ -11,7 +11,7 @@ use itoa::Buffer;
 use std::alloc::Global;
 use std::marker::Model;
 
-/// The lines of a table that were written so far. Once memory ran out it fails from then on.
+/// The lines of a table that were written so far. Once memory ran out each call fails.
 #[derive(Drop)]
 pub struct Lines {
     writer: Writer<Vec<u8>>,
@@ -19,9 +19,12 @@ pub struct Lines {
 }
 
 impl Model for Lines {
-    ghost Value = { List ℕ };
+    ghost use Rattle.std.specs.Prelude.{◌≡◌, [], false, unwrap_or};
+    ghost use Rattle.csv_table.specs.Lines.{IsBetween, Written, text_in};
 
-    ghost view = { λ w. if w.failed then [] else unwrap_or (text_in w.writer) [] };
+    ghost Value = { Written };
+
+    ghost view = { λ w. record { text = unwrap_or (text_in w.writer) []; failed = w.failed } };
 
     ghost invariant = { λ w. w.failed ≡ false → IsBetween w.writer };
 }
@@ -41,7 +44,8 @@ fn push_line(writer: &mut Writer<Vec<u8>>, fields: &[&[u8]]) -> Result<(), Memor
 impl Lines {
     /// No line.
     pub fn new(alloc: Global) -> Lines
-        ensures { result ≡ [] }
+        ensures text { result.text ≡ [] }
+        ensures failed { result.failed ≡ false }
     {
         let writer = WriterBuilder::new()
             .delimiter(b';')
@@ -52,11 +56,14 @@ impl Lines {
         }
     }
 
-    /// Writes one line of two fields or more, none of which needs quotes.
+    /// Writes one line of two fields or more, none of which needs quotes. After an error each call fails, and the lines are
+    /// lost.
     pub fn write_line(&mut self, fields: &[&[u8]]) -> Result<(), Memory>
         requires some { 2 ≤ length fields.now }
         requires plain { ArePlain (map (λ f. f.now) fields.now) }
-        ensures { OnOk result (self.new ≡ self.old ++ line_of (map (λ f. f.now) fields.now)) }
+        ensures ok { OnOk result (self.new.text ≡ self.old.text ++ line_of (map (λ f. f.now) fields.now)) }
+        ensures err { IsErr result ↔ (self.new.failed ≡ true) }
+        ensures failed { self.old.failed ≡ true → IsErr result }
     {
         if self.failed {
             return Err(Memory);
@@ -70,9 +77,10 @@ impl Lines {
         }
     }
 
-    /// The text of the lines.
+    /// The text of the lines. It fails where memory ran out, now or before.
     pub fn into_text(self) -> Result<Run<u8>, Memory>
-        ensures { IfOk result (λ text. text.items ≡ self) }
+        ensures text { IfOk result (λ text. text.items ≡ self.text) }
+        ensures failed { self.failed ≡ true → IsErr result }
     {
         if self.failed {
             return Err(Memory);

@@ -1,8 +1,8 @@
 //! The rows of a table, one at a time.
 
-ghost use Rattle.std.specs.Prelude.{◌≡◌, ◌≤◌, length, [], ◌∷◌, ℕ, List, IfOk, MatchOption, false, if◌then◌else◌};
+ghost use Rattle.std.specs.Prelude.{◌≡◌, ◌≤◌, length, [], ◌∷◌, ℕ, List, IfOk, OnErr, MatchOption, false, if◌then◌else◌};
 ghost use Rattle.csv.specs.Records.{fields_of};
-ghost use Rattle.csv_table.specs.Rows.{IsOpen, rows_left, rows_of};
+ghost use Rattle.csv_table.specs.Rows.{IsOpen, rows_left, table_rows};
 
 use csv::{ByteRecord, ByteRecordsIntoIter, ErrorKind, ReaderBuilder};
 use glass_base::Memory;
@@ -31,7 +31,7 @@ impl<'a> Model for Rows<'a> {
 impl<'a> Rows<'a> {
     /// All the rows of a table.
     pub fn new(alloc: Global, bytes: &'a [u8]) -> Self
-        ensures value { result ≡ rows_of bytes.now }
+        ensures value { result ≡ table_rows bytes.now }
         ensures few { length result ≤ length bytes.now }
     {
         let records = ReaderBuilder::new()
@@ -46,9 +46,10 @@ impl<'a> Rows<'a> {
         }
     }
 
-    /// The next row, or none at the end.
+    /// The next row, or none at the end. After an error there are no more rows.
     pub fn next_row(&mut self) -> Result<Option<ByteRecord>, Memory>
-        ensures { IfOk result (λ o. MatchOption o ((self.old ≡ []) × (self.new ≡ [])) (λ r. self.old ≡ fields_of r ∷ self.new)) }
+        ensures ok { IfOk result (λ o. MatchOption o ((self.old ≡ []) × (self.new ≡ [])) (λ r. self.old ≡ fields_of r ∷ self.new)) }
+        ensures err { OnErr result (self.new ≡ []) }
     {
         if self.ended {
             return Ok(None);

@@ -3,11 +3,12 @@ use Rattle.std.proofs.Common.{◌≡◌, ℕ, ◌+◌, List, [], ◌++◌, map, 
 use Rattle.std.specs.List.{cons_option}
 use Rattle.std.proofs.lemmas.List.{map-append}
 use Rattle.std.proofs.lemmas.List.Elements.{filter_map-append}
-use Rattle.glass_base.specs.declared.params.Params.{Params}
+use Rattle.glass_base.specs.Problem.{Problem}
 use Rattle.cut_model.specs.declared.family.Area.{Area}
 use Rattle.cut_model.specs.declared.family.Family.{Family}
 use Rattle.cut_model.specs.Tree.{Forest, nothing, piece, is_nothing, children_in, count, type_number}
 use Rattle.cut_model.specs.Families.{family_with, families, inside, behind, first_plate, rows_of}
+use Rattle.cut_model.specs.Sized.{sized, on_plates}
 use Rattle.cut_model.specs.Order.{cut_order, item_named}
 
 -- the numbers of the items of a tree, in cutting order
@@ -35,5 +36,11 @@ families_cut at first node (piece size sort inner later) =
     ∙ ap (λ (l : List ℕ). l ++ items_of after) (families_cut (inside f) true (node + 1) inner)
     ∙ ap (λ (l : List ℕ). items_in inner ++ l) (families_cut (behind at size) false (node + 1 + count inner) later))
 
-pub rows_cut : (p : Params) (plan : Forest) → cut_order (rows_of p plan) ≡ items_in plan
-rows_cut p plan = families_cut (first_plate p) true 0 plan
+-- plates are cut as the plan says, whatever their widths
+pub sized_cut : (b : Problem) (plate : ℕ) (plan : Forest) → items_in (sized b plate plan) ≡ items_in plan
+sized_cut b plate nothing = refl
+sized_cut b plate (piece size sort inner later) =
+    ap (λ (l : List ℕ). cons_option (item_named (type_number sort)) (items_in inner ++ l)) (sized_cut b (plate + 1) later)
+
+pub rows_cut : (b : Problem) (plan : Forest) → cut_order (rows_of b plan) ≡ items_in plan
+rows_cut b plan = families_cut (first_plate b) true 0 (on_plates b plan) ∙ sized_cut b 0 plan

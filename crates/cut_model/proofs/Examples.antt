@@ -1,8 +1,9 @@
 -- The definitions on worked plans, computed.
 use Rattle.std.proofs.Common.{◌≡◌, ℕ, ◌+◌, List, [], ◌∷◌, refl, Some, None, arith}
-use Rattle.std.specs.Prelude.{pos, negsuc, ℤ, Option}
+use Rattle.std.specs.Prelude.{pos, negsuc, ℤ, Option, replicate}
 use Rattle.glass_base.specs.declared.params.Params.{Params}
 use Rattle.glass_base.specs.declared.item.Item.{Item}
+use Rattle.glass_base.specs.Plates.{Before, Width}
 use Rattle.glass_base.specs.Problem.{Problem}
 use Rattle.cut_model.specs.declared.plan.Plan.{Plan}
 use Rattle.cut_model.specs.declared.plan.Plate.{Plate}
@@ -55,7 +56,11 @@ item number length width = record { id = number; length = length; width = width;
 
 -- items of one stack
 abbrev pub batch : List Item → List ℕ → Problem
-batch items places = record { params = usual; items = items; defects = []; stacks = places ∷ [] }
+batch items places = record { params = usual; items = items; defects = []; widths = replicate 100 6000; stacks = places ∷ [] }
+
+-- plates of the challenge, where the items do not matter
+abbrev pub stock : Problem
+stock = batch [] []
 
 abbrev pub plate : List Piece1 → Plate
 plate pieces = record { pieces = record { items = pieces; spare = 0 } }
@@ -108,21 +113,22 @@ turned_plan =
     ∷ [])
     ∷ [])
 
-turned_rows : rows_of usual (tree turned_plan) ≡
+turned_rows : rows_of stock (tree turned_plan) ≡
     row 0 0 0 0 6000 3210 (negsuc 1) 0 None
     ∷ row 0 1 0 0 300 3210 (negsuc 1) 1 (Some 0)
     ∷ row 0 2 0 0 300 500 (pos 0) 2 (Some 1)
     ∷ row 0 3 0 500 300 2710 (negsuc 0) 2 (Some 1)
     ∷ row 0 4 300 0 5700 3210 (negsuc 2) 1 (Some 0)
     ∷ []
-unfolding families
+unfolding families Width
 turned_rows = refl
 
-turned_loss : loss_of usual (tree turned_plan) ≡ 813000
-unfolding families
+turned_loss : loss_of stock (tree turned_plan) ≡ 813000
+unfolding families Width
 turned_loss = refl
 
 turned_trace : trace_of (batch (item 0 500 300 ∷ []) (0 ∷ [])) (tree turned_plan) ≡ step 0 1 0 0 0 300 0 500 0 ∷ []
+unfolding Width
 turned_trace = refl
 
 -- an item of 50 by 50 in a cell of a strip of 100 and a band of 100
@@ -150,7 +156,7 @@ small_plan =
     ∷ [])
     ∷ [])
 
-small_rows : rows_of usual (tree small_plan) ≡
+small_rows : rows_of stock (tree small_plan) ≡
     row 0 0 0 0 6000 3210 (negsuc 1) 0 None
     ∷ row 0 1 0 0 100 3210 (negsuc 1) 1 (Some 0)
     ∷ row 0 2 0 0 100 100 (negsuc 1) 2 (Some 1)
@@ -161,21 +167,23 @@ small_rows : rows_of usual (tree small_plan) ≡
     ∷ row 0 7 0 100 100 3110 (negsuc 0) 2 (Some 1)
     ∷ row 0 8 100 0 5900 3210 (negsuc 2) 1 (Some 0)
     ∷ []
-unfolding families
+unfolding families Width
 small_rows = refl
 
 -- the wastes of 2500, 5000 and 311000
-small_loss : loss_of usual (tree small_plan) ≡ 318500
-unfolding families
+small_loss : loss_of stock (tree small_plan) ≡ 318500
+unfolding families Width
 small_loss = refl
 
 abbrev small_steps : List Step
 small_steps = step 0 0 0 0 0 100 0 100 0 ∷ []
 
 small_trace : trace_of (batch (item 0 50 50 ∷ []) (0 ∷ [])) (tree small_plan) ≡ small_steps
+unfolding Width
 small_trace = refl
 
-small_length : length_of usual small_steps ≡ 100
+small_length : length_of stock small_steps ≡ 100
+unfolding Before Width
 small_length = refl
 
 -- four items, of which the second and the third stand one over the other
@@ -215,17 +223,19 @@ four_steps =
     ∷ []
 
 four_trace : trace_of (batch four_items (0 ∷ 1 ∷ 2 ∷ 3 ∷ [])) (tree four_plan) ≡ four_steps
+unfolding Width
 four_trace = refl
 
-four_length : length_of usual four_steps ≡ 800
+four_length : length_of stock four_steps ≡ 800
+unfolding Before Width
 four_length = refl
 
-four_loss : loss_of usual (tree four_plan) ≡ 0
-unfolding families
+four_loss : loss_of stock (tree four_plan) ≡ 0
+unfolding families Width
 four_loss = refl
 
-four_order : cut_order (rows_of usual (tree four_plan)) ≡ 0 ∷ 1 ∷ 2 ∷ 3 ∷ []
-unfolding families
+four_order : cut_order (rows_of stock (tree four_plan)) ≡ 0 ∷ 1 ∷ 2 ∷ 3 ∷ []
+unfolding families Width
 four_order = refl
 
 -- the second item of a stack cut before the first: the order is 1, 0
@@ -239,8 +249,8 @@ crossed_plan =
     ∷ [])
     ∷ [])
 
-crossed_order : cut_order (rows_of usual (tree crossed_plan)) ≡ 1 ∷ 0 ∷ []
-unfolding families
+crossed_order : cut_order (rows_of stock (tree crossed_plan)) ≡ 1 ∷ 0 ∷ []
+unfolding families Width
 crossed_order = refl
 
 -- three items on two plates, which have no remainder
@@ -252,7 +262,9 @@ two_plates = plan (plate (long_item 0 ∷ long_item 1 ∷ []) ∷ plate (long_it
 
 two_plates_trace : trace_of (batch (item 0 3000 3210 ∷ item 1 3000 3210 ∷ item 2 3000 3210 ∷ []) (0 ∷ 1 ∷ 2 ∷ [])) (tree two_plates) ≡
     step 0 0 0 0 0 3000 0 3210 0 ∷ step 0 0 1 0 3000 6000 0 3210 3000 ∷ step 0 0 0 0 0 3000 0 3210 0 ∷ []
+unfolding Width
 two_plates_trace = refl
 
-two_plates_length : length_of usual (trace_of (batch (item 0 3000 3210 ∷ item 1 3000 3210 ∷ item 2 3000 3210 ∷ []) (0 ∷ 1 ∷ 2 ∷ [])) (tree two_plates)) ≡ 9000
+two_plates_length : length_of stock (trace_of (batch (item 0 3000 3210 ∷ item 1 3000 3210 ∷ item 2 3000 3210 ∷ []) (0 ∷ 1 ∷ 2 ∷ [])) (tree two_plates)) ≡ 9000
+unfolding Before Width
 two_plates_length = refl

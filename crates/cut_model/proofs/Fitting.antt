@@ -4,7 +4,7 @@ use Rattle.cut_model.specs.declared.family.Sort.{Sort}
 use Rattle.cut_model.specs.declared.plan.Plate.{Plate}
 use Rattle.cut_model.specs.Tree.{Forest, nothing, piece, count, total_size, plates_of}
 use Rattle.cut_model.specs.Fits.{Fits}
-use Rattle.cut_model.specs.Room.{FitsIn, Leaves, FitsPiece, LeavesPiece}
+use Rattle.cut_model.specs.inner.Room.{FitsIn, Leaves, FitsPiece, LeavesPiece}
 
 -- all pieces fit in the room at the start just if those that are left fit in the room that is left
 pub record Fitting (whole : Forest) (start length room : ℕ) (left : Forest) : Type 0 where

@@ -2,7 +2,14 @@ pub mod Neighbours
 pub mod Walks
 pub mod Fitting
 pub mod Parents
+pub mod OnPlates
+pub mod Shapes
 pub mod Numbers
+pub mod Places
+pub mod Firstborn
+pub mod Corners
+pub mod Turns
+pub mod Endings
 pub mod Examples
 pub mod Cutting
 pub mod RuleExamples

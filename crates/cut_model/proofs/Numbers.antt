@@ -1,10 +1,12 @@
 -- Nodes are numbered in cutting order.
 use Rattle.std.proofs.Common.{◌≡◌, ℕ, zero, suc, ◌+◌, List, [], ◌∷◌, ◌++◌, length, length-append, map, Bool, true, false, refl, arith, sym, ap, ◌∙◌}
-use Rattle.glass_base.specs.declared.params.Params.{Params}
+use Rattle.glass_base.specs.Problem.{Problem}
 use Rattle.cut_model.specs.declared.family.Area.{Area}
 use Rattle.cut_model.specs.declared.family.Family.{Family}
 use Rattle.cut_model.specs.Tree.{Forest, nothing, piece, is_nothing, children_in, count}
 use Rattle.cut_model.specs.Families.{family_with, families, inside, behind, first_plate, rows_of}
+use Rattle.cut_model.specs.Sized.{on_plates}
+use Rattle.cut_model.proofs.OnPlates.{count-on_plates}
 use Rattle.cut_model.specs.Numbers.{numbers_from}
 
 from_again : (n m k : ℕ) → n ≡ m → numbers_from n k ≡ numbers_from m k
@@ -36,8 +38,8 @@ numbered at first node (piece size sort inner later) =
     (ap (λ l. node ∷ l) (sym (from-append (node + 1) (count inner) (count later))))
 
 -- the rows of a plan have the node numbers from 0 on, in their order
-pub rows_numbered : (params : Params) (plan : Forest) → map (λ r. r.node) (rows_of params plan) ≡ numbers_from 0 (count plan)
-rows_numbered params plan = numbered (first_plate params) true 0 plan
+pub rows_numbered : (b : Problem) (plan : Forest) → map (λ r. r.node) (rows_of b plan) ≡ numbers_from 0 (count plan)
+rows_numbered b plan = numbered (first_plate b) true 0 (on_plates b plan) ∙ ap (numbers_from 0) (count-on_plates b plan)
 
 -- a plan has as many families as pieces
 pub length-families : (at : Area) (first : Bool) (node : ℕ) (forest : Forest) → length (families at first node forest) ≡ count forest

@@ -3,7 +3,7 @@ use Rattle.std.proofs.Common.{◌≤◌, ◌≡◌, ℕ, ◌+◌, ◌<◌, List,
 use Rattle.std.proofs.lemmas.Bool.Decides.{nat_tests}
 use Rattle.std.specs.List.{AllByRecursion}
 use Rattle.std.proofs.lemmas.List.Elements.{All-from_recursion}
-use Rattle.glass_base.specs.declared.params.Params.{Params}
+use Rattle.glass_base.specs.Problem.{Problem}
 use Rattle.cut_model.specs.declared.family.Row.{Row}
 use Rattle.cut_model.specs.declared.family.Sort.{Sort}
 use Rattle.cut_model.specs.declared.family.Along.{Along}
@@ -11,18 +11,19 @@ use Rattle.cut_model.specs.declared.family.Area.{Area}
 use Rattle.cut_model.specs.declared.family.Family.{Family}
 use Rattle.cut_model.specs.Tree.{Forest, nothing, piece, is_nothing, is_item, type_number, children_in, count, holds_item, total_size}
 use Rattle.cut_model.specs.Families.{family_with, families, inside, behind, moved, turned, families_of, rows_of, first_plate, width_at, height_at, side_along}
+use Rattle.cut_model.specs.Sized.{on_plates}
 use Rattle.cut_model.specs.Parents.{is_number, rows_in, tops, is_item_kind, any_item, is_empty, NamedByChildren, sum_along}
 
-abbrev rows : List Family → List Row
+abbrev pub rows : List Family → List Row
 rows fs = map (λ f. f.row) fs
 
-rows_in-append : (n : ℕ) (xs ys : List Family) → rows_in n (rows (xs ++ ys)) ≡ rows_in n (rows xs) ++ rows_in n (rows ys)
+pub rows_in-append : (n : ℕ) (xs ys : List Family) → rows_in n (rows (xs ++ ys)) ≡ rows_in n (rows xs) ++ rows_in n (rows ys)
 rows_in-append n [] ys = refl
 rows_in-append n (x ∷ xs) ys =
     elim (is_number n x.row.parent) as (λ b. cond b (x.row ∷ rows_in n (rows (xs ++ ys))) (rows_in n (rows (xs ++ ys))) ≡ cond b (x.row ∷ rows_in n (rows xs)) (rows_in n (rows xs)) ++ rows_in n (rows ys))
     [ true ↦ ap (λ l. x.row ∷ l) (rows_in-append n xs ys) | false ↦ rows_in-append n xs ys ]
 
-parent_behind : (at : Area) (along : Along) (size : ℕ) → (moved along at size).parent ≡ at.parent
+pub parent_behind : (at : Area) (along : Along) (size : ℕ) → (moved along at size).parent ≡ at.parent
 parent_behind at Along.Plates size = refl
 parent_behind at Along.X size = refl
 parent_behind at Along.Y size = refl
@@ -57,10 +58,15 @@ item_kind Sort.Waste = refl
 item_kind Sort.Branch = refl
 item_kind Sort.Residual = refl
 
-along_behind : (at : Area) (along : Along) (size : ℕ) → (moved along at size).along ≡ at.along
+pub along_behind : (at : Area) (along : Along) (size : ℕ) → (moved along at size).along ≡ at.along
 along_behind at Along.Plates size = refl
 along_behind at Along.X size = refl
 along_behind at Along.Y size = refl
+
+pub cut_behind : (along : Along) (at : Area) (size : ℕ) → (moved along at size).cut ≡ at.cut
+cut_behind Along.Plates at size = refl
+cut_behind Along.X at size = refl
+cut_behind Along.Y at size = refl
 
 items_of_tops : (at : Area) (first : Bool) (node : ℕ) (forest : Forest) → any_item (tops at first node forest) ≡ holds_item forest
 unfolding tops
@@ -73,7 +79,7 @@ empty_tops at first node nothing = refl
 empty_tops at first node (piece size sort inner later) = refl
 
 -- a list whose numbers all lie before n has no row that names n, unless it is n's own
-none_past : (n : ℕ) (at : Area) (first : Bool) (node : ℕ) (forest : Forest) → is_number n at.parent ≡ false → node + count forest ≤ n → rows_in n (rows (families at first node forest)) ≡ []
+pub none_past : (n : ℕ) (at : Area) (first : Bool) (node : ℕ) (forest : Forest) → is_number n at.parent ≡ false → node + count forest ≤ n → rows_in n (rows (families at first node forest)) ≡ []
 unfolding families
 none_past n at first node nothing e h = refl
 none_past n at first node (piece size sort inner later) e h =
@@ -116,7 +122,7 @@ named : (f : Family) (inner : Forest) (whole : List Row) → f.children ≡ chil
 named f inner whole is e =
     is ∙ rw (e, empty_tops (inside f) true (f.row.node + 1) inner, sum_of_tops (turned f.along) (inside f) true (f.row.node + 1) inner refl (turned_cut f.along), items_of_tops (inside f) true (f.row.node + 1) inner) refl
 
-append_all : (P : Family → Type 0) (xs ys : List Family) → AllByRecursion P xs → AllByRecursion P ys → AllByRecursion P (xs ++ ys)
+pub append_all : (P : Family → Type 0) (xs ys : List Family) → AllByRecursion P xs → AllByRecursion P ys → AllByRecursion P (xs ++ ys)
 append_all P [] ys h k = k
 append_all P (x ∷ xs) ys h k = (h.0, append_all P xs ys h.1 k)
 
@@ -148,7 +154,7 @@ all_named whole at first node (piece size sort inner later) e same =
     )
 
 -- for each family of a plan
-pub named_by_children : (params : Params) (plan : Forest) → All (NamedByChildren (rows_of params plan)) (families_of params plan)
-named_by_children params plan =
-    All-from_recursion (NamedByChildren (rows_of params plan)) (families_of params plan)
-    (all_named (rows_of params plan) (first_plate params) true 0 plan (λ n le. refl) (λ n le lt. refl))
+pub named_by_children : (b : Problem) (plan : Forest) → All (NamedByChildren (rows_of b plan)) (families_of b plan)
+named_by_children b plan =
+    All-from_recursion (NamedByChildren (rows_of b plan)) (families_of b plan)
+    (all_named (rows_of b plan) (first_plate b) true 0 (on_plates b plan) (λ n le. refl) (λ n le lt. refl))

@@ -1,5 +1,5 @@
 -- A walk over neighbours that tells the families of each.
-use Rattle.std.proofs.Common.{◌≡◌, ℕ, ◌+◌, ◌*◌, ◌≤◌, List, [], ◌∷◌, ◌++◌, Bool, true, false, refl, sym, subst, ◌∙◌, append_assoc, append-nil, arith}
+use Rattle.std.proofs.Common.{◌≡◌, ℕ, ◌+◌, ◌*◌, ◌≤◌, List, [], ◌∷◌, ◌++◌, Bool, true, false, refl, sym, ap, subst, ◌∙◌, append_assoc, append-nil, arith}
 use Rattle.cut_model.specs.declared.family.Sort.{Sort}
 use Rattle.cut_model.specs.declared.family.Along.{Along}
 use Rattle.cut_model.specs.declared.family.Area.{Area}
@@ -7,8 +7,9 @@ use Rattle.cut_model.specs.declared.family.Family.{Family}
 use Rattle.cut_model.specs.Tree.{Forest, nothing, piece, is_nothing, children_in, count, total_size}
 use Rattle.cut_model.specs.Families.{families, family_with, inside, behind, moved, width_at, height_at}
 use Rattle.cut_model.specs.Fits.{InRange}
-use Rattle.cut_model.specs.Room.{FitsIn}
-use Rattle.cut_model.specs.Visits.{Tells, Walked, IsStart, NextWithin}
+use Rattle.cut_model.specs.inner.Room.{FitsIn}
+use Rattle.cut_model.specs.Visits.{Tells}
+use Rattle.cut_model.specs.inner.Walks.{Walked, IsStart, NextWithin}
 
 pub tells_none : {S : Type 0} {HasSeen : S → S → List Family → Type 0} (it : S) → Tells HasSeen it it []
 tells_none {HasSeen = HasSeen} it = record { after = λ start seen h. subst (HasSeen start it) (sym (append-nil seen)) h }
@@ -128,7 +129,7 @@ within_more {level} {node} {next} {size} {at} {at'} {sort} {inner} {later} is mo
     })
 
 width_small : (along : Along) (size width : ℕ) → size ≤ 20000 → width ≤ 20000 → width_at along size width ≤ 20000
-width_small Along.Plates size width a b = b
+width_small Along.Plates size width a b = a
 width_small Along.X size width a b = a
 width_small Along.Y size width a b = b
 
@@ -167,3 +168,59 @@ next_within {level} {node} {size} {at} first ends {sort} {inner} {later} is shal
 pub walked_nothing : {S : Type 0} {HasSeen : S → S → List Family → Type 0} (it : S) (at : Area) (first : Bool) (node : ℕ) → Walked HasSeen it it (families at first node nothing) node (node + count nothing)
 unfolding families
 walked_nothing it at first node = record { next_is = omega arith; tells = tells_none it }
+
+-- the plates from here on are in range
+pub record OnStock (node : ℕ) (at : Area) (left : Forest) : Type 0 where
+  pub along : at.along ≡ Along.Plates
+  pub cut : at.cut ≡ 0
+  pub plate : at.plate ≤ node
+  pub x : at.x ≡ 0
+  pub y : at.y ≡ 0
+  pub height : at.height ≤ 20000
+  pub in_range : InRange left
+  pub few : node + count left ≤ 2000000000
+
+pub stock_more : {node next size : ℕ} {at at' : Area} {sort : Sort} {inner later left : Forest} →
+    left ≡ piece size sort inner later → at' ≡ behind at size → OnStock node at left → next ≡ node + 1 + count inner → OnStock next at' later
+stock_more {node} {next} {size} {at} {at'} {sort} {inner} {later} is moves h next_is =
+    let P : Forest → Type 0 = λ t. OnStock node at t in
+    let h' : OnStock node at (piece size sort inner later) = subst P is h in
+    let there : behind at size ≡ moved Along.Plates at size = ap (λ (along : Along). moved along at size) h'.along in
+    rw (moves ∙ there) (record {
+      along = h'.along;
+      cut = h'.cut;
+      plate = omega (arith, h'.plate, next_is);
+      x = h'.x;
+      y = h'.y;
+      height = h'.height;
+      in_range = h'.in_range.4;
+      few = omega (arith, h'.few, next_is);
+    })
+
+pub stock_next : {node size : ℕ} {at : Area} (first ends : Bool) {sort : Sort} {inner later left : Forest} →
+    left ≡ piece size sort inner later → OnStock node at left → NextWithin 0 node at first ends size sort inner
+stock_next {node} {size} {at} first ends {sort} {inner} {later} is h =
+    let P : Forest → Type 0 = λ t. OnStock node at t in
+    let h' : OnStock node at (piece size sort inner later) = subst P is h in
+    let wide : width_at at.along size at.width ≤ 20000 = rw h'.along (h'.in_range.0) in
+    let high : height_at at.along size at.height ≤ 20000 = rw h'.along (h'.height) in
+    record {
+      small = record {
+        x = omega (arith, h'.x);
+        y = omega (arith, h'.y);
+        width = wide;
+        height = high;
+        cut = omega (arith, h'.cut);
+        total = h'.in_range.2;
+      };
+      start = record {
+        cut = omega (arith, h'.cut);
+        plate = omega (arith, h'.plate);
+        x = omega (arith, h'.x);
+        y = omega (arith, h'.y);
+        width = wide;
+        height = high;
+      };
+      fits = record { in_range = h'.in_range.3; total = h'.in_range.2; few = omega (arith, h'.few) };
+      short = h'.in_range.0;
+    }

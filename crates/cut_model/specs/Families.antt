@@ -1,18 +1,19 @@
 -- The pieces of a plan in cutting order, each as a family: its row with what its rules need of its neighbours and children.
 use Rattle.std.specs.Prelude.{ℕ, ◌+◌, List, [], ◌∷◌, ◌++◌, map, Bool, true, false, ◌&&◌, Some, None}
-use Rattle.glass_base.specs.declared.params.Params.{Params}
-use Rattle.glass_base.specs.Plates.{Width}
+use Rattle.glass_base.specs.Problem.{Problem}
 use Rattle.cut_model.specs.declared.family.Row.{Row}
 use Rattle.cut_model.specs.declared.family.Sort.{Sort}
 use Rattle.cut_model.specs.declared.family.Along.{Along}
 use Rattle.cut_model.specs.declared.family.Children.{Children}
 use Rattle.cut_model.specs.declared.family.Area.{Area}
 use Rattle.cut_model.specs.declared.family.Family.{Family}
+use Rattle.cut_model.specs.Sized.{on_plates}
 use Rattle.cut_model.specs.Tree.{Forest, nothing, piece, is_nothing, children_in, count, type_number}
 
--- the sides of a piece of this size: along the neighbours its size, else those of the piece that it is cut from
+-- the sides of a piece of this size: along the neighbours its size, else those of the piece that it is cut from. A plate's size
+-- is its width
 abbrev pub width_at : Along → ℕ → ℕ → ℕ
-width_at Along.Plates size width = width
+width_at Along.Plates size width = size
 width_at Along.X size width = size
 width_at Along.Y size width = width
 
@@ -89,24 +90,24 @@ families at first node (piece size sort inner later) =
     let f : Family = family_with at first (is_nothing later) node size sort (children_in inner) in
     f ∷ (families (inside f) true (node + 1) inner ++ families (behind at size) false (node + 1 + count inner) later)
 
--- the place of the first plate
-abbrev pub first_plate : Params → Area
-first_plate p = record {
+-- the place of the first plate; plates are cut from nothing, and all of one height
+abbrev pub first_plate : Problem → Area
+first_plate b = record {
   plate = 0;
   cut = 0;
   along = Along.Plates;
   parent = None;
   x = 0;
   y = 0;
-  width = Width p 0;
-  height = p.height;
+  width = 0;
+  height = b.params.height;
   last = true;
 }
 
 -- the families of a plan, plates included
-abbrev pub families_of : Params → Forest → List Family
-families_of params plan = families (first_plate params) true 0 plan
+abbrev pub families_of : Problem → Forest → List Family
+families_of b plan = families (first_plate b) true 0 (on_plates b plan)
 
 -- the rows of a plan
-abbrev pub rows_of : Params → Forest → List Row
-rows_of params plan = map (λ f. f.row) (families_of params plan)
+abbrev pub rows_of : Problem → Forest → List Row
+rows_of b plan = map (λ f. f.row) (families_of b plan)

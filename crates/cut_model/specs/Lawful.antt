@@ -6,6 +6,7 @@ use Rattle.cut_model.specs.declared.family.Row.{Row}
 use Rattle.cut_model.specs.Families.{families_of, rows_of}
 use Rattle.cut_model.specs.Order.{cut_order, item_named, items_cut, KeepsStacks}
 use Rattle.cut_model.specs.Rules.{KeepsCutRules}
+use Rattle.cut_model.specs.Shape.{IsPlanShaped}
 use Rattle.cut_model.specs.Tree.{Forest}
 
 -- these are the numbers of the batch's items, each once and in any order
@@ -35,9 +36,10 @@ pub record KeepsOrderRules (b : Problem) (rows : List Row) : Type 0 where
   -- L10: the items of one stack are cut in ascending sequence
   pub stacks : KeepsStacks (items_cut b.items rows)
 
--- the plan obeys the rules L1 to L10
+-- the plan has the shape of a plan and obeys the rules L1 to L10
 pub record IsLawful (b : Problem) (plan : Forest) : Type 0 where
+  pub shape : IsPlanShaped plan
   -- L1 to L8, at each piece
-  pub cuts : All (KeepsCutRules b) (families_of b.params plan)
+  pub cuts : All (KeepsCutRules b) (families_of b plan)
   -- L9 and L10
-  pub order : KeepsOrderRules b (rows_of b.params plan)
+  pub order : KeepsOrderRules b (rows_of b plan)

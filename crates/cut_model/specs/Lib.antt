@@ -1,10 +1,12 @@
 pub mod Tree
+pub mod Sized
+pub mod Shape
 pub mod Families
 pub mod Fits
-pub mod Room
 pub mod Visits
 pub mod Parents
 pub mod Numbers
+pub mod Neighbourhood
 pub mod Firsts
 pub mod Order
 pub mod Rules
@@ -12,3 +14,4 @@ pub mod Lawful
 pub mod Loss
 pub mod Steps
 pub mod Traces
+pub mod inner

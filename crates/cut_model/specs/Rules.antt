@@ -63,7 +63,7 @@ IsBand p f Sort.Branch = HasBandHeight p f.row
 -- L6: a piece that is cut by a 4-cut holds an item, and a residual is the last piece of a 1-cut on the last plate
 abbrev pub IsInPlace : Family → Sort → Type 0
 IsInPlace f Sort.Branch = f.row.cut ≡ 3 → f.children.has_item ≡ true
-IsInPlace f Sort.Residual = f.ends ≡ true
+IsInPlace f Sort.Residual = (f.row.cut ≡ 1) × (f.ends ≡ true)
 IsInPlace f (Sort.Item _) = Unit {0}
 IsInPlace f Sort.Waste = Unit {0}
 

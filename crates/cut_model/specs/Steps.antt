@@ -2,6 +2,7 @@
 use Rattle.std.specs.Prelude.{◌≡◌, ℕ, zero, suc, ◌+◌, ◌-◌, ◌≤◌, List, [], ◌∷◌, All, Option, Some, None, IfSome}
 use Rattle.glass_base.specs.declared.params.Params.{Params}
 use Rattle.glass_base.specs.Plates.{Before}
+use Rattle.glass_base.specs.Problem.{Problem}
 use Rattle.cut_model.specs.declared.steps.Step.{Step}
 
 -- the number of plates after a step of this kind, where kind 0 begins a plate
@@ -31,5 +32,5 @@ last_right (s ∷ []) = s.b
 last_right (s ∷ t ∷ later) = last_right (t ∷ later)
 
 -- the length of a trace that has a step: the widths of the plates before its last one, and the right side of its last strip
-abbrev pub length_of : Params → List Step → ℕ
-length_of params steps = Before params (plates_begun steps - 1) + last_right steps
+abbrev pub length_of : Problem → List Step → ℕ
+length_of b steps = Before b (plates_begun steps - 1) + last_right steps

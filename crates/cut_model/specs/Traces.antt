@@ -2,17 +2,17 @@
 use Rattle.std.specs.Prelude.{ℕ, zero, suc, ◌+◌, ◌==◌, List, [], ◌∷◌, ◌++◌, cond, Option, unwrap_or, option_and_then}
 use Rattle.std.specs.Option.{option_map_or}
 use Rattle.glass_base.specs.declared.item.Item.{Item}
-use Rattle.glass_base.specs.Plates.{Width}
 use Rattle.glass_base.specs.Problem.{Problem}
 use Rattle.glass_base.specs.Stacks.{stack_of}
 use Rattle.cut_model.specs.declared.family.Sort.{Sort}
 use Rattle.cut_model.specs.declared.steps.Step.{Step}
 use Rattle.cut_model.specs.Order.{item_with}
+use Rattle.cut_model.specs.Sized.{on_plates}
 use Rattle.cut_model.specs.Tree.{Forest, nothing, piece}
 
 -- where the pieces of a list lie: the sides a and b of their strip, c and d of their band, the left side e of their cell,
 -- and the width of the piece that they are cut from
-pub record Room : Type 0 where
+pub record Sides : Type 0 where
   pub width : ℕ
   pub a : ℕ
   pub b : ℕ
@@ -20,28 +20,28 @@ pub record Room : Type 0 where
   pub d : ℕ
   pub e : ℕ
 
--- the room of a piece that a cut of this level makes at this place. Outer pieces count as their own inner pieces, so an item
+-- the sides of a piece that a cut of this level makes at this place. Outer pieces count as their own inner pieces, so an item
 -- that is a whole strip is a whole band and a whole cell too
-abbrev pub enter : ℕ → ℕ → Room → ℕ → ℕ → Room
-enter plate_width zero r at size = record r { width = plate_width; a = 0; b = plate_width; e = 0 }
-enter plate_width (suc zero) r at size = record r { width = size; a = at; b = at + size; e = at }
-enter plate_width (suc (suc zero)) r at size = record r { c = at; d = at + size }
-enter plate_width (suc (suc (suc zero))) r at size = record r { width = size; e = at }
-enter plate_width _ r at size = r
+abbrev pub enter : ℕ → Sides → ℕ → ℕ → Sides
+enter zero r at size = record r { width = size; a = 0; b = size; e = 0 }
+enter (suc zero) r at size = record r { width = size; a = at; b = at + size; e = at }
+enter (suc (suc zero)) r at size = record r { c = at; d = at + size }
+enter (suc (suc (suc zero))) r at size = record r { width = size; e = at }
+enter _ r at size = r
 
--- where the pieces that a cut of this level makes begin in a room
-abbrev pub first_place : ℕ → Room → ℕ
+-- where the pieces begin that a cut of this level makes within these sides
+abbrev pub first_place : ℕ → Sides → ℕ
 first_place (suc zero) r = r.a
 first_place (suc (suc zero)) r = r.c
 first_place (suc (suc (suc zero))) r = r.e
 first_place _ r = r.c
 
 -- 0 where the item's length lies along x, else 1
-abbrev pub turn_in : Room → Item → ℕ
+abbrev pub turn_in : Sides → Item → ℕ
 turn_in r item = cond (r.width == item.length) 0 1
 
--- the step of an item that lies in this room
-abbrev pub step_of : Problem → Room → ℕ → ℕ → ℕ → Step
+-- the step of an item that lies within these sides
+abbrev pub step_of : Problem → Sides → ℕ → ℕ → ℕ → Step
 step_of b r kind lift number =
     let item : Option Item = item_with b.items number in
     record {
@@ -68,21 +68,21 @@ lift_behind (suc (suc (suc (suc zero)))) Sort.Waste = 1
 lift_behind _ _ = 0
 
 -- the steps of the items of neighbouring pieces that cuts of this level make, from this place on; the first has this kind
-abbrev pub steps_in : Problem → ℕ → Room → ℕ → ℕ → ℕ → Forest → List Step
+abbrev pub steps_in : Problem → ℕ → Sides → ℕ → ℕ → ℕ → Forest → List Step
 steps_in b level r at kind lift nothing = []
 steps_in b level r at kind lift (piece size (Sort.Item number) inner later) =
-    step_of b (enter (Width b.params 0) level r at size) kind lift number ∷ steps_in b level r (at + size) level 0 later
+    step_of b (enter level r at size) kind lift number ∷ steps_in b level r (at + size) level 0 later
 steps_in b level r at kind lift (piece size Sort.Branch inner later) =
-    let room : Room = enter (Width b.params 0) level r at size in
-    let here : List Step = steps_in b (suc level) room (first_place (suc level) room) kind 0 inner in
+    let sides : Sides = enter level r at size in
+    let here : List Step = steps_in b (suc level) sides (first_place (suc level) sides) kind 0 inner in
     here ++ steps_in b level r (at + size) (next_kind here kind level) 0 later
 steps_in b level r at kind lift (piece size sort inner later) =
     steps_in b level r (at + size) kind (lift_behind level sort) later
 
--- the room of all plates
-abbrev pub outside : Problem → Room
+-- the sides around all plates
+abbrev pub outside : Problem → Sides
 outside b = record { width = 0; a = 0; b = 0; c = 0; d = b.params.height; e = 0 }
 
 -- the steps of a plan
 abbrev pub trace_of : Problem → Forest → List Step
-trace_of b plan = steps_in b 0 (outside b) 0 0 0 plan
+trace_of b plan = steps_in b 0 (outside b) 0 0 0 (on_plates b plan)

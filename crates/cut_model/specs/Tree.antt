@@ -1,5 +1,5 @@
 -- A plan as one tree: neighbouring pieces, each with its size, its sort, and the pieces that it is cut into.
-use Rattle.std.specs.Prelude.{ℕ, ℤ, pos, negsuc, ◌+◌, List, [], ◌∷◌, Bool, true, false, ◌||◌}
+use Rattle.std.specs.Prelude.{ℕ, zero, suc, ℤ, pos, negsuc, ◌+◌, ◌^◌, ◌<◌, ◌≤◌, List, [], ◌∷◌, Bool, true, false, ◌||◌}
 use Rattle.cut_model.specs.declared.plan.Plan.{Plan}
 use Rattle.cut_model.specs.declared.plan.Plate.{Plate}
 use Rattle.cut_model.specs.declared.plan.Piece1.{Piece1}
@@ -99,6 +99,20 @@ is_item Sort.Waste = false
 is_item Sort.Branch = false
 is_item Sort.Residual = false
 
+-- whether it is a plate, or a piece that is cut
+abbrev pub is_branch : Sort → Bool
+is_branch Sort.Branch = true
+is_branch Sort.Waste = false
+is_branch Sort.Residual = false
+is_branch (Sort.Item _) = false
+
+-- whether it is the residual
+abbrev pub is_residual : Sort → Bool
+is_residual Sort.Residual = true
+is_residual Sort.Waste = false
+is_residual Sort.Branch = false
+is_residual (Sort.Item _) = false
+
 -- whether one of the neighbours is an item
 abbrev pub holds_item : Forest → Bool
 holds_item nothing = false
@@ -124,6 +138,19 @@ type_number (Sort.Item number) = pos number
 type_number Sort.Waste = negsuc 0
 type_number Sort.Branch = negsuc 1
 type_number Sort.Residual = negsuc 2
+
+-- a type that a row can have: the number of an item, which is below 2^32, or -1, -2 or -3
+abbrev pub IsRowType : ℤ → Type 0
+IsRowType (pos number) = number < 2 ^ 32
+IsRowType (negsuc below) = below ≤ 2
+
+-- the sort that a type names; no row has a type below -3
+abbrev pub sort_named : ℤ → Sort
+sort_named (pos number) = Sort.Item number
+sort_named (negsuc zero) = Sort.Waste
+sort_named (negsuc (suc zero)) = Sort.Branch
+sort_named (negsuc (suc (suc zero))) = Sort.Residual
+sort_named (negsuc (suc (suc (suc _)))) = Sort.Waste
 
 -- how many neighbours there are; of a plan, how many plates it uses
 abbrev pub neighbour_count : Forest → ℕ

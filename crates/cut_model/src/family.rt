@@ -1,7 +1,7 @@
 //! A piece with what its rules need of its neighbours and children.
 
 ghost use Rattle.std.specs.Prelude.{◌≡◌, ◌+◌, ◌<◌, ◌^◌};
-ghost use Rattle.cut_model.specs.Tree.{type_number};
+ghost use Rattle.cut_model.specs.Tree.{IsRowType, sort_named, type_number};
 ghost use Rattle.cut_model.specs.Families.{row_at, family_with, inside as inside_of, behind as behind_of};
 
 /// One line of the solution table: a plate or a piece. All lengths are in mm.
@@ -86,15 +86,32 @@ pub struct Area {
     pub last: bool,
 }
 
-/// The type by which a row names a sort.
-fn number_of(sort: Sort) -> i64
-    ensures { result ≡ type_number sort }
-{
-    match sort {
-        Sort::Item(number) => i64::from(number),
-        Sort::Waste => -1,
-        Sort::Branch => -2,
-        Sort::Residual => -3,
+impl Sort {
+    /// The type by which a row names it.
+    pub fn kind(self) -> i64
+        ensures { result ≡ type_number self }
+    {
+        match self {
+            Sort::Item(number) => i64::from(number),
+            Sort::Waste => -1,
+            Sort::Branch => -2,
+            Sort::Residual => -3,
+        }
+    }
+}
+
+impl Row {
+    /// What its type names: an item by its number, or -1, -2 or -3.
+    pub fn sort(&self) -> Sort
+        requires { IsRowType self.now.kind }
+        ensures { result ≡ sort_named self.now.kind }
+    {
+        match self.kind {
+            -1 => Sort::Waste,
+            -2 => Sort::Branch,
+            -3 => Sort::Residual,
+            kind => Sort::Item(kind as u32),
+        }
     }
 }
 
@@ -103,8 +120,7 @@ fn row_of(at: &Area, node: u64, size: u32, sort: Sort) -> Row
     ensures { result ≡ row_at at.now node size sort }
 {
     let (width, height) = match at.along {
-        Along::Plates => (at.width, at.height),
-        Along::X => (size, at.height),
+        Along::Plates | Along::X => (size, at.height),
         Along::Y => (at.width, size),
     };
     Row {
@@ -114,7 +130,7 @@ fn row_of(at: &Area, node: u64, size: u32, sort: Sort) -> Row
         y: at.y,
         width,
         height,
-        kind: number_of(sort),
+        kind: sort.kind(),
         cut: at.cut,
         parent: at.parent,
     }

@@ -274,3 +274,52 @@ impl Part for Plate {
         walk_neighbours(visitor, at, node, self.pieces.as_slice())
     }
 }
+
+/// A plate of an instance, which has its width for its size.
+#[derive(Clone, Copy)]
+pub struct OnPlate<'a> {
+    pub plate: &'a Plate,
+    /// In mm.
+    pub width: u32,
+}
+
+impl<'a> Part for OnPlate<'a> {
+    ghost use Rattle.cut_model.specs.Tree.{strips};
+    ghost use Rattle.cut_model.specs.declared.family.Sort.TheVariants.{Branch};
+    ghost use Rattle.std.proofs.Common.{arith};
+
+    ghost size = { λ p. p.width };
+
+    ghost sort = { λ p. Branch };
+
+    ghost inner = { λ p. strips p.plate.now.pieces.items };
+
+    ghost level = { 0 };
+
+    ghost shallow = { Prim.omega arith };
+
+    fn size(&self) -> u32 {
+        self.width
+    }
+
+    fn sort(&self) -> Sort {
+        Sort::Branch
+    }
+
+    fn children(&self) -> Children {
+        self.plate.children()
+    }
+
+    fn room_after_inside(&self, room: u64) -> Option<u64> {
+        self.plate.room_after_inside(room)
+    }
+
+    fn walk_inside<V: Visitor>(
+        &self,
+        visitor: &mut V,
+        at: Area,
+        node: u64,
+    ) -> Result<u64, V::Stop> {
+        self.plate.walk_inside(visitor, at, node)
+    }
+}

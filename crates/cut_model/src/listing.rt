@@ -9,7 +9,7 @@ use crate::family::{Family, Row};
 use crate::plan::Plan;
 use crate::traversal::walk;
 use crate::visitor::Visitor;
-use glass_base::{Memory, Params, Run, append};
+use glass_base::{Instance, Memory, Run, append};
 use std::alloc::Global;
 
 /// The rows told so far.
@@ -29,13 +29,13 @@ impl Visitor for Listing {
 }
 
 /// The rows of a plan, in order of node number. It fails only where memory runs out.
-pub fn rows(alloc: Global, params: &Params, plan: &Plan) -> Result<Run<Row>, Memory>
+pub fn rows(alloc: Global, instance: &Instance, plan: &Plan) -> Result<Run<Row>, Memory>
     requires { Fits (tree plan.now) }
-    ensures { IfOk result (λ rows. rows.items ≡ rows_of params.now (tree plan.now)) }
+    ensures { IfOk result (λ rows. rows.items ≡ rows_of instance.now (tree plan.now)) }
 {
     let mut listing = Listing {
         rows: Run::new(alloc),
     };
-    walk(&mut listing, params, plan)?;
+    walk(&mut listing, instance, plan)?;
     Ok(listing.rows)
 }

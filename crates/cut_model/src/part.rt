@@ -4,8 +4,8 @@ ghost use Rattle.std.specs.Prelude.{◌≡◌, ℕ, ◌+◌, ◌≤◌, ◌↔�
 ghost use Rattle.cut_model.specs.Tree.{Forest, neighbours, total_size, children_in, count, is_item as is_item_sort};
 ghost use Rattle.cut_model.specs.Families.{families, family_with, inside};
 ghost use Rattle.cut_model.specs.Fits.{IsNumbered};
-ghost use Rattle.cut_model.specs.Room.{FitsIn, Leaves, FitsPiece, LeavesPiece};
-ghost use Rattle.cut_model.specs.Visits.{Walked, IsStart, NextWithin};
+ghost use Rattle.cut_model.specs.inner.Room.{FitsIn, Leaves, FitsPiece, LeavesPiece};
+ghost use Rattle.cut_model.specs.inner.Walks.{Walked, IsStart, NextWithin};
 ghost use Rattle.cut_model.specs.declared.family.Sort.{Sort};
 
 use crate::family::{Area, Children, Family, Sort};
@@ -128,7 +128,7 @@ fn family_of<P: Part>(at: &Area, first: bool, ends: bool, node: u64, piece: &P) 
 }
 
 /// Tells the visitor the family of this piece, then those inside it.
-fn walk_piece<V: Visitor, P: Part>(
+pub fn walk_piece<V: Visitor, P: Part>(
     visitor: &mut V,
     at: &Area,
     first: bool,

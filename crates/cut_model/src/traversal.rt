@@ -1,32 +1,46 @@
 //! The walk over a plan.
 
 ghost use Rattle.std.specs.Prelude.{[], OnOk};
+ghost use Rattle.glass_base.specs.Problem.{IsProblem};
 ghost use Rattle.cut_model.specs.Fits.{Fits};
 ghost use Rattle.cut_model.specs.Tree.{tree};
 ghost use Rattle.cut_model.specs.Families.{families_of};
 
 use crate::family::{Along, Area};
-use crate::part::walk_neighbours;
+use crate::levels::OnPlate;
+use crate::part::walk_piece;
 use crate::plan::Plan;
 use crate::visitor::Visitor;
-use glass_base::{Params, plate_width};
+use glass_base::Instance;
 
 /// Tells the visitor the families of a plan, in order of node number. It takes no memory.
-pub fn walk<V: Visitor>(visitor: &mut V, params: &Params, plan: &Plan) -> Result<(), V::Stop>
+pub fn walk<V: Visitor>(visitor: &mut V, instance: &Instance, plan: &Plan) -> Result<(), V::Stop>
     requires { Fits (tree plan.now) }
-    ensures { OnOk result (V.has_seen visitor.old visitor.old [] → V.has_seen visitor.old visitor.new (families_of params.now (tree plan.now))) }
+    ensures told { OnOk result (V.has_seen visitor.old visitor.old [] → V.has_seen visitor.old visitor.new (families_of instance.now (tree plan.now))) }
+    ensures rules { IsProblem instance.now }
 {
-    let at = Area {
+    let mut at = Area {
         plate: 0,
         cut: 0,
         along: Along::Plates,
         parent: None,
         x: 0,
         y: 0,
-        width: plate_width(params, 0),
-        height: params.height,
+        width: 0,
+        height: instance.params().height,
         last: true,
     };
-    walk_neighbours(visitor, at, 0, plan.plates.as_slice())?;
+    let mut node = 0;
+    let mut first = true;
+    let last = plan.plates.len();
+    for (place, plate) in plan.plates.as_slice().iter().enumerate() {
+        let plate = OnPlate {
+            plate,
+            width: instance.width(place as u32),
+        };
+        node = walk_piece(visitor, &at, first, place + 1 == last, node, &plate)?;
+        at = at.behind(plate.width);
+        first = false;
+    }
     Ok(())
 }

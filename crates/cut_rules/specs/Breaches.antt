@@ -12,22 +12,33 @@ use Rattle.cut_model.specs.declared.family.Sort.{Sort}
 use Rattle.cut_model.specs.Families.{turned, side_along}
 use Rattle.cut_model.specs.Firsts.{IsFirstWithout}
 use Rattle.cut_model.specs.Rules.{AddsUp, HasItsSides, IsBroad, IsStrip, IsBand, IsInPlace, AvoidsDefects, CutsClear}
+use Rattle.cut_rules.specs.declared.cut_rule.CutRule.{CutRule}
 
--- a piece keeps one of the rules L1 to L8; the others are judged by the order of the items
-abbrev pub Keeps : Problem → Rule → Family → Type 0
-Keeps b Rule.L1 f = AddsUp f f.sort
-Keeps b Rule.L2 f = HasItsSides b.items f f.sort
-Keeps b Rule.L3 f = IsBroad b.params f f.sort
-Keeps b Rule.L4 f = IsStrip b.params f f.sort
-Keeps b Rule.L5 f = IsBand b.params f f.sort
-Keeps b Rule.L6 f = IsInPlace f f.sort
-Keeps b Rule.L7 f = AvoidsDefects b.defects f f.sort
-Keeps b Rule.L8 f = CutsClear b.defects f
-Keeps b _ f = Unit {0}
+-- a rule on cuts, among all rules of a lawful plan
+abbrev pub rule_of : CutRule → Rule
+rule_of CutRule.L1 = Rule.L1
+rule_of CutRule.L2 = Rule.L2
+rule_of CutRule.L3 = Rule.L3
+rule_of CutRule.L4 = Rule.L4
+rule_of CutRule.L5 = Rule.L5
+rule_of CutRule.L6 = Rule.L6
+rule_of CutRule.L7 = Rule.L7
+rule_of CutRule.L8 = Rule.L8
+
+-- a piece keeps a rule on cuts
+abbrev pub KeepsCutRule : Problem → CutRule → Family → Type 0
+KeepsCutRule b CutRule.L1 f = AddsUp f f.sort
+KeepsCutRule b CutRule.L2 f = HasItsSides b.items f f.sort
+KeepsCutRule b CutRule.L3 f = IsBroad b.params f f.sort
+KeepsCutRule b CutRule.L4 f = IsStrip b.params f f.sort
+KeepsCutRule b CutRule.L5 f = IsBand b.params f f.sort
+KeepsCutRule b CutRule.L6 f = IsInPlace f f.sort
+KeepsCutRule b CutRule.L7 f = AvoidsDefects b.defects f f.sort
+KeepsCutRule b CutRule.L8 f = CutsClear b.defects f
 
 -- these rules, in the order in which they are judged
-abbrev pub cut_rules : List Rule
-cut_rules = Rule.L1 ∷ Rule.L2 ∷ Rule.L3 ∷ Rule.L4 ∷ Rule.L5 ∷ Rule.L6 ∷ Rule.L7 ∷ Rule.L8 ∷ []
+abbrev pub cut_rules : List CutRule
+cut_rules = CutRule.L1 ∷ CutRule.L2 ∷ CutRule.L3 ∷ CutRule.L4 ∷ CutRule.L5 ∷ CutRule.L6 ∷ CutRule.L7 ∷ CutRule.L8 ∷ []
 
 -- the side that the least waste is asked of: the smaller one of a waste, the width of the residual
 abbrev pub least_side : Row → Sort → Option ℕ
@@ -53,59 +64,42 @@ border Along.X row = row.x
 border Along.Y row = row.y
 
 -- the two numbers that disagree where a piece breaks a rule
-abbrev pub Shows : Problem → Rule → Family → ℕ → ℕ → Type 0
+abbrev pub Shows : Problem → CutRule → Family → ℕ → ℕ → Type 0
 -- the sum of the children, and the size that they are to add up to
-Shows b Rule.L1 f left right = (left ≡ f.children.total) × (right ≡ side_along (turned f.along) f.row)
+Shows b CutRule.L1 f left right = (left ≡ f.children.total) × (right ≡ side_along (turned f.along) f.row)
 -- the piece's width and height
-Shows b Rule.L2 f left right = (left ≡ f.row.width) × (right ≡ f.row.height)
+Shows b CutRule.L2 f left right = (left ≡ f.row.width) × (right ≡ f.row.height)
 -- the side that is too small, and the least waste
-Shows b Rule.L3 f left right = (least_side f.row f.sort ≡ Some left) × (right ≡ b.params.waste)
+Shows b CutRule.L3 f left right = (least_side f.row f.sort ≡ Some left) × (right ≡ b.params.waste)
 -- the width, and the least or the greatest width of a strip
-Shows b Rule.L4 f left right = (left ≡ f.row.width) × (right ≡ (if nat_lt f.row.width b.params.min1 then b.params.min1 else b.params.max1))
+Shows b CutRule.L4 f left right = (left ≡ f.row.width) × (right ≡ (if nat_lt f.row.width b.params.min1 then b.params.min1 else b.params.max1))
 -- the height, and the least height of a band
-Shows b Rule.L5 f left right = (left ≡ f.row.height) × (right ≡ b.params.min2)
+Shows b CutRule.L5 f left right = (left ≡ f.row.height) × (right ≡ b.params.min2)
 -- the level of the cut that makes the piece
-Shows b Rule.L6 f left right = (left ≡ f.row.cut) × (right ≡ 0)
+Shows b CutRule.L6 f left right = (left ≡ f.row.cut) × (right ≡ 0)
 -- the item's number, and the position of the first defect that it meets
-Shows b Rule.L7 f left right = (f.sort ≡ Sort.Item left) × (position (meets f.row) b.defects ≡ Some right)
+Shows b CutRule.L7 f left right = (f.sort ≡ Sort.Item left) × (position (meets f.row) b.defects ≡ Some right)
 -- where the border lies, and the position of the first defect that it runs through
-Shows b Rule.L8 f left right = (left ≡ border f.along f.row) × (position (crosses f.along f.row) b.defects ≡ Some right)
-Shows b _ f left right = ⊥
-
--- what a test of one rule tells of a piece: the two numbers, where the piece breaks the rule
-pub record Breaks (b : Problem) (rule : Rule) (f : Family) (numbers : ℕ × ℕ) : Type 0 where
-  pub fails : ¬ Keeps b rule f
-  pub shows : Shows b rule f numbers.0 numbers.1
-
-abbrev pub Tests : Problem → Rule → Family → Option (ℕ × ℕ) → Type 0
-Tests b rule f found = MatchOption found (Keeps b rule f) (Breaks b rule f)
+Shows b CutRule.L8 f left right = (left ≡ border f.along f.row) × (position (crosses f.along f.row) b.defects ≡ Some right)
 
 -- the breach of a rule by a piece: the rule, the piece's plate and node, and the two numbers
-pub record Names (b : Problem) (rule : Rule) (f : Family) (broken : Broken) : Type 0 where
-  pub rule_is : broken.rule ≡ rule
+pub record Names (b : Problem) (rule : CutRule) (f : Family) (broken : Broken) : Type 0 where
+  pub rule_is : broken.rule ≡ rule_of rule
   pub plate : broken.plate ≡ f.row.plate
   pub node : broken.node ≡ f.row.node
   pub shows : Shows b rule f broken.left broken.right
 
--- the piece breaks the rule, and this is the breach
-pub record BreaksWith (b : Problem) (rule : Rule) (f : Family) (broken : Broken) : Type 0 where
-  pub fails : ¬ Keeps b rule f
-  pub names : Names b rule f broken
-
 -- the breach of this rule by the first piece that breaks it
-pub record IsFirstBreach (b : Problem) (rule : Rule) (fs : List Family) (broken : Broken) : Type 0 where
+pub record IsFirstBreach (b : Problem) (rule : CutRule) (fs : List Family) (broken : Broken) : Type 0 where
   pub piece : Family
-  pub first : IsFirstWithout (Keeps b rule) fs piece
+  pub first : IsFirstWithout (KeepsCutRule b rule) fs piece
   pub names : Names b rule piece broken
 
--- what is known of a rule once these pieces were seen: that all keep it, or its first breach
-abbrev pub Watched : Problem → Rule → List Family → Option Broken → Type 0
-Watched b rule fs first = MatchOption first (All (Keeps b rule) fs) (IsFirstBreach b rule fs)
-
 -- the first of these rules that some piece breaks, and its breach by the first piece that breaks it
-pub record IsBreachOf (b : Problem) (fs : List Family) (rules : List Rule) (broken : Broken) : Type 0 where
-  pub rule : IsFirstWithout (λ rule. All (Keeps b rule) fs) rules broken.rule
-  pub place : IsFirstBreach b broken.rule fs broken
+pub record IsBreachOf (b : Problem) (fs : List Family) (rules : List CutRule) (broken : Broken) : Type 0 where
+  pub rule : CutRule
+  pub first : IsFirstWithout (λ r. All (KeepsCutRule b r) fs) rules rule
+  pub place : IsFirstBreach b rule fs broken
 
 -- of the rules on cuts
 abbrev pub IsBreach : Problem → List Family → Broken → Type 0

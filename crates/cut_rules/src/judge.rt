@@ -6,8 +6,10 @@ ghost use Rattle.cut_model.specs.Fits.{Fits};
 ghost use Rattle.cut_model.specs.Rules.{KeepsCutRules};
 ghost use Rattle.cut_model.specs.Tree.{tree};
 ghost use Rattle.cut_model.specs.Visits.{IsSmall};
-ghost use Rattle.cut_rules.specs.Breaches.{BreaksWith, IsBreach, IsBreachOf, Keeps, Watched};
+ghost use Rattle.cut_rules.specs.Breaches.{IsBreach, IsBreachOf, KeepsCutRule};
+ghost use Rattle.cut_rules.specs.inner.Tests.{BreaksWith, Watched};
 
+use crate::cut_rule::CutRule;
 use crate::rules::breach;
 use cut_model::{Broken, Family, Plan, Rule, Visitor, walk};
 use defect_map::DefectMap;
@@ -15,14 +17,14 @@ use glass_base::Instance;
 use std::convert::Infallible;
 
 /// The breach of this rule by a piece, if it breaks it.
-fn breach_at(instance: &Instance, map: &DefectMap, rule: Rule, family: &Family) -> Option<Broken>
+fn breach_at(instance: &Instance, map: &DefectMap, rule: CutRule, family: &Family) -> Option<Broken>
     requires same { map.now ≡ instance.now.defects }
     requires small { IsSmall family.now }
-    ensures { MatchOption result (Keeps instance.now rule family.now) (BreaksWith instance.now rule family.now) }
+    ensures { MatchOption result (KeepsCutRule instance.now rule family.now) (BreaksWith instance.now rule family.now) }
 {
     let (left, right) = breach(instance, map, rule, family)?;
     Some(Broken {
-        rule,
+        rule: Rule::from(rule),
         plate: family.row.plate,
         node: family.row.node,
         left,
@@ -35,7 +37,7 @@ fn breach_at(instance: &Instance, map: &DefectMap, rule: Rule, family: &Family) 
 struct Watch<'a> {
     instance: &'a Instance,
     map: &'a DefectMap,
-    rule: Rule,
+    rule: CutRule,
     first: Option<Broken>,
     ghost same: { map.now ≡ instance.now.defects },
 }
@@ -43,7 +45,7 @@ struct Watch<'a> {
 /// The first breach, after one more piece.
 fn first_or_breach(watch: &Watch<'_>, family: &Family) -> Option<Broken>
     requires { IsSmall family.now }
-    ensures { MatchOption watch.now.first (MatchOption result (Keeps watch.now.instance.now watch.now.rule family.now) (BreaksWith watch.now.instance.now watch.now.rule family.now)) (λ broken. result ≡ Some broken) }
+    ensures { MatchOption watch.now.first (MatchOption result (KeepsCutRule watch.now.instance.now watch.now.rule family.now) (BreaksWith watch.now.instance.now watch.now.rule family.now)) (λ broken. result ≡ Some broken) }
 {
     match watch.first {
         Some(broken) => Some(broken),
@@ -52,7 +54,7 @@ fn first_or_breach(watch: &Watch<'_>, family: &Family) -> Option<Broken>
 }
 
 impl<'a> Visitor for Watch<'a> {
-    ghost use Rattle.cut_rules.specs.Breaches.{Watched};
+    ghost use Rattle.cut_rules.specs.inner.Tests.{Watched};
 
     type Stop = Infallible;
 
@@ -68,10 +70,10 @@ impl<'a> Visitor for Watch<'a> {
 }
 
 /// The first breach of this rule, if some piece breaks it.
-fn first_breach(instance: &Instance, map: &DefectMap, plan: &Plan, rule: Rule) -> Option<Broken>
+fn first_breach(instance: &Instance, map: &DefectMap, plan: &Plan, rule: CutRule) -> Option<Broken>
     requires same { map.now ≡ instance.now.defects }
     requires fits { Fits (tree plan.now) }
-    ensures { let b = instance.now in Watched b rule (families_of b.params (tree plan.now)) result }
+    ensures { let b = instance.now in Watched b rule (families_of b (tree plan.now)) result }
 {
     let mut watch = Watch {
         instance,
@@ -79,28 +81,28 @@ fn first_breach(instance: &Instance, map: &DefectMap, plan: &Plan, rule: Rule) -
         rule,
         first: None,
     };
-    match walk(&mut watch, instance.params(), plan) {
+    match walk(&mut watch, instance, plan) {
         Ok(()) => watch.first,
         Err(never) => match never {},
     }
 }
 
-const CUT_RULES: [Rule; 8] = [
-    Rule::L1,
-    Rule::L2,
-    Rule::L3,
-    Rule::L4,
-    Rule::L5,
-    Rule::L6,
-    Rule::L7,
-    Rule::L8,
+const CUT_RULES: [CutRule; 8] = [
+    CutRule::L1,
+    CutRule::L2,
+    CutRule::L3,
+    CutRule::L4,
+    CutRule::L5,
+    CutRule::L6,
+    CutRule::L7,
+    CutRule::L8,
 ];
 
 /// The first breach of the first of these rules that some piece breaks.
-fn first_of(instance: &Instance, map: &DefectMap, plan: &Plan, rules: &[Rule]) -> Option<Broken>
+fn first_of(instance: &Instance, map: &DefectMap, plan: &Plan, rules: &[CutRule]) -> Option<Broken>
     requires same { map.now ≡ instance.now.defects }
     requires fits { Fits (tree plan.now) }
-    ensures { let b = instance.now in let fs = families_of b.params (tree plan.now) in MatchOption result (All (λ rule. All (Keeps b rule) fs) rules.now) (IsBreachOf b fs rules.now) }
+    ensures { let b = instance.now in let fs = families_of b (tree plan.now) in MatchOption result (All (λ rule. All (KeepsCutRule b rule) fs) rules.now) (IsBreachOf b fs rules.now) }
 {
     for rule in rules {
         match first_breach(instance, map, plan, *rule) {
@@ -127,8 +129,8 @@ fn first_of(instance: &Instance, map: &DefectMap, plan: &Plan, rules: &[Rule]) -
 pub fn judge_cuts(instance: &Instance, map: &DefectMap, plan: &Plan) -> Result<(), Broken>
     requires same { map.now ≡ instance.now.defects }
     requires fits { Fits (tree plan.now) }
-    ensures lawful { let b = instance.now in IsOk result ↔ All (KeepsCutRules b) (families_of b.params (tree plan.now)) }
-    ensures first { let b = instance.now in IfErr result (IsBreach b (families_of b.params (tree plan.now))) }
+    ensures lawful { let b = instance.now in IsOk result ↔ All (KeepsCutRules b) (families_of b (tree plan.now)) }
+    ensures first { let b = instance.now in IfErr result (IsBreach b (families_of b (tree plan.now))) }
 {
     match first_of(instance, map, plan, &CUT_RULES) {
         Some(broken) => Err(broken),

@@ -1,18 +1,20 @@
 //! Each rule on cuts as a test of one piece: the two numbers that disagree, where the piece breaks the rule.
 
-ghost use Rattle.std.specs.Prelude.{◌≡◌, ◌+◌, ◌<◌, ◌≤◌, ◌↔◌, IsTrue, IfSome, MatchBool, MatchOption, Some, position};
+ghost use Rattle.std.specs.Prelude.{◌≡◌, ◌+◌, ◌<◌, ◌≤◌, ◌↔◌, IsTrue, IfSome, MatchOption, Some, position};
 ghost use Rattle.glass_base.specs.Problem.{Problem};
 ghost use Rattle.cut_model.specs.Families.{turned, side_along};
 ghost use Rattle.cut_model.specs.Order.{item_with};
 ghost use Rattle.cut_model.specs.Rules.{HasClearBorder, IsSound, IsTurnOf};
 ghost use Rattle.cut_model.specs.Visits.{IsSmall};
 ghost use Rattle.cut_model.specs.declared.family.Along.TheVariants.{X, Y};
-ghost use Rattle.cut_model.specs.declared.broken.Rule.TheVariants.{L1, L2, L3, L4, L5, L6, L7, L8};
-ghost use Rattle.cut_rules.specs.Breaches.{Tests, border as border_of, crosses as crosses_of, least_side as least_side_of, meets as meets_of};
+ghost use Rattle.cut_rules.specs.declared.cut_rule.CutRule.TheVariants.{L1, L2, L3, L4, L5, L6, L7, L8};
+ghost use Rattle.cut_rules.specs.Breaches.{border as border_of, crosses as crosses_of, least_side as least_side_of, meets as meets_of};
+ghost use Rattle.cut_rules.specs.inner.Tests.{Tests};
 
-use cut_model::{Along, Family, Row, Rule, Sort, item_numbered};
+use crate::cut_rule::CutRule;
+use cut_model::{Along, Family, Row, Sort, item_numbered};
 use defect_map::DefectMap;
-use glass_base::{Defect, Instance, Item};
+use glass_base::{Instance, Item};
 
 /// The side of a piece that its children are to add up to.
 fn side_to_fill(family: &Family) -> u32
@@ -152,45 +154,35 @@ fn is_in_place(family: &Family) -> Option<(u64, u64)>
                 None
             }
         }
-        Sort::Residual => { if family.ends { None } else { Some((level, 0)) } }
+        Sort::Residual => {
+            if family.row.cut == 1 && family.ends {
+                None
+            } else {
+                Some((level, 0))
+            }
+        }
         Sort::Item(_) | Sort::Waste => None,
     }
 }
 
-/// The position of the first defect that the inside of a row meets.
-fn place_met(defects: &[Defect], row: &Row) -> Option<usize>
-    requires x { row.now.x ≤ 100000 }
-    requires y { row.now.y ≤ 100000 }
-    requires width { row.now.width ≤ 20000 }
-    requires height { row.now.height ≤ 20000 }
-    ensures { result ≡ position (meets_of row.now) defects.now }
-{
-    let (x1, y1) = (row.x + row.width, row.y + row.height);
-    defects.iter().position(|d| d.plate == row.plate
-        && d.x0 < x1
-        && row.x < d.x1
-        && d.y0 < y1
-        && row.y < d.y1)
-}
-
 /// The position of the first defect that a row meets. One without an inside meets none.
-#[tactic(auto, using(crate::proofs::Positions::sound_if_missed))]
-fn first_met(map: &DefectMap, defects: &[Defect], row: &Row) -> Option<usize>
-    requires same { map.now ≡ defects.now }
+fn first_met(map: &DefectMap, row: &Row) -> Option<usize>
     requires x { row.now.x ≤ 100000 }
     requires y { row.now.y ≤ 100000 }
     requires width { row.now.width ≤ 20000 }
     requires height { row.now.height ≤ 20000 }
-    ensures { MatchOption result (IsSound defects.now row.now) (λ i. (¬ IsSound defects.now row.now) × (position (meets_of row.now) defects.now ≡ Some i)) }
+    ensures { MatchOption result (IsSound map.now row.now) (λ i. (¬ IsSound map.now row.now) × (position (meets_of row.now) map.now ≡ Some i)) }
 {
     if row.width == 0 || row.height == 0 {
         return None;
     }
-    let (x1, y1) = (row.x + row.width, row.y + row.height);
-    if !map.hits(row.plate, row.x, row.y, x1, y1) {
-        return None;
-    }
-    place_met(defects, row)
+    map.first_hit(
+        row.plate,
+        row.x,
+        row.y,
+        row.x + row.width,
+        row.y + row.height,
+    )
 }
 
 /// L7: an item meets no defect.
@@ -201,103 +193,51 @@ fn avoids_defects(instance: &Instance, map: &DefectMap, family: &Family) -> Opti
 {
     match family.sort {
         Sort::Item(number) => {
-            let place = first_met(map, instance.defects(), &family.row)?;
+            let place = first_met(map, &family.row)?;
             Some((u64::from(number), place as u64))
         }
         Sort::Waste | Sort::Branch | Sort::Residual => None,
     }
 }
 
-/// Whether some defect crosses the upright border on the left of a row. One without a length is crossed by none.
-fn upright_crossed(map: &DefectMap, row: &Row) -> bool
+/// The position of the first defect that crosses the upright border on the left of a row. One without a length is crossed by
+/// none.
+fn first_crossing_upright(map: &DefectMap, row: &Row) -> Option<usize>
     requires y { row.now.y ≤ 100000 }
     requires height { row.now.height ≤ 20000 }
-    ensures { MatchBool result (¬ HasClearBorder map.now X row.now) (HasClearBorder map.now X row.now) }
+    ensures { MatchOption result (HasClearBorder map.now X row.now) (λ i. (¬ HasClearBorder map.now X row.now) × (position (crosses_of X row.now) map.now ≡ Some i)) }
 {
     if row.height == 0 {
-        return false;
-    }
-    map.crosses_x(row.plate, row.x, row.y, row.y + row.height)
-}
-
-/// Whether some defect crosses the level border below a row. One without a length is crossed by none.
-fn level_crossed(map: &DefectMap, row: &Row) -> bool
-    requires x { row.now.x ≤ 100000 }
-    requires width { row.now.width ≤ 20000 }
-    ensures { MatchBool result (¬ HasClearBorder map.now Y row.now) (HasClearBorder map.now Y row.now) }
-{
-    if row.width == 0 {
-        return false;
-    }
-    map.crosses_y(row.plate, row.y, row.x, row.x + row.width)
-}
-
-/// Whether some defect crosses the border between a row and its neighbour before.
-fn border_crossed(map: &DefectMap, along: Along, row: &Row) -> bool
-    requires x { row.now.x ≤ 100000 }
-    requires y { row.now.y ≤ 100000 }
-    requires width { row.now.width ≤ 20000 }
-    requires height { row.now.height ≤ 20000 }
-    ensures { MatchBool result (¬ HasClearBorder map.now along row.now) (HasClearBorder map.now along row.now) }
-{
-    match along {
-        Along::Plates => false,
-        Along::X => upright_crossed(map, row),
-        Along::Y => level_crossed(map, row),
-    }
-}
-
-/// Whether a defect crosses the border between a row and its neighbour before.
-fn is_crossed(along: Along, row: &Row, d: &Defect) -> bool
-    requires x { row.now.x ≤ 100000 }
-    requires y { row.now.y ≤ 100000 }
-    requires width { row.now.width ≤ 20000 }
-    requires height { row.now.height ≤ 20000 }
-    ensures { result ≡ crosses_of along row.now d.now }
-{
-    match along {
-        Along::Plates => false,
-        Along::X => {
-            d.plate == row.plate
-                && d.x0 < row.x
-                && row.x < d.x1
-                && d.y0 < row.y + row.height
-                && row.y < d.y1
-        }
-        Along::Y => {
-            d.plate == row.plate
-                && d.y0 < row.y
-                && row.y < d.y1
-                && d.x0 < row.x + row.width
-                && row.x < d.x1
-        }
-    }
-}
-
-/// The position of the first defect that the border between a row and its neighbour before, whatever its length, runs through.
-fn place_crossed(defects: &[Defect], along: Along, row: &Row) -> Option<usize>
-    requires x { row.now.x ≤ 100000 }
-    requires y { row.now.y ≤ 100000 }
-    requires width { row.now.width ≤ 20000 }
-    requires height { row.now.height ≤ 20000 }
-    ensures { result ≡ position (crosses_of along row.now) defects.now }
-{
-    defects.iter().position(|d| is_crossed(along, row, d))
-}
-
-/// The position of the first defect that crosses the border between a row and its neighbour before.
-fn first_crossed(map: &DefectMap, defects: &[Defect], along: Along, row: &Row) -> Option<usize>
-    requires same { map.now ≡ defects.now }
-    requires x { row.now.x ≤ 100000 }
-    requires y { row.now.y ≤ 100000 }
-    requires width { row.now.width ≤ 20000 }
-    requires height { row.now.height ≤ 20000 }
-    ensures { MatchOption result (HasClearBorder defects.now along row.now) (λ i. (¬ HasClearBorder defects.now along row.now) × (position (crosses_of along row.now) defects.now ≡ Some i)) }
-{
-    if !border_crossed(map, along, row) {
         return None;
     }
-    place_crossed(defects, along, row)
+    map.first_crossing_x(row.plate, row.x, row.y, row.y + row.height)
+}
+
+/// The position of the first defect that crosses the level border below a row. One without a length is crossed by none.
+fn first_crossing_level(map: &DefectMap, row: &Row) -> Option<usize>
+    requires x { row.now.x ≤ 100000 }
+    requires width { row.now.width ≤ 20000 }
+    ensures { MatchOption result (HasClearBorder map.now Y row.now) (λ i. (¬ HasClearBorder map.now Y row.now) × (position (crosses_of Y row.now) map.now ≡ Some i)) }
+{
+    if row.width == 0 {
+        return None;
+    }
+    map.first_crossing_y(row.plate, row.y, row.x, row.x + row.width)
+}
+
+/// The position of the first defect that crosses the border between a row and its neighbour before. Plates have none.
+fn first_crossing(map: &DefectMap, along: Along, row: &Row) -> Option<usize>
+    requires x { row.now.x ≤ 100000 }
+    requires y { row.now.y ≤ 100000 }
+    requires width { row.now.width ≤ 20000 }
+    requires height { row.now.height ≤ 20000 }
+    ensures { MatchOption result (HasClearBorder map.now along row.now) (λ i. (¬ HasClearBorder map.now along row.now) × (position (crosses_of along row.now) map.now ≡ Some i)) }
+{
+    match along {
+        Along::Plates => None,
+        Along::X => first_crossing_upright(map, row),
+        Along::Y => first_crossing_level(map, row),
+    }
 }
 
 /// Where the border between a row and its neighbour before lies.
@@ -319,7 +259,7 @@ fn cuts_clear(instance: &Instance, map: &DefectMap, family: &Family) -> Option<(
     if family.first {
         return None;
     }
-    let place = first_crossed(map, instance.defects(), family.along, &family.row)?;
+    let place = first_crossing(map, family.along, &family.row)?;
     let line = border(family.along, &family.row);
     Some((u64::from(line), place as u64))
 }
@@ -328,7 +268,7 @@ fn cuts_clear(instance: &Instance, map: &DefectMap, family: &Family) -> Option<(
 pub fn breach(
     instance: &Instance,
     map: &DefectMap,
-    rule: Rule,
+    rule: CutRule,
     family: &Family,
 ) -> Option<(u64, u64)>
     requires same { map.now ≡ instance.now.defects }
@@ -336,19 +276,13 @@ pub fn breach(
     ensures { Tests instance.now rule family.now result }
 {
     match rule {
-        Rule::L1 => adds_up(family),
-        Rule::L2 => has_sides(instance, family),
-        Rule::L3 => is_broad(instance, family),
-        Rule::L4 => is_strip(instance, family),
-        Rule::L5 => is_band(instance, family),
-        Rule::L6 => is_in_place(family),
-        Rule::L7 => avoids_defects(instance, map, family),
-        Rule::L8 => cuts_clear(instance, map, family),
-        Rule::L9Unknown
-        | Rule::L9Twice
-        | Rule::L9Missing
-        | Rule::L9EmptyPlate
-        | Rule::L9Plates
-        | Rule::L10 => None,
+        CutRule::L1 => adds_up(family),
+        CutRule::L2 => has_sides(instance, family),
+        CutRule::L3 => is_broad(instance, family),
+        CutRule::L4 => is_strip(instance, family),
+        CutRule::L5 => is_band(instance, family),
+        CutRule::L6 => is_in_place(family),
+        CutRule::L7 => avoids_defects(instance, map, family),
+        CutRule::L8 => cuts_clear(instance, map, family),
     }
 }

@@ -1,14 +1,15 @@
 //! The defects of an instance, and what they stand in the way of.
 
-ghost use Rattle.std.specs.Prelude.{List};
+ghost use Rattle.std.specs.Prelude.{◌≡◌, List};
+ghost use Rattle.glass_base.specs.Defects.{crosses_x as crosses_x_at, crosses_y as crosses_y_at, hits as hits_at};
 ghost use Rattle.glass_base.specs.declared.item.Defect.{Defect as GlassDefect};
 
 use glass_base::{Defect, Instance, Memory, Run};
 use std::alloc::Global;
 use std::marker::Model;
 
-/// The defects of an instance. A query asks whether some defect of a plate stands in the way; touching a defect's border is
-/// allowed. All lengths are in mm.
+/// The defects of an instance. A query asks whether some defect of a plate stands in the way, or which is the first; touching a
+/// defect's border is allowed. All lengths are in mm, and positions count the instance's defects from 0.
 #[derive(Drop)]
 pub struct DefectMap {
     defects: Run<Defect>,
@@ -22,8 +23,29 @@ impl Model for DefectMap {
     ghost invariant = { λ _. Unit {0} };
 }
 
+/// Whether the defect lies on this plate and its inside meets that of the rectangle from (x0, y0) to (x1, y1).
+fn is_hit(d: &Defect, plate: u32, x0: u32, y0: u32, x1: u32, y1: u32) -> bool
+    ensures { result ≡ hits_at plate x0 y0 x1 y1 d.now }
+{
+    d.plate == plate && d.x0 < x1 && x0 < d.x1 && d.y0 < y1 && y0 < d.y1
+}
+
+/// Whether the defect lies on this plate and the upright line at x from y0 to y1 runs through its inside.
+fn is_crossed_x(d: &Defect, plate: u32, x: u32, y0: u32, y1: u32) -> bool
+    ensures { result ≡ crosses_x_at plate x y0 y1 d.now }
+{
+    d.plate == plate && d.x0 < x && x < d.x1 && d.y0 < y1 && y0 < d.y1
+}
+
+/// Whether the defect lies on this plate and the level line at y from x0 to x1 runs through its inside.
+fn is_crossed_y(d: &Defect, plate: u32, y: u32, x0: u32, x1: u32) -> bool
+    ensures { result ≡ crosses_y_at plate y x0 x1 d.now }
+{
+    d.plate == plate && d.y0 < y && y < d.y1 && d.x0 < x1 && x0 < d.x1
+}
+
 impl DefectMap {
-    ghost use Rattle.std.specs.Prelude.{◌≡◌, ◌+◌, ◌^◌, ◌<◌, IfOk};
+    ghost use Rattle.std.specs.Prelude.{◌≡◌, ◌+◌, ◌^◌, ◌<◌, IfOk, position};
     ghost use Rattle.std.specs.List.{list_any};
     ghost use Rattle.glass_base.specs.Defects.{crosses_x as crosses_x_at, crosses_y as crosses_y_at, hits as hits_at};
     ghost use Rattle.defect_map.specs.Queries.{crosses_x_all as crosses_x_everywhere, crosses_y_all as crosses_y_everywhere, hits_all as hits_everywhere};
@@ -43,9 +65,23 @@ impl DefectMap {
         requires high { y0 < y1 }
         ensures { result ≡ list_any (hits_at plate x0 y0 x1 y1) self.now }
     {
-        self.defects.as_slice().iter().any(|d| {
-            d.plate == plate && d.x0 < x1 && x0 < d.x1 && d.y0 < y1 && y0 < d.y1
-        })
+        self.defects
+            .as_slice()
+            .iter()
+            .any(|d| is_hit(d, plate, x0, y0, x1, y1))
+    }
+
+    /// The position of the first defect of the plate whose inside meets the inside of the rectangle from (x0, y0) to (x1, y1),
+    /// if there is one.
+    pub fn first_hit(&self, plate: u32, x0: u32, y0: u32, x1: u32, y1: u32) -> Option<usize>
+        requires wide { x0 < x1 }
+        requires high { y0 < y1 }
+        ensures { result ≡ position (hits_at plate x0 y0 x1 y1) self.now }
+    {
+        self.defects
+            .as_slice()
+            .iter()
+            .position(|d| is_hit(d, plate, x0, y0, x1, y1))
     }
 
     /// Whether the upright line at x from y0 to y1 runs through the inside of some defect of the plate.
@@ -53,9 +89,22 @@ impl DefectMap {
         requires { y0 < y1 }
         ensures { result ≡ list_any (crosses_x_at plate x y0 y1) self.now }
     {
-        self.defects.as_slice().iter().any(|d| {
-            d.plate == plate && d.x0 < x && x < d.x1 && d.y0 < y1 && y0 < d.y1
-        })
+        self.defects
+            .as_slice()
+            .iter()
+            .any(|d| is_crossed_x(d, plate, x, y0, y1))
+    }
+
+    /// The position of the first defect of the plate through whose inside the upright line at x from y0 to y1 runs, if there is
+    /// one.
+    pub fn first_crossing_x(&self, plate: u32, x: u32, y0: u32, y1: u32) -> Option<usize>
+        requires { y0 < y1 }
+        ensures { result ≡ position (crosses_x_at plate x y0 y1) self.now }
+    {
+        self.defects
+            .as_slice()
+            .iter()
+            .position(|d| is_crossed_x(d, plate, x, y0, y1))
     }
 
     /// Whether the level line at y from x0 to x1 runs through the inside of some defect of the plate.
@@ -63,9 +112,22 @@ impl DefectMap {
         requires { x0 < x1 }
         ensures { result ≡ list_any (crosses_y_at plate y x0 x1) self.now }
     {
-        self.defects.as_slice().iter().any(|d| {
-            d.plate == plate && d.y0 < y && y < d.y1 && d.x0 < x1 && x0 < d.x1
-        })
+        self.defects
+            .as_slice()
+            .iter()
+            .any(|d| is_crossed_y(d, plate, y, x0, x1))
+    }
+
+    /// The position of the first defect of the plate through whose inside the level line at y from x0 to x1 runs, if there is
+    /// one.
+    pub fn first_crossing_y(&self, plate: u32, y: u32, x0: u32, x1: u32) -> Option<usize>
+        requires { x0 < x1 }
+        ensures { result ≡ position (crosses_y_at plate y x0 x1) self.now }
+    {
+        self.defects
+            .as_slice()
+            .iter()
+            .position(|d| is_crossed_y(d, plate, y, x0, x1))
     }
 
     /// Whether some defect of the plate meets a rectangle of width `w` and height `h` wherever its lower left corner lies in

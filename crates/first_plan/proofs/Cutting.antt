@@ -1,7 +1,7 @@
 -- The items of the plan that strips make, in cutting order.
 use Rattle.std.proofs.Common.{◌≡◌, ℕ, ◌+◌, ◌-◌, List, [], ◌∷◌, ◌++◌, map, refl, ap, ◌∙◌, inl, inr, nat_lt, None}
 use Rattle.std.proofs.lemmas.Bool.{cases_Bool, cases_eq}
-use Rattle.glass_base.specs.declared.params.Params.{Params}
+use Rattle.glass_base.specs.Problem.{Problem}
 use Rattle.glass_base.specs.Plates.{Width}
 use Rattle.cut_model.specs.declared.family.Sort.{Sort}
 use Rattle.cut_model.specs.Tree.{Forest, nothing, piece, type_number}
@@ -38,52 +38,52 @@ cells_cut s =
     ∙ ap (λ (l : List ℕ). l ++ items_in beside) (leaves_cut s)
     ∙ ap (λ (l : List ℕ). s.item.id ∷ l) (gap_cut (s.a + item_width s) s.b Sort.Waste nothing refl)
 
-bands_cut : (p : Params) (s : Strip) → items_in (bands_of p s) ≡ s.item.id ∷ []
-bands_cut p s =
-    let over : Forest = gap s.d p.height Sort.Waste nothing in
+bands_cut : (b : Problem) (s : Strip) → items_in (bands_of b s) ≡ s.item.id ∷ []
+bands_cut b s =
+    let over : Forest = gap s.d b.params.height Sort.Waste nothing in
     gap_cut 0 s.c Sort.Waste (cut_into (s.d - s.c) (cells_of s) over) refl
     ∙ into_cut (s.d - s.c) (cells_of s) over
     ∙ ap (λ (l : List ℕ). l ++ items_in over) (cells_cut s)
-    ∙ ap (λ (l : List ℕ). s.item.id ∷ l) (gap_cut s.d p.height Sort.Waste nothing refl)
+    ∙ ap (λ (l : List ℕ). s.item.id ∷ l) (gap_cut s.d b.params.height Sort.Waste nothing refl)
 
 -- one strip, then those behind it
-strip_cut : (p : Params) (plate from : ℕ) (s : Strip) (strips : List Strip) → s.plate ≡ plate → items_in (strips_behind p plate from (s ∷ strips)) ≡ s.item.id ∷ items_in (strips_behind p plate s.b strips)
-strip_cut p plate from s strips e =
-    let rest : Forest = strips_behind p plate s.b strips in
-    ap items_in (goes_on p plate from s strips e).strips_are
-    ∙ gap_cut from s.a Sort.Waste (cut_into (s.b - s.a) (bands_of p s) rest) refl
-    ∙ into_cut (s.b - s.a) (bands_of p s) rest
-    ∙ ap (λ (l : List ℕ). l ++ items_in rest) (bands_cut p s)
+strip_cut : (b : Problem) (plate from : ℕ) (s : Strip) (strips : List Strip) → s.plate ≡ plate → items_in (strips_behind b plate from (s ∷ strips)) ≡ s.item.id ∷ items_in (strips_behind b plate s.b strips)
+strip_cut b plate from s strips e =
+    let rest : Forest = strips_behind b plate s.b strips in
+    ap items_in (goes_on b plate from s strips e).strips_are
+    ∙ gap_cut from s.a Sort.Waste (cut_into (s.b - s.a) (bands_of b s) rest) refl
+    ∙ into_cut (s.b - s.a) (bands_of b s) rest
+    ∙ ap (λ (l : List ℕ). l ++ items_in rest) (bands_cut b s)
 
 abbrev item_numbers : List Strip → List ℕ
 item_numbers strips = map (λ s. s.item.id) strips
 
 -- the rest of a plate and the plates behind it hold the items of the strips
-strips_cut : (p : Params) (plate from : ℕ) (strips : List Strip) → items_in (strips_behind p plate from strips) ++ items_in (plates_behind p plate strips) ≡ item_numbers strips
-strips_cut p plate from [] =
-    let r = ends_with_residual p plate from in
-    ap (λ (f : Forest). items_in f ++ items_in (plates_behind p plate [])) r.0
-    ∙ ap (λ (l : List ℕ). l ++ items_in (plates_behind p plate [])) (gap_cut from (Width p plate) Sort.Residual nothing refl)
+strips_cut : (b : Problem) (plate from : ℕ) (strips : List Strip) → items_in (strips_behind b plate from strips) ++ items_in (plates_behind b plate strips) ≡ item_numbers strips
+strips_cut b plate from [] =
+    let r = ends_with_residual b plate from in
+    ap (λ (f : Forest). items_in f ++ items_in (plates_behind b plate [])) r.0
+    ∙ ap (λ (l : List ℕ). l ++ items_in (plates_behind b plate [])) (gap_cut from (Width b plate) Sort.Residual nothing refl)
     ∙ ap items_in r.1
-strips_cut p plate from (s ∷ strips) =
+strips_cut b plate from (s ∷ strips) =
     elim (cases_eq s.plate plate) [
       | inl e ↦
-          ap (λ (f : Forest). items_in (strips_behind p plate from (s ∷ strips)) ++ items_in f) (goes_on p plate from s strips e).plates_are
-          ∙ ap (λ (l : List ℕ). l ++ items_in (plates_behind p plate strips)) (strip_cut p plate from s strips e)
-          ∙ ap (λ (l : List ℕ). s.item.id ∷ l) (strips_cut p plate s.b strips)
+          ap (λ (f : Forest). items_in (strips_behind b plate from (s ∷ strips)) ++ items_in f) (goes_on b plate from s strips e).plates_are
+          ∙ ap (λ (l : List ℕ). l ++ items_in (plates_behind b plate strips)) (strip_cut b plate from s strips e)
+          ∙ ap (λ (l : List ℕ). s.item.id ∷ l) (strips_cut b plate s.b strips)
       | inr ne ↦
-          let t = turns_to p plate from s strips ne in
-          ap (λ (f : Forest). items_in f ++ items_in (plates_behind p plate (s ∷ strips))) t.strips_are
-          ∙ ap (λ (l : List ℕ). l ++ items_in (plates_behind p plate (s ∷ strips))) (gap_cut from (Width p plate) Sort.Waste nothing refl)
+          let t = turns_to b plate from s strips ne in
+          ap (λ (f : Forest). items_in f ++ items_in (plates_behind b plate (s ∷ strips))) t.strips_are
+          ∙ ap (λ (l : List ℕ). l ++ items_in (plates_behind b plate (s ∷ strips))) (gap_cut from (Width b plate) Sort.Waste nothing refl)
           ∙ ap items_in t.plates_are
-          ∙ ap (λ (l : List ℕ). l ++ items_in (plates_behind p s.plate strips)) (strip_cut p s.plate 0 s strips refl)
-          ∙ ap (λ (l : List ℕ). s.item.id ∷ l) (strips_cut p s.plate s.b strips)
+          ∙ ap (λ (l : List ℕ). l ++ items_in (plates_behind b s.plate strips)) (strip_cut b s.plate 0 s strips refl)
+          ∙ ap (λ (l : List ℕ). s.item.id ∷ l) (strips_cut b s.plate s.b strips)
     ]
 
 -- the plan that strips make cuts their items, in the strips' order
-pub plan_cut : (p : Params) (strips : List Strip) → cut_order (rows_of p (plan_with p strips)) ≡ item_numbers strips
-plan_cut p [] = rows_cut p (plan_with p [])
-plan_cut p (s ∷ strips) =
-    rows_cut p (plan_with p (s ∷ strips))
-    ∙ ap (λ (l : List ℕ). l ++ items_in (plates_behind p s.plate strips)) (strip_cut p s.plate 0 s strips refl)
-    ∙ ap (λ (l : List ℕ). s.item.id ∷ l) (strips_cut p s.plate s.b strips)
+pub plan_cut : (b : Problem) (strips : List Strip) → cut_order (rows_of b (plan_with b strips)) ≡ item_numbers strips
+plan_cut b [] = rows_cut b (plan_with b [])
+plan_cut b (s ∷ strips) =
+    rows_cut b (plan_with b (s ∷ strips))
+    ∙ ap (λ (l : List ℕ). l ++ items_in (plates_behind b s.plate strips)) (strip_cut b s.plate 0 s strips refl)
+    ∙ ap (λ (l : List ℕ). s.item.id ∷ l) (strips_cut b s.plate s.b strips)

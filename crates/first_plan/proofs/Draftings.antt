@@ -2,19 +2,19 @@
 use Rattle.std.proofs.Common.{◌≡◌, ℕ, ◌+◌, ◌<◌, ◌≤◌, inl, inr, List, [], ◌∷◌, ◌++◌, length, drop, get_or, refl, sym, subst, ◌∙◌, append_assoc, append-nil, arith, All}
 use Rattle.std.proofs.lemmas.List.{at_drop_more, drop_all}
 use Rattle.std.proofs.lemmas.List.Elements.{All-nil, All-push}
-use Rattle.glass_base.specs.declared.params.Params.{Params}
 use Rattle.glass_base.specs.declared.item.Item.{Item}
 use Rattle.glass_base.specs.Plates.{Width}
-use Rattle.glass_base.specs.Problem.{Problem}
+use Rattle.glass_base.specs.Problem.{Problem, IsProblem}
+use Rattle.glass_base.proofs.PlateLemmas.{width_within}
 use Rattle.first_plan.specs.declared.strip.Strip.{Strip}
 use Rattle.first_plan.specs.Strips.{AreStrips, FailsAt, Gap, HasNoStrip, IsAllowed, IsDraft, IsNext, HasNoDraft, MayStand, by_stacks, item_width}
-use Rattle.first_plan.specs.Drawings.{IsWithin}
+use Rattle.first_plan.specs.inner.Drawings.{IsWithin}
 
 -- the strips so far, and those of the items that are left, are the draft
 pub record IsDrafting (b : Problem) (items : List Item) (i begun from : ℕ) (strips : List Strip) : Type 0 where
   pub items_are : items ≡ by_stacks b
-  pub drafts : (rest : List Strip) → AreStrips b.params begun from (drop i items) rest → IsDraft b (strips ++ rest)
-  pub fails : (number : ℕ) → FailsAt b.params begun from (drop i items) number → HasNoDraft b number
+  pub drafts : (rest : List Strip) → AreStrips b begun from (drop i items) rest → IsDraft b (strips ++ rest)
+  pub fails : (number : ℕ) → FailsAt b begun from (drop i items) number → HasNoDraft b number
   pub few : begun ≤ b.params.plates
   pub right : from ≤ 20000
   pub within : All IsWithin strips
@@ -22,8 +22,8 @@ pub record IsDrafting (b : Problem) (items : List Item) (i begun from : ℕ) (st
 pub drafting_start : (b : Problem) (items : List Item) → items ≡ by_stacks b → IsDrafting b items 0 0 0 []
 drafting_start b items e = record {
   items_are = e;
-  drafts = λ rest h. subst (λ (xs : List Item). AreStrips b.params 0 0 xs rest) e h;
-  fails = λ number h. subst (λ (xs : List Item). FailsAt b.params 0 0 xs number) e h;
+  drafts = λ rest h. subst (λ (xs : List Item). AreStrips b 0 0 xs rest) e h;
+  fails = λ number h. subst (λ (xs : List Item). FailsAt b 0 0 xs number) e h;
   few = omega arith;
   right = omega arith;
   within = All-nil IsWithin;
@@ -33,26 +33,26 @@ pub gap_end : (waste from to : ℕ) → Gap waste from to → from ≤ to
 gap_end waste from to g = elim g [ inl e ↦ omega (arith, e) | inr le ↦ omega (arith, le) ]
 
 -- a strip that is allowed lies on its plate
-pub within_plate : (p : Params) (from : ℕ) (s : Strip) → IsAllowed p from s → IsWithin s
-within_plate p from s h = record {
-  across = gap_end p.waste (s.a + item_width s) s.b h.beside;
+pub within_plate : (b : Problem) (from : ℕ) (s : Strip) → IsProblem b → IsAllowed b from s → IsWithin s
+within_plate b from s rules h = record {
+  across = gap_end b.params.waste (s.a + item_width s) s.b h.beside;
   upward = elim h.over [ inl e ↦ omega (arith, e) | inr le ↦ omega (arith, le.0) ];
-  right = omega (arith, gap_end p.waste s.b (Width p s.plate) h.behind, p.accepted.width_limit);
-  top = omega (arith, gap_end p.waste s.d p.height h.above, p.accepted.height_limit);
+  right = omega (arith, gap_end b.params.waste s.b (Width b s.plate) h.behind, (width_within b s.plate rules).1);
+  top = omega (arith, gap_end b.params.waste s.d b.params.height h.above, b.params.accepted.height_limit);
 }
 
-pub stands_within : (p : Params) (begun from : ℕ) (s : Strip) → begun ≤ p.plates → MayStand p begun from s → IsWithin s × (s.plate + 1 ≤ p.plates)
-stands_within p begun from s few h =
+pub stands_within : (b : Problem) (begun from : ℕ) (s : Strip) → IsProblem b → begun ≤ b.params.plates → MayStand b begun from s → IsWithin s × (s.plate + 1 ≤ b.params.plates)
+stands_within b begun from s rules few h =
     elim h [
-      | inl here ↦ (within_plate p from s here.1, omega (arith, here.0, few))
-      | inr next ↦ (within_plate p 0 s next.2, omega (arith, next.0, next.1))
+      | inl here ↦ (within_plate b from s rules here.1, omega (arith, here.0, few))
+      | inr next ↦ (within_plate b 0 s rules next.2, omega (arith, next.0, next.1))
     ]
 
 -- one more strip
-pub drafting_more : (b : Problem) (items : List Item) (i begun from : ℕ) (strips : List Strip) (item d : Item) (s : Strip) → i < length items → item ≡ get_or items i d →
-    IsDrafting b items i begun from strips → IsNext b.params begun from item s → IsDrafting b items (i + 1) (s.plate + 1) s.b (strips ++ s ∷ [])
-drafting_more b items i begun from strips item d s lt is h next =
-    let on = stands_within b.params begun from s h.few next.open_is.1 in
+pub drafting_more : (b : Problem) (items : List Item) (i begun from : ℕ) (strips : List Strip) (item d : Item) (s : Strip) → IsProblem b → i < length items → item ≡ get_or items i d →
+    IsDrafting b items i begun from strips → IsNext b begun from item s → IsDrafting b items (i + 1) (s.plate + 1) s.b (strips ++ s ∷ [])
+drafting_more b items i begun from strips item d s rules lt is h next =
+    let on = stands_within b begun from s rules h.few next.open_is.1 in
     let step : drop i items ≡ item ∷ drop (i + 1) items = at_drop_more (λ (xs : List Item). xs) items i d lt ∙ rw (← is) refl in
     record {
       items_are = h.items_are;
@@ -71,7 +71,7 @@ drafting_end b items i begun from strips le h =
 
 -- an item has no strip
 pub drafting_fails : (b : Problem) (items : List Item) (i begun from : ℕ) (strips : List Strip) (item d : Item) → i < length items → item ≡ get_or items i d →
-    IsDrafting b items i begun from strips → HasNoStrip b.params begun from item → HasNoDraft b item.id
+    IsDrafting b items i begun from strips → HasNoStrip b begun from item → HasNoDraft b item.id
 drafting_fails b items i begun from strips item d lt is h none =
     let step : drop i items ≡ item ∷ drop (i + 1) items = at_drop_more (λ (xs : List Item). xs) items i d lt ∙ rw (← is) refl in
     h.fails item.id (rw step (inl (none, refl)))

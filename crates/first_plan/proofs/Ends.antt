@@ -2,7 +2,7 @@
 use Rattle.std.proofs.Common.{◌≡◌, ℕ, ◌+◌, ◌-◌, ◌<◌, ◌≤◌, inl, inr, arith, sym, refl}
 use Rattle.std.proofs.lemmas.Bool.{cases_lt}
 use Rattle.first_plan.specs.Strips.{Gap}
-use Rattle.first_plan.specs.Extents.{Spans, IsHeld, MayReach}
+use Rattle.first_plan.specs.inner.Extents.{Spans, IsHeld, MayReach}
 use Rattle.first_plan.specs.declared.extent.Extent.{Extent}
 
 -- the length of a piece holds the item

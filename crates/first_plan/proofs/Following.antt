@@ -2,7 +2,7 @@
 use Rattle.std.proofs.Common.{◌≡◌, ℕ, List, [], ◌∷◌, ◌++◌, refl, ap}
 use Rattle.cut_model.specs.declared.family.Sort.{Sort}
 use Rattle.cut_model.specs.Tree.{Forest, nothing, piece, neighbours}
-use Rattle.first_plan.specs.Drawings.{followed}
+use Rattle.first_plan.specs.inner.Drawings.{followed}
 
 -- one more piece at the end
 pub followed-push : {A : Type 0} (size : A → ℕ) (sort : A → Sort) (inner : A → Forest) (ps : List A) (p : A) (later : Forest) →

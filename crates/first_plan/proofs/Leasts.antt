@@ -3,15 +3,15 @@ use Rattle.std.proofs.Common.{◌≡◌, ℕ, zero, suc, ◌<◌, ◌≤◌, ◌
 use Rattle.std.specs.Prelude.{MatchOption}
 use Rattle.std.proofs.lemmas.Bool.{cases_lt, cases_order, false≢true}
 use Rattle.std.proofs.lemmas.Bool.Decides.{nat_tests}
-use Rattle.glass_base.specs.declared.params.Params.{Params}
+use Rattle.glass_base.specs.Problem.{Problem}
 use Rattle.glass_base.specs.declared.item.Item.{Item}
 use Rattle.glass_base.specs.Plates.{Width}
 use Rattle.first_plan.specs.declared.strip.Strip.{Strip}
 use Rattle.first_plan.specs.declared.extent.Extent.{Extent}
 use Rattle.first_plan.specs.Strips.{Gap, NotAfter, rank, width_in, height_in}
-use Rattle.first_plan.specs.Extents.{Spans}
+use Rattle.first_plan.specs.inner.Extents.{Spans}
 use Rattle.first_plan.proofs.Ends.{from_gap}
-use Rattle.first_plan.specs.Choices.{across, upward, strip_between, comes_first, lesser_of, StandsOn, IsLeastTurned, HasNoTurned, IsLeastOn, HasNoneOn}
+use Rattle.first_plan.specs.inner.Choices.{across, upward, strip_between, comes_first, lesser_of, StandsOn, IsLeastTurned, HasNoTurned, IsLeastOn, HasNoneOn}
 
 -- where a piece ends at the least
 abbrev pub IsLeastEnd : Extent → ℕ → ℕ → Type 0
@@ -21,30 +21,30 @@ abbrev pub HasNoEnd : Extent → ℕ → Type 0
 HasNoEnd x from = (start end : ℕ) → Gap x.waste from start → ¬ Spans x start end
 
 -- a strip keeps what it has to along x
-spans_across : (p : Params) (item : Item) (plate from : ℕ) (s : Strip) → StandsOn p item plate from s → Spans (across p item plate s.turn) s.a s.b
+spans_across : (p : Problem) (item : Item) (plate from : ℕ) (s : Strip) → StandsOn p item plate from s → Spans (across p item plate s.turn) s.a s.b
 spans_across p item plate from s h =
     let w : width_in s.turn s.item ≡ width_in s.turn item = ap (λ (i : Item). width_in s.turn i) h.item_is in
     record {
       least = h.allowed.least_width;
       most = h.allowed.most_width;
       beside = elim h.allowed.beside [ inl e ↦ inl (omega (arith, e, w)) | inr le ↦ inr (omega (arith, le, w), refl) ];
-      behind = subst (λ (n : ℕ). Gap p.waste s.b (Width p n)) h.plate_is h.allowed.behind;
+      behind = subst (λ (n : ℕ). Gap p.params.waste s.b (Width p n)) h.plate_is h.allowed.behind;
     }
 
 -- and its band along y
-spans_upward : (p : Params) (item : Item) (plate from : ℕ) (s : Strip) → StandsOn p item plate from s → Spans (upward p item s.turn) s.c s.d
+spans_upward : (p : Problem) (item : Item) (plate from : ℕ) (s : Strip) → StandsOn p item plate from s → Spans (upward p item s.turn) s.c s.d
 spans_upward p item plate from s h =
     let w : width_in s.turn s.item ≡ width_in s.turn item = ap (λ (i : Item). width_in s.turn i) h.item_is in
     let t : height_in s.turn s.item ≡ height_in s.turn item = ap (λ (i : Item). height_in s.turn i) h.item_is in
     record {
       least = h.allowed.least_height;
       most = elim h.allowed.above [ inl e ↦ omega (arith, e) | inr le ↦ omega (arith, le) ];
-      beside = elim h.allowed.over [ inl e ↦ inl (omega (arith, e, t)) | inr le ↦ inr (omega (arith, le.0, t), (let wide : p.waste ≤ width_in s.turn item = omega (arith, le.1, w) in grind (arith, nat_tests))) ];
+      beside = elim h.allowed.over [ inl e ↦ inl (omega (arith, e, t)) | inr le ↦ inr (omega (arith, le.0, t), (let wide : p.params.waste ≤ width_in s.turn item = omega (arith, le.1, w) in grind (arith, nat_tests))) ];
       behind = h.allowed.above;
     }
 
 -- a strip that keeps both stands on the plate
-stands : (p : Params) (item : Item) (plate from turn b d : ℕ) → turn ≤ 1 → (item.length ≡ item.width → turn ≡ 0) → Spans (across p item plate turn) from b → Spans (upward p item turn) 0 d →
+stands : (p : Problem) (item : Item) (plate from turn b d : ℕ) → turn ≤ 1 → (item.length ≡ item.width → turn ≡ 0) → Spans (across p item plate turn) from b → Spans (upward p item turn) 0 d →
     StandsOn p item plate from (record { item = item; plate = plate; turn = turn; a = from; b = b; c = 0; d = d })
 stands p item plate from turn b d few square x y = record {
   item_is = refl;
@@ -64,14 +64,14 @@ stands p item plate from turn b d few square x y = record {
   };
 }
 
-turned_x : (p : Params) (item : Item) (plate from turn : ℕ) (s : Strip) → s.turn ≡ turn → StandsOn p item plate from s → Spans (across p item plate turn) s.a s.b
+turned_x : (p : Problem) (item : Item) (plate from turn : ℕ) (s : Strip) → s.turn ≡ turn → StandsOn p item plate from s → Spans (across p item plate turn) s.a s.b
 turned_x p item plate from turn s e h = subst (λ (t : ℕ). Spans (across p item plate t) s.a s.b) e (spans_across p item plate from s h)
 
-turned_y : (p : Params) (item : Item) (plate from turn : ℕ) (s : Strip) → s.turn ≡ turn → StandsOn p item plate from s → Spans (upward p item turn) s.c s.d
+turned_y : (p : Problem) (item : Item) (plate from turn : ℕ) (s : Strip) → s.turn ≡ turn → StandsOn p item plate from s → Spans (upward p item turn) s.c s.d
 turned_y p item plate from turn s e h = subst (λ (t : ℕ). Spans (upward p item t) s.c s.d) e (spans_upward p item plate from s h)
 
 -- the least strip of one turn
-pub least_turned : (p : Params) (item : Item) (plate from turn : ℕ) (right top : Option ℕ) → turn ≤ 1 → (item.length ≡ item.width → turn ≡ 0) →
+pub least_turned : (p : Problem) (item : Item) (plate from turn : ℕ) (right top : Option ℕ) → turn ≤ 1 → (item.length ≡ item.width → turn ≡ 0) →
     MatchOption right (HasNoEnd (across p item plate turn) from) (IsLeastEnd (across p item plate turn) from) →
     MatchOption top (HasNoEnd (upward p item turn) 0) (IsLeastEnd (upward p item turn) 0) →
     MatchOption (strip_between item plate turn from right top) (HasNoTurned p item plate from turn) (IsLeastTurned p item plate from turn)
@@ -98,13 +98,13 @@ ranked s t plate b a c d turn =
     inr (plate, after_more s.b t.b b (λ eb. after_more s.a t.a a (λ ea. after_more s.c t.c c (λ ec. after_more s.d t.d (d eb) (λ ed. after_more s.turn t.turn (turn eb ed) (λ et. tt {0}))))))
 
 -- a strip in the corner is the least one, where none ends before it, or as it does and lower or less turned
-on_plate : (p : Params) (item : Item) (plate from turn : ℕ) (s : Strip) → IsLeastTurned p item plate from turn s →
+on_plate : (p : Problem) (item : Item) (plate from turn : ℕ) (s : Strip) → IsLeastTurned p item plate from turn s →
     ((t : Strip) → StandsOn p item plate from t → (s.b ≤ t.b) × (s.b ≡ t.b → s.d ≤ t.d) × (s.b ≡ t.b → s.d ≡ t.d → s.turn ≤ t.turn)) → IsLeastOn p item plate from s
 on_plate p item plate from turn s h least = record {
   stands = h.stands;
   least = λ t u.
       let l = least t u in
-      let start = from_gap p.waste from t.a u.allowed.before in
+      let start = from_gap p.params.waste from t.a u.allowed.before in
       ranked s t (h.stands.plate_is ∙ sym u.plate_is) l.0 (omega (arith, h.left, start)) (omega (arith, h.low)) l.1 l.2;
 }
 
@@ -140,7 +140,7 @@ second_facts s t e = (
     under same lt = grind (arith, nat_tests)
 
 -- the lesser of the least strips of both turns
-pub least_of : (p : Params) (item : Item) (plate from : ℕ) (unturned turned : Option Strip) →
+pub least_of : (p : Problem) (item : Item) (plate from : ℕ) (unturned turned : Option Strip) →
     MatchOption unturned (HasNoTurned p item plate from 0) (IsLeastTurned p item plate from 0) →
     MatchOption turned (HasNoTurned p item plate from 1) (IsLeastTurned p item plate from 1) →
     MatchOption (lesser_of unturned turned) (HasNoneOn p item plate from) (IsLeastOn p item plate from)
@@ -179,7 +179,7 @@ least_of p item plate from (Some s) (Some t) x y = by (comes_first t s) refl
         ])
 
 -- of a square there is one turn
-pub least_square : (p : Params) (item : Item) (plate from : ℕ) (unturned : Option Strip) → item.length ≡ item.width →
+pub least_square : (p : Problem) (item : Item) (plate from : ℕ) (unturned : Option Strip) → item.length ≡ item.width →
     MatchOption unturned (HasNoTurned p item plate from 0) (IsLeastTurned p item plate from 0) →
     MatchOption unturned (HasNoneOn p item plate from) (IsLeastOn p item plate from)
 least_square p item plate from None square x = λ s h. x s (flat s h) h

@@ -7,6 +7,7 @@ pub mod Wholes
 pub mod Drawn
 pub mod Ones
 pub mod Sizes
+pub mod Shapes
 pub mod Cutting
 pub mod Gathered
 pub mod Served

@@ -1,6 +1,5 @@
 -- There is one draft at the most.
 use Rattle.std.proofs.Common.{◌≡◌, ℕ, ◌+◌, ◌<◌, ◌⊎◌, inl, inr, List, [], ◌∷◌, refl, sym, ap, subst, ◌∙◌, arith}
-use Rattle.glass_base.specs.declared.params.Params.{Params}
 use Rattle.glass_base.specs.declared.item.Item.{Item}
 use Rattle.glass_base.specs.Problem.{Problem}
 use Rattle.first_plan.specs.declared.strip.Strip.{Strip}
@@ -28,8 +27,8 @@ same_strip s t item plate turn a b c d =
     ∙ ap (λ (n : ℕ). make t.item t.plate t.turn t.a t.b t.c n) d
 
 -- there is one least strip
-next_is_one : (p : Params) (begun from : ℕ) (item : Item) (s t : Strip) → IsNext p begun from item s → IsNext p begun from item t → s ≡ t
-next_is_one p begun from item s t x y =
+next_is_one : (b : Problem) (begun from : ℕ) (item : Item) (s t : Strip) → IsNext b begun from item s → IsNext b begun from item t → s ≡ t
+next_is_one b begun from item s t x y =
     let plate = level s.plate t.plate (x.least t y.open_is) (y.least s x.open_is) in
     let b = level s.b t.b plate.1 plate.2 in
     let a = level s.a t.a b.1 b.2 in
@@ -38,46 +37,46 @@ next_is_one p begun from item s t x y =
     let turn = level s.turn t.turn d.1 d.2 in
     same_strip s t (x.open_is.0 ∙ sym y.open_is.0) plate.0 turn.0 a.0 b.0 c.0 d.0
 
-strips_are_one : (p : Params) (begun from : ℕ) (items : List Item) (strips others : List Strip) → AreStrips p begun from items strips → AreStrips p begun from items others → strips ≡ others
-strips_are_one p begun from [] [] [] x y = refl
-strips_are_one p begun from [] [] (t ∷ others) x y = absurd y
-strips_are_one p begun from [] (s ∷ strips) others x y = absurd x
-strips_are_one p begun from (item ∷ items) [] others x y = absurd x
-strips_are_one p begun from (item ∷ items) (s ∷ strips) [] x y = absurd y
-strips_are_one p begun from (item ∷ items) (s ∷ strips) (t ∷ others) x y =
-    let same = next_is_one p begun from item s t x.0 y.0 in
-    let rest = strips_are_one p (s.plate + 1) s.b items strips others x.1 (subst (λ (u : Strip). AreStrips p (u.plate + 1) u.b items others) (sym same) y.1) in
+strips_are_one : (b : Problem) (begun from : ℕ) (items : List Item) (strips others : List Strip) → AreStrips b begun from items strips → AreStrips b begun from items others → strips ≡ others
+strips_are_one b begun from [] [] [] x y = refl
+strips_are_one b begun from [] [] (t ∷ others) x y = absurd y
+strips_are_one b begun from [] (s ∷ strips) others x y = absurd x
+strips_are_one b begun from (item ∷ items) [] others x y = absurd x
+strips_are_one b begun from (item ∷ items) (s ∷ strips) [] x y = absurd y
+strips_are_one b begun from (item ∷ items) (s ∷ strips) (t ∷ others) x y =
+    let same = next_is_one b begun from item s t x.0 y.0 in
+    let rest = strips_are_one b (s.plate + 1) s.b items strips others x.1 (subst (λ (u : Strip). AreStrips b (u.plate + 1) u.b items others) (sym same) y.1) in
     ap (λ (u : Strip). u ∷ strips) same ∙ ap (λ (us : List Strip). t ∷ us) rest
 
-strips_or_none : (p : Params) (begun from : ℕ) (items : List Item) (strips : List Strip) (number : ℕ) → AreStrips p begun from items strips → FailsAt p begun from items number → ⊥
-strips_or_none p begun from [] strips number x y = y
-strips_or_none p begun from (item ∷ items) [] number x y = x
-strips_or_none p begun from (item ∷ items) (s ∷ strips) number x y =
+strips_or_none : (b : Problem) (begun from : ℕ) (items : List Item) (strips : List Strip) (number : ℕ) → AreStrips b begun from items strips → FailsAt b begun from items number → ⊥
+strips_or_none b begun from [] strips number x y = y
+strips_or_none b begun from (item ∷ items) [] number x y = x
+strips_or_none b begun from (item ∷ items) (s ∷ strips) number x y =
     elim y [
       | inl none ↦ none.0 s x.0.open_is
       | inr (t, next, later) ↦
-          let same = next_is_one p begun from item s t x.0 next in
-          strips_or_none p (s.plate + 1) s.b items strips number x.1 (subst (λ (u : Strip). FailsAt p (u.plate + 1) u.b items number) (sym same) later)
+          let same = next_is_one b begun from item s t x.0 next in
+          strips_or_none b (s.plate + 1) s.b items strips number x.1 (subst (λ (u : Strip). FailsAt b (u.plate + 1) u.b items number) (sym same) later)
     ]
 
-fails_at_one : (p : Params) (begun from : ℕ) (items : List Item) (number other : ℕ) → FailsAt p begun from items number → FailsAt p begun from items other → number ≡ other
-fails_at_one p begun from [] number other x y = absurd x
-fails_at_one p begun from (item ∷ items) number other x y =
+fails_at_one : (b : Problem) (begun from : ℕ) (items : List Item) (number other : ℕ) → FailsAt b begun from items number → FailsAt b begun from items other → number ≡ other
+fails_at_one b begun from [] number other x y = absurd x
+fails_at_one b begun from (item ∷ items) number other x y =
     elim x [
       | inl none ↦ elim y [ inl also ↦ none.1 ∙ sym also.1 | inr (t, next, later) ↦ absurd (none.0 t next.open_is) ]
       | inr (s, first, rest) ↦ elim y [
         | inl also ↦ absurd (also.0 s first.open_is)
         | inr (t, next, later) ↦
-            let same = next_is_one p begun from item s t first next in
-            fails_at_one p (s.plate + 1) s.b items number other rest (subst (λ (u : Strip). FailsAt p (u.plate + 1) u.b items other) (sym same) later)
+            let same = next_is_one b begun from item s t first next in
+            fails_at_one b (s.plate + 1) s.b items number other rest (subst (λ (u : Strip). FailsAt b (u.plate + 1) u.b items other) (sym same) later)
       ]
     ]
 
 pub drafts_one : (b : Problem) (strips others : List Strip) → IsDraft b strips → IsDraft b others → strips ≡ others
-drafts_one b strips others x y = strips_are_one b.params 0 0 (by_stacks b) strips others x y
+drafts_one b strips others x y = strips_are_one b 0 0 (by_stacks b) strips others x y
 
 pub draft_or_none : (b : Problem) (strips : List Strip) (number : ℕ) → IsDraft b strips → HasNoDraft b number → ⊥
-draft_or_none b strips number x y = strips_or_none b.params 0 0 (by_stacks b) strips number x y
+draft_or_none b strips number x y = strips_or_none b 0 0 (by_stacks b) strips number x y
 
 pub fails_one : (b : Problem) (number other : ℕ) → HasNoDraft b number → HasNoDraft b other → number ≡ other
-fails_one b number other x y = fails_at_one b.params 0 0 (by_stacks b) number other x y
+fails_one b number other x y = fails_at_one b 0 0 (by_stacks b) number other x y

@@ -5,7 +5,6 @@ use Rattle.std.proofs.lemmas.Bool.{cases_lt, cases_eq}
 use Rattle.std.proofs.lemmas.Bool.Decides.{nat_tests}
 use Rattle.std.proofs.lemmas.List.{map-append}
 use Rattle.std.proofs.lemmas.List.Elements.{All-nil, All-cons, All-weaker, filter-append}
-use Rattle.glass_base.specs.declared.params.Params.{Params}
 use Rattle.glass_base.specs.declared.item.Item.{Item}
 use Rattle.glass_base.specs.Problem.{Problem}
 use Rattle.cut_model.specs.declared.family.Row.{Row}
@@ -15,6 +14,8 @@ use Rattle.cut_model.specs.declared.family.Area.{Area}
 use Rattle.cut_model.specs.declared.family.Family.{Family}
 use Rattle.cut_model.specs.Tree.{Forest, nothing, piece, is_nothing, children_in, count, neighbour_count}
 use Rattle.cut_model.specs.Families.{families, rows_of, family_with, inside, behind, moved, row_at, turned}
+use Rattle.cut_model.specs.Sized.{on_plates, sized}
+use Rattle.cut_model.proofs.OnPlates.{neighbour_count-on_plates}
 use Rattle.cut_model.specs.Lawful.{IsItemOn, UsesEachPlate, plate_rows}
 use Rattle.first_plan.specs.declared.strip.Strip.{Strip}
 use Rattle.first_plan.specs.Strips.{AreStrips, IsDraft, by_stacks, item_width, item_height}
@@ -97,11 +98,11 @@ has_cut along size (piece n Sort.Waste inner other) later h = has_inner along si
 has_cut along size (piece n Sort.Branch inner other) later h = has_inner along size Sort.Branch (piece n Sort.Branch inner other) later h
 has_cut along size (piece n Sort.Residual inner other) later h = has_inner along size Sort.Branch (piece n Sort.Residual inner other) later h
 
-strips_have : (p : Params) (from : ℕ) (s : Strip) (strips : List Strip) → HasItem Along.X (strips_behind p s.plate from (s ∷ strips))
-strips_have p from s strips =
-    subst (HasItem Along.X) (sym (goes_on p s.plate from s strips refl).strips_are)
+strips_have : (b : Problem) (from : ℕ) (s : Strip) (strips : List Strip) → HasItem Along.X (strips_behind b s.plate from (s ∷ strips))
+strips_have b from s strips =
+    subst (HasItem Along.X) (sym (goes_on b s.plate from s strips refl).strips_are)
     (has_gap_x from s.a Sort.Waste _
-    (has_cut Along.X (s.b - s.a) (bands_of p s) _
+    (has_cut Along.X (s.b - s.a) (bands_of b s) _
     (has_gap_y 0 s.c Sort.Waste _
     (has_cut Along.Y (s.d - s.c) (cells_of s) _
     (has_cut Along.X (item_width s) (leaves_of s) _
@@ -112,17 +113,22 @@ abbrev EachHas : Forest → Type 0
 EachHas nothing = Unit {0}
 EachHas (piece size sort inner later) = HasItem Along.X inner × EachHas later
 
-plates_have : (p : Params) (plate : ℕ) (strips : List Strip) → EachHas (plates_behind p plate strips)
-plates_have p plate [] = rw (ends_with_residual p plate 0).1 tt
-plates_have p plate (s ∷ strips) =
+plates_have : (b : Problem) (plate : ℕ) (strips : List Strip) → EachHas (plates_behind b plate strips)
+plates_have b plate [] = rw (ends_with_residual b plate 0).1 tt
+plates_have b plate (s ∷ strips) =
     elim (cases_eq s.plate plate) [
-      | inl e ↦ subst EachHas (sym (goes_on p plate 0 s strips e).plates_are) (plates_have p plate strips)
-      | inr ne ↦ subst EachHas (sym (turns_to p plate 0 s strips ne).plates_are) (strips_have p 0 s strips, plates_have p s.plate strips)
+      | inl e ↦ subst EachHas (sym (goes_on b plate 0 s strips e).plates_are) (plates_have b plate strips)
+      | inr ne ↦ subst EachHas (sym (turns_to b plate 0 s strips ne).plates_are) (strips_have b 0 s strips, plates_have b s.plate strips)
     ]
 
-plan_has : (p : Params) (strips : List Strip) → EachHas (plan_with p strips)
-plan_has p [] = tt
-plan_has p (s ∷ strips) = (strips_have p 0 s strips, plates_have p s.plate strips)
+-- so it is with their widths
+each_sized : (b : Problem) (plate : ℕ) (plan : Forest) → EachHas plan → EachHas (sized b plate plan)
+each_sized b plate nothing h = tt
+each_sized b plate (piece size sort inner later) h = (h.0, each_sized b (plate + 1) later h.1)
+
+plan_has : (b : Problem) (strips : List Strip) → EachHas (plan_with b strips)
+plan_has b [] = tt
+plan_has b (s ∷ strips) = (strips_have b 0 s strips, plates_have b s.plate strips)
 
 -- no plate lies inside a piece
 cut_behind : (along : Along) (at : Area) (size : ℕ) → (moved along at size).cut ≡ at.cut
@@ -173,15 +179,15 @@ all_used plate parent x y width height last first node (piece size sort inner la
     let Used : Row → Type 0 = λ (p : Row). Any (IsItemOn p.plate) whole in
     subst (All Used) (sym (plate_rows_piece plate parent x y width height last first node size sort inner later))
     (All-cons Used _ _
-    (subst (Any (IsItemOn plate)) (sym split) (any_later (IsItemOn plate) _ _ (any_left (IsItemOn plate) _ rest (h.0 plate (Some node) x y 1 width height (last && is_nothing later) true (node + 1)))))
+    (subst (Any (IsItemOn plate)) (sym split) (any_later (IsItemOn plate) _ _ (any_left (IsItemOn plate) _ rest (h.0 plate (Some node) x y 1 size height (last && is_nothing later) true (node + 1)))))
     (All-weaker (λ (p : Row). Any (IsItemOn p.plate) rest) Used
     (λ (p : Row) used. subst (Any (IsItemOn p.plate)) (sym split) (any_later (IsItemOn p.plate) _ _ (any_right (IsItemOn p.plate) _ rest used)))
     (plate_rows rest)
     (all_used (plate + 1) parent x y width height last false next later h.1)))
 
 -- an item is cut from each plate
-pub strips_use_plates : (p : Params) (strips : List Strip) → UsesEachPlate (rows_of p (plan_with p strips))
-strips_use_plates p strips = all_used 0 None 0 0 p.width p.height true true 0 (plan_with p strips) (plan_has p strips)
+pub strips_use_plates : (b : Problem) (strips : List Strip) → UsesEachPlate (rows_of b (plan_with b strips))
+strips_use_plates b strips = all_used 0 None 0 0 0 b.params.height true true 0 (on_plates b (plan_with b strips)) (each_sized b 0 (plan_with b strips) (plan_has b strips))
 
 plate_count : (plate : ℕ) (parent : Option ℕ) (x y width height : ℕ) (last first : Bool) (node : ℕ) (forest : Forest) →
     length (plate_rows (rows_at (place plate parent x y 0 Along.Plates width height last) first node forest)) ≡ neighbour_count forest
@@ -195,32 +201,37 @@ plate_count plate parent x y width height last first node (piece size sort inner
     )
 
 -- the plates behind one that is there are there
-few_behind : (p : Params) (plate from : ℕ) (items : List Item) (strips : List Strip) → plate + 1 ≤ p.plates → AreStrips p (plate + 1) from items strips →
-    plate + 1 + neighbour_count (plates_behind p plate strips) ≤ p.plates
-few_behind p plate from [] [] le h = omega (arith, le, ap neighbour_count (ends_with_residual p plate from).1)
-few_behind p plate from [] (s ∷ strips) le h = absurd h
-few_behind p plate from (item ∷ items) [] le h = absurd h
-few_behind p plate from (item ∷ items) (s ∷ strips) le h =
+few_behind : (b : Problem) (plate from : ℕ) (items : List Item) (strips : List Strip) → plate + 1 ≤ b.params.plates → AreStrips b (plate + 1) from items strips →
+    plate + 1 + neighbour_count (plates_behind b plate strips) ≤ b.params.plates
+few_behind b plate from [] [] le h = omega (arith, le, ap neighbour_count (ends_with_residual b plate from).1)
+few_behind b plate from [] (s ∷ strips) le h = absurd h
+few_behind b plate from (item ∷ items) [] le h = absurd h
+few_behind b plate from (item ∷ items) (s ∷ strips) le h =
     elim h.0.open_is.1 [
       | inl here ↦
           let e : s.plate ≡ plate = omega (arith, here.0) in
-          omega (arith, ap neighbour_count (goes_on p plate from s strips e).plates_are, few_behind p plate s.b items strips le (subst (λ (n : ℕ). AreStrips p (n + 1) s.b items strips) e h.1))
+          omega (arith, ap neighbour_count (goes_on b plate from s strips e).plates_are, few_behind b plate s.b items strips le (subst (λ (n : ℕ). AreStrips b (n + 1) s.b items strips) e h.1))
       | inr next ↦
           let ne : s.plate ≡ plate → ⊥ = λ e. omega (arith, e, next.0) in
-          omega (arith, next.0, ap neighbour_count (turns_to p plate from s strips ne).plates_are, few_behind p s.plate s.b items strips (omega (arith, next.0, next.1)) h.1)
+          omega (arith, next.0, ap neighbour_count (turns_to b plate from s strips ne).plates_are, few_behind b s.plate s.b items strips (omega (arith, next.0, next.1)) h.1)
     ]
 
-few_plates : (p : Params) (items : List Item) (strips : List Strip) → AreStrips p 0 0 items strips → neighbour_count (plan_with p strips) ≤ p.plates
-few_plates p [] [] h = omega arith
-few_plates p [] (s ∷ strips) h = absurd h
-few_plates p (item ∷ items) [] h = absurd h
-few_plates p (item ∷ items) (s ∷ strips) h =
+few_plates : (b : Problem) (items : List Item) (strips : List Strip) → AreStrips b 0 0 items strips → neighbour_count (plan_with b strips) ≤ b.params.plates
+few_plates b [] [] h = omega arith
+few_plates b [] (s ∷ strips) h = absurd h
+few_plates b (item ∷ items) [] h = absurd h
+few_plates b (item ∷ items) (s ∷ strips) h =
     elim h.0.open_is.1 [
       | inl here ↦ absurd (omega (arith, here.0))
-      | inr first ↦ omega (arith, few_behind p s.plate s.b items strips (omega (arith, first.0, first.1)) h.1)
+      | inr first ↦ omega (arith, few_behind b s.plate s.b items strips (omega (arith, first.0, first.1)) h.1)
     ]
 
 -- no plate too many
-pub draft_few_plates : (b : Problem) (strips : List Strip) → IsDraft b strips → length (plate_rows (rows_of b.params (plan_with b.params strips))) ≤ b.params.plates
+pub draft_few_plates : (b : Problem) (strips : List Strip) → IsDraft b strips → length (plate_rows (rows_of b (plan_with b strips))) ≤ b.params.plates
 draft_few_plates b strips h =
-    omega (arith, plate_count 0 None 0 0 b.params.width b.params.height true true 0 (plan_with b.params strips), few_plates b.params (by_stacks b) strips h)
+    omega (
+      arith,
+      plate_count 0 None 0 0 0 b.params.height true true 0 (on_plates b (plan_with b strips)),
+      neighbour_count-on_plates b (plan_with b strips),
+      few_plates b (by_stacks b) strips h,
+    )

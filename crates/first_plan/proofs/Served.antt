@@ -2,7 +2,6 @@
 use Rattle.std.proofs.Common.{◌≡◌, ◌≢◌, ℕ, ◌+◌, List, [], ◌∷◌, map, refl, sym, ap, ◌∙◌, subst, Option, All, AllPairs, Contains}
 use Rattle.std.specs.List.{cons_option, filter_map}
 use Rattle.std.proofs.lemmas.List.Elements.{All-head, All-map, All-tail, All-weaker}
-use Rattle.glass_base.specs.declared.params.Params.{Params}
 use Rattle.glass_base.specs.declared.item.Item.{Item}
 use Rattle.glass_base.specs.Items.{DifferentIds}
 use Rattle.glass_base.specs.Problem.{Problem, IsProblem}
@@ -21,19 +20,19 @@ abbrev ids_of : List Item → List ℕ
 ids_of items = map (λ item. item.id) items
 
 -- the strips are those of the items, in their order
-strips_serve : (p : Params) (begun from : ℕ) (items : List Item) (strips : List Strip) → AreStrips p begun from items strips → map (λ s. s.item.id) strips ≡ ids_of items
-strips_serve p begun from [] [] h = refl
-strips_serve p begun from [] (s ∷ strips) h = absurd h
-strips_serve p begun from (item ∷ items) [] h = absurd h
-strips_serve p begun from (item ∷ items) (s ∷ strips) h =
-    ap (λ (i : Item). i.id ∷ map (λ (t : Strip). t.item.id) strips) h.0.open_is.0 ∙ ap (λ (l : List ℕ). item.id ∷ l) (strips_serve p (s.plate + 1) s.b items strips h.1)
+strips_serve : (b : Problem) (begun from : ℕ) (items : List Item) (strips : List Strip) → AreStrips b begun from items strips → map (λ s. s.item.id) strips ≡ ids_of items
+strips_serve b begun from [] [] h = refl
+strips_serve b begun from [] (s ∷ strips) h = absurd h
+strips_serve b begun from (item ∷ items) [] h = absurd h
+strips_serve b begun from (item ∷ items) (s ∷ strips) h =
+    ap (λ (i : Item). i.id ∷ map (λ (t : Strip). t.item.id) strips) h.0.open_is.0 ∙ ap (λ (l : List ℕ). item.id ∷ l) (strips_serve b (s.plate + 1) s.b items strips h.1)
 
 -- the draft cuts the items in the order in which they are gathered
-draft_order : (b : Problem) (strips : List Strip) → IsDraft b strips → cut_order (rows_of b.params (plan_with b.params strips)) ≡ ids_of (by_stacks b)
-draft_order b strips h = plan_cut b.params strips ∙ strips_serve b.params 0 0 (by_stacks b) strips h
+draft_order : (b : Problem) (strips : List Strip) → IsDraft b strips → cut_order (rows_of b (plan_with b strips)) ≡ ids_of (by_stacks b)
+draft_order b strips h = plan_cut b strips ∙ strips_serve b 0 0 (by_stacks b) strips h
 
 -- the plan of a draft cuts each item of the batch once and nothing else
-pub draft_each_once : (b : Problem) (strips : List Strip) → IsProblem b → IsDraft b strips → CutsEachOnce b.items (cut_order (rows_of b.params (plan_with b.params strips)))
+pub draft_each_once : (b : Problem) (strips : List Strip) → IsProblem b → IsDraft b strips → CutsEachOnce b.items (cut_order (rows_of b (plan_with b strips)))
 draft_each_once b strips rules h =
     let g = are_gathered b rules in
     rw (draft_order b strips h) (record {
@@ -53,8 +52,8 @@ found_again items (item ∷ xs) apart h =
     ∙ ap (λ (l : List Item). item ∷ l) (found_again items xs apart (All-tail (Contains items) item xs h))
 
 -- it cuts the items of one stack in ascending sequence
-pub draft_stacks : (b : Problem) (strips : List Strip) → IsProblem b → IsDraft b strips → KeepsStacks (items_cut b.items (rows_of b.params (plan_with b.params strips)))
+pub draft_stacks : (b : Problem) (strips : List Strip) → IsProblem b → IsDraft b strips → KeepsStacks (items_cut b.items (rows_of b (plan_with b strips)))
 draft_stacks b strips rules h =
     let g = are_gathered b rules in
-    let cut : items_cut b.items (rows_of b.params (plan_with b.params strips)) ≡ by_stacks b = ap (filter_map (item_with b.items)) (draft_order b strips h) ∙ found_again b.items (by_stacks b) rules.ids g.known in
+    let cut : items_cut b.items (rows_of b (plan_with b strips)) ≡ by_stacks b = ap (filter_map (item_with b.items)) (draft_order b strips h) ∙ found_again b.items (by_stacks b) rules.ids g.known in
     subst KeepsStacks (sym cut) g.kept

@@ -12,11 +12,11 @@ use Rattle.cut_model.specs.declared.plan.Body3.TheVariants as b3
 use Rattle.cut_model.specs.declared.family.Sort.{Sort}
 use Rattle.cut_model.specs.Tree.{Forest, nothing, piece, cells, bands, sort1, inner1, sort2, inner2, sort3, inner3}
 use Rattle.first_plan.specs.Drafts.{gap, whole_sort, whole_inner, leaves_of, cells_of, bands_of}
-use Rattle.glass_base.specs.declared.params.Params.{Params}
+use Rattle.glass_base.specs.Problem.{Problem}
 use Rattle.first_plan.specs.declared.strip.Strip.{Strip}
 use Rattle.first_plan.specs.Strips.{item_width}
 use Rattle.first_plan.proofs.Following.{followed-push, followed-nothing}
-use Rattle.first_plan.specs.Drawings.{bands_then, cells_then, item_alone2, item_alone3, item_in2, item_in3, band_body, strip_body}
+use Rattle.first_plan.specs.inner.Drawings.{bands_then, cells_then, item_alone2, item_alone3, item_in2, item_in3, band_body, strip_body}
 
 -- there is glass between two places
 pub gap_there : (from to : ℕ) (sort : Sort) (later : Forest) → from < to → gap from to sort later ≡ piece (to - from) sort nothing later
@@ -84,15 +84,15 @@ cells_made s width body first all w sort inner is more =
     ∙ ap (λ (f : Forest). piece (item_width s) (whole_sort (leaves_of s)) f (gap (s.a + item_width s) s.b Sort.Waste nothing)) (sym inner)
 
 -- the bands of an item's strip
-pub bands_made : (p : Params) (s : Strip) (height : ℕ) (body : Body2) (low mid all : List Piece2) → height ≡ s.d - s.c → whole_sort (cells_of s) ≡ sort2 body → whole_inner (cells_of s) ≡ inner2 body →
+pub bands_made : (b : Problem) (s : Strip) (height : ℕ) (body : Body2) (low mid all : List Piece2) → height ≡ s.d - s.c → whole_sort (cells_of s) ≡ sort2 body → whole_inner (cells_of s) ≡ inner2 body →
     ((later : Forest) → bands_then low later ≡ gap 0 s.c Sort.Waste later) → mid ≡ low ++ record { height = height; body = body } ∷ [] →
-    ((later : Forest) → bands_then all later ≡ bands_then mid (gap s.d p.height Sort.Waste later)) → bands all ≡ bands_of p s
-bands_made p s height body low mid all h sort inner first is more =
-    let over : Forest = gap s.d p.height Sort.Waste nothing in
-    sym (followed-nothing (λ b. b.height) (λ b. sort2 b.body) (λ b. inner2 b.body) all)
+    ((later : Forest) → bands_then all later ≡ bands_then mid (gap s.d b.params.height Sort.Waste later)) → bands all ≡ bands_of b s
+bands_made b s height body low mid all h sort inner first is more =
+    let over : Forest = gap s.d b.params.height Sort.Waste nothing in
+    sym (followed-nothing (λ p. p.height) (λ p. sort2 p.body) (λ p. inner2 p.body) all)
     ∙ more nothing
     ∙ ap (λ (ps : List Piece2). bands_then ps over) is
-    ∙ followed-push (λ b. b.height) (λ b. sort2 b.body) (λ b. inner2 b.body) low (record { height = height; body = body }) over
+    ∙ followed-push (λ p. p.height) (λ p. sort2 p.body) (λ p. inner2 p.body) low (record { height = height; body = body }) over
     ∙ first (piece height (sort2 body) (inner2 body) over)
     ∙ ap (λ (n : ℕ). gap 0 s.c Sort.Waste (piece n (sort2 body) (inner2 body) over)) h
     ∙ ap (λ (t : Sort). gap 0 s.c Sort.Waste (piece (s.d - s.c) t (inner2 body) over)) (sym sort)

@@ -1,7 +1,6 @@
 -- The plan that strips make: each gap is one waste, the last plate ends in the residual where glass remains, and a piece that
 -- is exactly an item is the item.
 use Rattle.std.specs.Prelude.{◌≡◌, ℕ, ◌+◌, ◌-◌, ◌==◌, nat_lt, cond, List, [], ◌∷◌}
-use Rattle.glass_base.specs.declared.params.Params.{Params}
 use Rattle.glass_base.specs.Plates.{Width}
 use Rattle.glass_base.specs.Problem.{Problem}
 use Rattle.cut_model.specs.declared.family.Sort.{Sort}
@@ -34,29 +33,29 @@ abbrev pub cells_of : Strip → Forest
 cells_of s = cut_into (item_width s) (leaves_of s) (gap (s.a + item_width s) s.b Sort.Waste nothing)
 
 -- the band of the item, and below and above it what is left of the strip
-abbrev pub bands_of : Params → Strip → Forest
-bands_of p s = gap 0 s.c Sort.Waste (cut_into (s.d - s.c) (cells_of s) (gap s.d p.height Sort.Waste nothing))
+abbrev pub bands_of : Problem → Strip → Forest
+bands_of b s = gap 0 s.c Sort.Waste (cut_into (s.d - s.c) (cells_of s) (gap s.d b.params.height Sort.Waste nothing))
 
 -- the strips of a plate from this place on, up to the first strip of another plate
-unfoldable pub strips_behind : Params → ℕ → ℕ → List Strip → Forest
-strips_behind p plate from [] = gap from (Width p plate) Sort.Residual nothing
-strips_behind p plate from (s ∷ strips) =
+unfoldable pub strips_behind : Problem → ℕ → ℕ → List Strip → Forest
+strips_behind b plate from [] = gap from (Width b plate) Sort.Residual nothing
+strips_behind b plate from (s ∷ strips) =
     cond (s.plate == plate)
-    (gap from s.a Sort.Waste (cut_into (s.b - s.a) (bands_of p s) (strips_behind p plate s.b strips)))
-    (gap from (Width p plate) Sort.Waste nothing)
+    (gap from s.a Sort.Waste (cut_into (s.b - s.a) (bands_of b s) (strips_behind b plate s.b strips)))
+    (gap from (Width b plate) Sort.Waste nothing)
 
 -- the plates behind this one
-unfoldable pub plates_behind : Params → ℕ → List Strip → Forest
-plates_behind p plate [] = nothing
-plates_behind p plate (s ∷ strips) =
-    cond (s.plate == plate) (plates_behind p plate strips)
-    (piece 0 Sort.Branch (strips_behind p s.plate 0 (s ∷ strips)) (plates_behind p s.plate strips))
+unfoldable pub plates_behind : Problem → ℕ → List Strip → Forest
+plates_behind b plate [] = nothing
+plates_behind b plate (s ∷ strips) =
+    cond (s.plate == plate) (plates_behind b plate strips)
+    (piece 0 Sort.Branch (strips_behind b s.plate 0 (s ∷ strips)) (plates_behind b s.plate strips))
 
 -- the plan that strips make, from plate 0 on
-abbrev pub plan_with : Params → List Strip → Forest
-plan_with p [] = nothing
-plan_with p (s ∷ strips) = piece 0 Sort.Branch (strips_behind p s.plate 0 (s ∷ strips)) (plates_behind p s.plate strips)
+abbrev pub plan_with : Problem → List Strip → Forest
+plan_with b [] = nothing
+plan_with b (s ∷ strips) = piece 0 Sort.Branch (strips_behind b s.plate 0 (s ∷ strips)) (plates_behind b s.plate strips)
 
 -- the plan of the draft
 abbrev pub IsDraftPlan : Problem → Forest → Type 0
-IsDraftPlan b plan = (strips : List Strip) × IsDraft b strips × (plan ≡ plan_with b.params strips)
+IsDraftPlan b plan = (strips : List Strip) × IsDraft b strips × (plan ≡ plan_with b strips)

@@ -1,5 +1,3 @@
 pub mod Strips
-pub mod Extents
-pub mod Choices
 pub mod Drafts
-pub mod Drawings
+pub mod inner

@@ -1,7 +1,6 @@
 -- The draft: every item alone in a strip, one after another.
 use Rattle.std.specs.Prelude.{◌≡◌, ℕ, zero, suc, ◌+◌, ◌<◌, ◌≤◌, ◌⊎◌, List, [], ◌∷◌, slice_get}
 use Rattle.std.specs.List.{filter_map, flat_map}
-use Rattle.glass_base.specs.declared.params.Params.{Params}
 use Rattle.glass_base.specs.declared.item.Item.{Item}
 use Rattle.glass_base.specs.Plates.{Width}
 use Rattle.glass_base.specs.Problem.{Problem}
@@ -27,27 +26,27 @@ abbrev pub Gap : ℕ → ℕ → ℕ → Type 0
 Gap waste from to = (from ≡ to) ⊎ (from + waste ≤ to)
 
 -- the strip may stand on a plate without defects, behind a strip that ends at `from` or, where this is 0, as the first one
-pub record IsAllowed (p : Params) (from : ℕ) (s : Strip) : Type 0 where
+pub record IsAllowed (b : Problem) (from : ℕ) (s : Strip) : Type 0 where
   pub turn : s.turn ≤ 1
   pub square : s.item.length ≡ s.item.width → s.turn ≡ 0
-  pub before : Gap p.waste from s.a
-  pub least_width : s.a + p.min1 ≤ s.b
-  pub most_width : s.b ≤ s.a + p.max1
-  pub behind : Gap p.waste s.b (Width p s.plate)
-  pub least_height : s.c + p.min2 ≤ s.d
-  pub below : Gap p.waste 0 s.c
-  pub above : Gap p.waste s.d p.height
-  pub beside : Gap p.waste (s.a + item_width s) s.b
-  pub over : (s.c + item_height s ≡ s.d) ⊎ ((s.c + item_height s + p.waste ≤ s.d) × (p.waste ≤ item_width s))
+  pub before : Gap b.params.waste from s.a
+  pub least_width : s.a + b.params.min1 ≤ s.b
+  pub most_width : s.b ≤ s.a + b.params.max1
+  pub behind : Gap b.params.waste s.b (Width b s.plate)
+  pub least_height : s.c + b.params.min2 ≤ s.d
+  pub below : Gap b.params.waste 0 s.c
+  pub above : Gap b.params.waste s.d b.params.height
+  pub beside : Gap b.params.waste (s.a + item_width s) s.b
+  pub over : (s.c + item_height s ≡ s.d) ⊎ ((s.c + item_height s + b.params.waste ≤ s.d) × (b.params.waste ≤ item_width s))
 
 -- on the last of the plates begun, behind its last strip, or as the first strip of the next plate, if there is one
-abbrev pub MayStand : Params → ℕ → ℕ → Strip → Type 0
-MayStand p begun from s =
-    ((s.plate + 1 ≡ begun) × IsAllowed p from s) ⊎ ((s.plate ≡ begun) × (begun < p.plates) × IsAllowed p 0 s)
+abbrev pub MayStand : Problem → ℕ → ℕ → Strip → Type 0
+MayStand b begun from s =
+    ((s.plate + 1 ≡ begun) × IsAllowed b from s) ⊎ ((s.plate ≡ begun) × (begun < b.params.plates) × IsAllowed b 0 s)
 
 -- a strip that the next item may have
-abbrev pub IsOpen : Params → ℕ → ℕ → Item → Strip → Type 0
-IsOpen p begun from item s = (s.item ≡ item) × MayStand p begun from s
+abbrev pub IsOpen : Problem → ℕ → ℕ → Item → Strip → Type 0
+IsOpen b begun from item s = (s.item ≡ item) × MayStand b begun from s
 
 -- the numbers by which strips are compared, the first that differs deciding
 abbrev pub rank : Strip → List ℕ
@@ -59,28 +58,28 @@ NotAfter (n ∷ numbers) [] = ⊥
 NotAfter (n ∷ numbers) (m ∷ others) = (n < m) ⊎ ((n ≡ m) × NotAfter numbers others)
 
 -- the least of the strips that the next item may have
-pub record IsNext (p : Params) (begun from : ℕ) (item : Item) (s : Strip) : Type 0 where
-  pub open_is : IsOpen p begun from item s
-  pub least : (t : Strip) → IsOpen p begun from item t → NotAfter (rank s) (rank t)
+pub record IsNext (b : Problem) (begun from : ℕ) (item : Item) (s : Strip) : Type 0 where
+  pub open_is : IsOpen b begun from item s
+  pub least : (t : Strip) → IsOpen b begun from item t → NotAfter (rank s) (rank t)
 
 -- the item may have no strip
-abbrev pub HasNoStrip : Params → ℕ → ℕ → Item → Type 0
-HasNoStrip p begun from item = (s : Strip) → ¬ IsOpen p begun from item s
+abbrev pub HasNoStrip : Problem → ℕ → ℕ → Item → Type 0
+HasNoStrip b begun from item = (s : Strip) → ¬ IsOpen b begun from item s
 
 -- these strips are the least ones for these items in their order, where so many plates are begun and the last strip ends at
 -- `from`
-abbrev pub AreStrips : Params → ℕ → ℕ → List Item → List Strip → Type 0
-AreStrips p begun from [] [] = Unit {0}
-AreStrips p begun from [] (s ∷ strips) = ⊥
-AreStrips p begun from (item ∷ items) [] = ⊥
-AreStrips p begun from (item ∷ items) (s ∷ strips) = IsNext p begun from item s × AreStrips p (s.plate + 1) s.b items strips
+abbrev pub AreStrips : Problem → ℕ → ℕ → List Item → List Strip → Type 0
+AreStrips b begun from [] [] = Unit {0}
+AreStrips b begun from [] (s ∷ strips) = ⊥
+AreStrips b begun from (item ∷ items) [] = ⊥
+AreStrips b begun from (item ∷ items) (s ∷ strips) = IsNext b begun from item s × AreStrips b (s.plate + 1) s.b items strips
 
 -- the first item that may have no strip has this number
-abbrev pub FailsAt : Params → ℕ → ℕ → List Item → ℕ → Type 0
-FailsAt p begun from [] number = ⊥
-FailsAt p begun from (item ∷ items) number =
-    (HasNoStrip p begun from item × (number ≡ item.id))
-    ⊎ ((s : Strip) × IsNext p begun from item s × FailsAt p (s.plate + 1) s.b items number)
+abbrev pub FailsAt : Problem → ℕ → ℕ → List Item → ℕ → Type 0
+FailsAt b begun from [] number = ⊥
+FailsAt b begun from (item ∷ items) number =
+    (HasNoStrip b begun from item × (number ≡ item.id))
+    ⊎ ((s : Strip) × IsNext b begun from item s × FailsAt b (s.plate + 1) s.b items number)
 
 -- the items of the stacks by their numbers, those of each stack in ascending sequence
 abbrev pub by_stacks : Problem → List Item
@@ -88,8 +87,8 @@ by_stacks b = flat_map (filter_map (slice_get b.items)) b.stacks
 
 -- the strips of the draft
 abbrev pub IsDraft : Problem → List Strip → Type 0
-IsDraft b strips = AreStrips b.params 0 0 (by_stacks b) strips
+IsDraft b strips = AreStrips b 0 0 (by_stacks b) strips
 
 -- there is no draft, and this is the number of the first item without a strip
 abbrev pub HasNoDraft : Problem → ℕ → Type 0
-HasNoDraft b number = FailsAt b.params 0 0 (by_stacks b) number
+HasNoDraft b number = FailsAt b 0 0 (by_stacks b) number

@@ -4,8 +4,9 @@ ghost use Rattle.std.specs.Prelude.{◌≡◌, ◌++◌, [], IfOk, OnOk, MatchRe
 ghost use Rattle.cut_model.specs.Fits.{Fits};
 ghost use Rattle.cut_model.specs.Lawful.{IsLawful};
 ghost use Rattle.cut_model.specs.Tree.{tree};
+ghost use Rattle.glass_base.specs.Problem.{IsProblem};
 ghost use Rattle.first_plan.specs.Drafts.{IsDraftPlan};
-ghost use Rattle.first_plan.specs.Drawings.{IsWithin};
+ghost use Rattle.first_plan.specs.inner.Drawings.{IsWithin};
 ghost use Rattle.std.specs.List.{filter_map};
 ghost use Rattle.first_plan.specs.Strips.{IsDraft, HasNoDraft, by_stacks};
 
@@ -45,7 +46,8 @@ fn append_stack(items: &mut Run<Item>, all: &[Item], positions: &[u32]) -> Resul
 
 /// The items of the stacks by their numbers, those of each stack in ascending sequence.
 fn items_by_stacks(alloc: Global, instance: &Instance) -> Result<Run<Item>, Memory>
-    ensures { IfOk result (λ run. run.items ≡ by_stacks instance.now) }
+    ensures items { IfOk result (λ run. run.items ≡ by_stacks instance.now) }
+    ensures rules { IsProblem instance.now }
 {
     let mut items = Run::new(alloc);
     for stack in 0..instance.stacks() {
@@ -58,13 +60,14 @@ fn items_by_stacks(alloc: Global, instance: &Instance) -> Result<Run<Item>, Memo
 fn draft(alloc: Global, instance: &Instance) -> Result<Result<Run<Strip>, u32>, Memory>
     ensures drafted { IfOk result (λ drafted. MatchResult drafted (λ strips. IsDraft instance.now strips.items) (HasNoDraft instance.now)) }
     ensures within { IfOk result (λ drafted. IfOk drafted (λ strips. All IsWithin strips.items)) }
+    ensures rules { IsProblem instance.now }
 {
     let items = items_by_stacks(alloc, instance)?;
     let mut strips = Run::new(alloc);
     let mut begun = 0;
     let mut from = 0;
     for item in items.as_slice() {
-        match next_strip(instance.params(), begun, from, item) {
+        match next_strip(instance, begun, from, item) {
             None => return Ok(Err(item.id)),
             Some(strip) => {
                 append(&mut strips, strip)?;
@@ -90,7 +93,7 @@ pub fn draft_plan(alloc: Global, instance: &Instance) -> Result<Result<Plan, u32
 {
     match draft(alloc, instance)? {
         Ok(strips) => {
-            let plan = plan_of_strips(alloc, instance.params(), strips.as_slice())?;
+            let plan = plan_of_strips(alloc, instance, strips.as_slice())?;
             Ok(Ok(plan))
         }
         Err(number) => Ok(Err(number)),

@@ -7,12 +7,12 @@ ghost use Rattle.cut_model.specs.declared.family.Sort.TheVariants as sort;
 ghost use Rattle.first_plan.specs.declared.strip.Strip.{Strip};
 ghost use Rattle.first_plan.specs.Strips.{item_width, item_height};
 ghost use Rattle.first_plan.specs.Drafts.{bands_of, cells_of, cut_into, gap, leaves_of, plan_with, strips_behind, whole_inner, whole_sort};
-ghost use Rattle.first_plan.specs.Drawings.{IsWithin, band_body, bands_then, cells_then, drawn, item_alone2 as item_alone2_of, item_alone3 as item_alone3_of, item_in2 as item_in2_of, item_in3 as item_in3_of, plates_then, strip_body, strips_then};
+ghost use Rattle.first_plan.specs.inner.Drawings.{IsWithin, band_body, bands_then, cells_then, drawn, item_alone2 as item_alone2_of, item_alone3 as item_alone3_of, item_in2 as item_in2_of, item_in3 as item_in3_of, plates_then, strip_body, strips_then};
 
 use crate::placing::{height_of, width_of};
 use crate::strip::Strip;
 use cut_model::{Body1, Body2, Body3, Body4, Leaf4, Piece1, Piece2, Piece3, Plan, Plate};
-use glass_base::{Memory, Params, Run, append, plate_width};
+use glass_base::{Instance, Memory, Run, append};
 use std::alloc::Global;
 use std::mem;
 
@@ -144,17 +144,17 @@ fn push_band_waste(bands: &mut Run<Piece2>, from: u32, to: u32) -> Result<(), Me
 }
 
 /// What becomes of an item's strip: its band, and below and above it what is left of the strip.
-fn body_with_band(alloc: Global, params: &Params, strip: &Strip) -> Result<Body1, Memory>
+fn body_with_band(alloc: Global, instance: &Instance, strip: &Strip) -> Result<Body1, Memory>
     requires { IsWithin strip.now }
-    ensures sort { IfOk result (λ body. whole_sort (bands_of params.now strip.now) ≡ sort1 body) }
-    ensures inner { IfOk result (λ body. whole_inner (bands_of params.now strip.now) ≡ inner1 body) }
+    ensures sort { IfOk result (λ body. whole_sort (bands_of instance.now strip.now) ≡ sort1 body) }
+    ensures inner { IfOk result (λ body. whole_inner (bands_of instance.now strip.now) ≡ inner1 body) }
 {
     let mut bands = Run::new(alloc);
     push_band_waste(&mut bands, 0, strip.c)?;
     let height = strip.d - strip.c;
     let body = body_with_item(alloc, strip)?;
     append(&mut bands, Piece2 { height, body })?;
-    push_band_waste(&mut bands, strip.d, params.height)?;
+    push_band_waste(&mut bands, strip.d, instance.params().height)?;
     Ok(body_of_strip(bands))
 }
 
@@ -191,16 +191,16 @@ fn push_rest(pieces: &mut Run<Piece1>, from: u32, to: u32, body: Body1) -> Resul
 /// Appends an item's strip to this plate.
 fn push_strip(
     alloc: Global,
-    params: &Params,
+    instance: &Instance,
     drawing: &mut Drawing,
     strip: &Strip,
 ) -> Result<(), Memory>
     requires within { IsWithin strip.now }
     requires same { strip.now.plate ≡ drawing.old.plate }
-    ensures { OnOk result ((later : List Strip) → drawn params.now drawing.new later ≡ drawn params.now drawing.old (strip.now ∷ later)) }
+    ensures { OnOk result ((later : List Strip) → drawn instance.now drawing.new later ≡ drawn instance.now drawing.old (strip.now ∷ later)) }
 {
     push_rest(&mut drawing.pieces, drawing.from, strip.a, Body1::Waste)?;
-    let body = body_with_band(alloc, params, strip)?;
+    let body = body_with_band(alloc, instance, strip)?;
     let width = strip.b - strip.a;
     append(&mut drawing.pieces, Piece1 { width, body })?;
     drawing.from = strip.b;
@@ -210,15 +210,15 @@ fn push_strip(
 /// Ends this plate with a piece of this kind.
 fn end_plate(
     alloc: Global,
-    params: &Params,
+    instance: &Instance,
     drawing: &mut Drawing,
     body: Body1,
 ) -> Result<(), Memory>
     requires { inner1 body ≡ nothing }
     ensures empty { OnOk result (drawing.new.pieces.items ≡ []) }
-    ensures drawn { OnOk result ((later : Forest) → plates_then drawing.new.plates.items later ≡ plates_then drawing.old.plates.items (piece 0 sort.Branch (strips_then drawing.old.pieces.items (gap drawing.old.from (Width params.now drawing.old.plate) (sort1 body) nothing)) later)) }
+    ensures drawn { OnOk result ((later : Forest) → plates_then drawing.new.plates.items later ≡ plates_then drawing.old.plates.items (piece 0 sort.Branch (strips_then drawing.old.pieces.items (gap drawing.old.from (Width instance.now drawing.old.plate) (sort1 body) nothing)) later)) }
 {
-    let end = plate_width(params, drawing.plate);
+    let end = instance.width(drawing.plate);
     push_rest(&mut drawing.pieces, drawing.from, end, body)?;
     let pieces = mem::replace(&mut drawing.pieces, Run::new(alloc));
     append(&mut drawing.plates, Plate { pieces })
@@ -227,15 +227,15 @@ fn end_plate(
 /// Goes on to another plate.
 fn begin_plate(
     alloc: Global,
-    params: &Params,
+    instance: &Instance,
     drawing: &mut Drawing,
     strip: &Strip,
 ) -> Result<(), Memory>
     requires { strip.now.plate ≢ drawing.old.plate }
     ensures plate { OnOk result (drawing.new.plate ≡ strip.now.plate) }
-    ensures drawn { OnOk result ((later : List Strip) → drawn params.now drawing.new (strip.now ∷ later) ≡ drawn params.now drawing.old (strip.now ∷ later)) }
+    ensures drawn { OnOk result ((later : List Strip) → drawn instance.now drawing.new (strip.now ∷ later) ≡ drawn instance.now drawing.old (strip.now ∷ later)) }
 {
-    end_plate(alloc, params, drawing, Body1::Waste)?;
+    end_plate(alloc, instance, drawing, Body1::Waste)?;
     drawing.plate = strip.plate;
     drawing.from = 0;
     Ok(())
@@ -244,28 +244,28 @@ fn begin_plate(
 /// Draws the next strip.
 fn draw_strip(
     alloc: Global,
-    params: &Params,
+    instance: &Instance,
     drawing: &mut Drawing,
     strip: &Strip,
 ) -> Result<(), Memory>
     requires { IsWithin strip.now }
-    ensures { OnOk result ((later : List Strip) → drawn params.now drawing.new later ≡ drawn params.now drawing.old (strip.now ∷ later)) }
+    ensures { OnOk result ((later : List Strip) → drawn instance.now drawing.new later ≡ drawn instance.now drawing.old (strip.now ∷ later)) }
 {
     if strip.plate != drawing.plate {
-        begin_plate(alloc, params, drawing, strip)?;
+        begin_plate(alloc, instance, drawing, strip)?;
     }
-    push_strip(alloc, params, drawing, strip)
+    push_strip(alloc, instance, drawing, strip)
 }
 
 /// The plan that strips make: each gap is one waste, the last plate ends in the residual where glass remains, and a piece
 /// that is exactly an item is the item. It fails only where memory runs out.
 pub(crate) fn plan_of_strips(
     alloc: Global,
-    params: &Params,
+    instance: &Instance,
     strips: &[Strip],
 ) -> Result<Plan, Memory>
     requires { All IsWithin strips.now }
-    ensures { IfOk result (λ plan. tree plan ≡ plan_with params.now strips.now) }
+    ensures { IfOk result (λ plan. tree plan ≡ plan_with instance.now strips.now) }
 {
     let plates = Run::new(alloc);
     let plate = match strips.first() {
@@ -279,9 +279,9 @@ pub(crate) fn plan_of_strips(
         from: 0,
     };
     for strip in strips {
-        draw_strip(alloc, params, &mut drawing, strip)?;
+        draw_strip(alloc, instance, &mut drawing, strip)?;
     }
-    end_plate(alloc, params, &mut drawing, Body1::Residual)?;
+    end_plate(alloc, instance, &mut drawing, Body1::Residual)?;
     Ok(Plan {
         plates: drawing.plates,
     })

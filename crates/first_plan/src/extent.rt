@@ -2,7 +2,7 @@
 
 ghost use Rattle.std.specs.Prelude.{◌≡◌, ℕ, ◌+◌, ◌<◌, ◌≤◌, ◌^◌, ◌↔◌, IsTrue, MatchOption};
 ghost use Rattle.first_plan.specs.Strips.{Gap};
-ghost use Rattle.first_plan.specs.Extents.{Spans, IsHeld, MayReach};
+ghost use Rattle.first_plan.specs.inner.Extents.{Spans, IsHeld, MayReach};
 
 /// What a piece has to keep along one direction. All lengths are in mm.
 #[derive(Clone, Copy)]

@@ -3,11 +3,11 @@
 ghost use Rattle.std.specs.Prelude.{◌≡◌, ◌≤◌, MatchOption};
 ghost use Rattle.glass_base.specs.Items.{IsItemInRange};
 ghost use Rattle.first_plan.specs.Strips.{HasNoStrip, IsNext, height_in, width_in};
-ghost use Rattle.first_plan.specs.Choices.{across, upward, comes_first as comes_first_of, lesser_of, strip_between, IsLeastTurned, HasNoTurned, IsLeastOn, HasNoneOn};
+ghost use Rattle.first_plan.specs.inner.Choices.{across, upward, comes_first as comes_first_of, lesser_of, strip_between, IsLeastTurned, HasNoTurned, IsLeastOn, HasNoneOn};
 
 use crate::extent::{Extent, least_end};
 use crate::strip::Strip;
-use glass_base::{Item, Params, plate_width};
+use glass_base::{Instance, Item};
 
 /// The side of an item along x.
 pub(crate) fn width_of(item: &Item, turn: u32) -> u32
@@ -30,23 +30,25 @@ pub(crate) fn height_of(item: &Item, turn: u32) -> u32
 }
 
 /// What the strip of an item has to keep along x.
-fn extent_across(params: &Params, item: &Item, plate: u32, turn: u32) -> Extent
-    ensures { result ≡ across params.now item.now plate turn }
+fn extent_across(instance: &Instance, item: &Item, plate: u32, turn: u32) -> Extent
+    ensures { result ≡ across instance.now item.now plate turn }
 {
+    let params = instance.params();
     Extent {
         size: width_of(item, turn),
         least: params.min1,
         most: params.max1,
-        limit: plate_width(params, plate),
+        limit: instance.width(plate),
         waste: params.waste,
         loose: true,
     }
 }
 
 /// What the band of an item has to keep along y.
-fn extent_upward(params: &Params, item: &Item, turn: u32) -> Extent
-    ensures { result ≡ upward params.now item.now turn }
+fn extent_upward(instance: &Instance, item: &Item, turn: u32) -> Extent
+    ensures { result ≡ upward instance.now item.now turn }
 {
+    let params = instance.params();
     Extent {
         size: height_of(item, turn),
         least: params.min2,
@@ -86,15 +88,15 @@ fn strip_with(
 }
 
 /// The least strip of an item in one turn, on a plate whose last strip ends at `from`.
-fn lay_turned(params: &Params, item: &Item, plate: u32, from: u32, turn: u32) -> Option<Strip>
+fn lay_turned(instance: &Instance, item: &Item, plate: u32, from: u32, turn: u32) -> Option<Strip>
     requires item { IsItemInRange item.now }
     requires from { from ≤ 20000 }
     requires turn { turn ≤ 1 }
     requires square { item.now.length ≡ item.now.width → turn ≡ 0 }
-    ensures { MatchOption result (HasNoTurned params.now item.now plate from turn) (IsLeastTurned params.now item.now plate from turn) }
+    ensures { MatchOption result (HasNoTurned instance.now item.now plate from turn) (IsLeastTurned instance.now item.now plate from turn) }
 {
-    let right = least_end(&extent_across(params, item, plate, turn), from);
-    let top = least_end(&extent_upward(params, item, turn), 0);
+    let right = least_end(&extent_across(instance, item, plate, turn), from);
+    let top = least_end(&extent_upward(instance, item, turn), 0);
     strip_with(item, plate, turn, from, right, top)
 }
 
@@ -125,33 +127,33 @@ fn lesser(unturned: Option<Strip>, turned: Option<Strip>) -> Option<Strip>
 }
 
 /// The least strip of an item on a plate whose last strip ends at `from`.
-fn lay(params: &Params, item: &Item, plate: u32, from: u32) -> Option<Strip>
+fn lay(instance: &Instance, item: &Item, plate: u32, from: u32) -> Option<Strip>
     requires item { IsItemInRange item.now }
     requires from { from ≤ 20000 }
-    ensures { MatchOption result (HasNoneOn params.now item.now plate from) (IsLeastOn params.now item.now plate from) }
+    ensures { MatchOption result (HasNoneOn instance.now item.now plate from) (IsLeastOn instance.now item.now plate from) }
 {
-    let unturned = lay_turned(params, item, plate, from, 0);
+    let unturned = lay_turned(instance, item, plate, from, 0);
     if item.length == item.width {
         unturned
     } else {
-        lesser(unturned, lay_turned(params, item, plate, from, 1))
+        lesser(unturned, lay_turned(instance, item, plate, from, 1))
     }
 }
 
 /// The least strip of the next item, where so many plates are begun and the last strip ends at `from`.
-pub(crate) fn next_strip(params: &Params, begun: u32, from: u32, item: &Item) -> Option<Strip>
+pub(crate) fn next_strip(instance: &Instance, begun: u32, from: u32, item: &Item) -> Option<Strip>
     requires item { IsItemInRange item.now }
     requires from { from ≤ 20000 }
-    ensures { MatchOption result (HasNoStrip params.now begun from item.now) (IsNext params.now begun from item.now) }
+    ensures { MatchOption result (HasNoStrip instance.now begun from item.now) (IsNext instance.now begun from item.now) }
 {
     if begun > 0 {
-        let strip = lay(params, item, begun - 1, from);
+        let strip = lay(instance, item, begun - 1, from);
         if strip.is_some() {
             return strip;
         }
     }
-    if begun < params.plates {
-        lay(params, item, begun, 0)
+    if begun < instance.params().plates {
+        lay(instance, item, begun, 0)
     } else {
         None
     }

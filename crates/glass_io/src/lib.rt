@@ -1,6 +1,8 @@
 //! Files and a place to print to, by what they hold and by how often they failed.
 #![tactic(auto)]
 
+mod decisions;
+mod faults;
 pub mod files;
 pub mod memory;
 pub mod system;

@@ -1,13 +1,14 @@
 //! The files of the system and standard output. They do not tell what they hold: what a real file keeps is trusted.
 
 ghost use Rattle.std.specs.Prelude.{None};
-ghost use Rattle.glass_io.specs.Held.{faults_of};
+ghost use Rattle.glass_io.specs.Held.{shelf_of};
 
+use crate::decisions::{fetched, written};
+use crate::faults::{count_read, one_more};
 use crate::files::{Fetched, Files, Sink, Trouble};
-use crate::memory::place;
-use glass_base::{Role, Run};
+use glass_base::Role;
 use std::alloc::Global;
-use std::io::{ErrorKind, Read, Write};
+use std::io::{Read, Write};
 use std::{fs, io, rt};
 
 /// The files of the system, by their paths.
@@ -15,7 +16,7 @@ use std::{fs, io, rt};
 pub struct StdFiles<'a, R> {
     pub rt: &'a R,
     pub alloc: Global,
-    /// How many fetches failed, by the place of their role; two places are spare.
+    /// How many fetches failed, by the place of their role; one place is spare.
     pub read_faults: [u64; 7],
     /// How many stores failed.
     pub write_faults: u64,
@@ -49,43 +50,24 @@ fn read_all<R: rt::Files>(rt: &R, alloc: Global, name: &str, limit: u64) -> io::
 }
 
 impl<'a, R: rt::Files> Files for StdFiles<'a, R> {
-    ghost told = { λ _. None };
-
-    ghost read_faults = { λ s. faults_of s.read_faults };
-
-    ghost write_faults = { λ s. s.write_faults };
+    ghost shelf = { λ s. shelf_of None s.read_faults s.write_faults };
 
     ghost reliable = { λ _. ⊥ };
 
     fn fetch(&mut self, role: Role, name: &str, limit: u64) -> Result<Fetched, Trouble> {
-        match read_all(self.rt, self.alloc, name, limit) {
-            Ok(bytes) => {
-                if bytes.len() as u64 > limit {
-                    Ok(Fetched::TooLong)
-                } else {
-                    Ok(Fetched::Bytes(Run::from(bytes)))
-                }
-            }
-            Err(e) => match e.kind() {
-                ErrorKind::NotFound => Ok(Fetched::Absent),
-                ErrorKind::OutOfMemory => Err(Trouble::Memory),
-                _ => {
-                    let at = place(role);
-                    self.read_faults[at] = self.read_faults[at].saturating_add(1);
-                    Err(Trouble::Failed)
-                }
-            },
+        let answer = fetched(read_all(self.rt, self.alloc, name, limit), limit);
+        if let Err(Trouble::Failed) = answer {
+            count_read(&mut self.read_faults, role);
         }
+        answer
     }
 
     fn store(&mut self, name: &str, bytes: &[u8]) -> Result<(), Trouble> {
-        match fs::write(self.rt, name, bytes) {
-            Ok(()) => Ok(()),
-            Err(_) => {
-                self.write_faults = self.write_faults.saturating_add(1);
-                Err(Trouble::Failed)
-            }
+        let answer = written(fs::write(self.rt, name, bytes));
+        if answer.is_err() {
+            self.write_faults = one_more(self.write_faults);
         }
+        answer
     }
 }
 
@@ -93,6 +75,8 @@ impl<'a, R: rt::Files> Files for StdFiles<'a, R> {
 #[derive(Drop)]
 pub struct StdSink<'a, R> {
     pub rt: &'a R,
+    /// How many writes it was asked for.
+    pub writes: u64,
     /// How many writes failed. A write that accepts nothing counts as one that failed.
     pub faults: u64,
 }
@@ -100,29 +84,30 @@ pub struct StdSink<'a, R> {
 impl<'a, R> StdSink<'a, R> {
     ghost use Rattle.std.specs.Prelude.{◌≡◌};
 
-    /// Standard output, with no fault so far.
+    /// Standard output, with no write and no fault so far.
     pub fn new(rt: &'a R) -> StdSink<'a, R>
-        ensures { result.faults ≡ 0 }
+        ensures unasked { result.writes ≡ 0 }
+        ensures unfailed { result.faults ≡ 0 }
     {
-        StdSink { rt, faults: 0 }
+        StdSink {
+            rt,
+            writes: 0,
+            faults: 0,
+        }
     }
 }
 
 impl<'a, R: Print> Sink for StdSink<'a, R> {
-    ghost told = { λ _. None };
-
-    ghost faults = { λ s. s.faults };
+    ghost paper = { λ s. record { printed = None; writes = s.writes; faults = s.faults } };
 
     ghost reliable = { λ _. ⊥ };
 
     fn write(&mut self, bytes: &[u8]) -> Result<(), Trouble> {
-        let mut out = io::writer(self.rt);
-        match out.write_all(bytes) {
-            Ok(()) => Ok(()),
-            Err(_) => {
-                self.faults = self.faults.saturating_add(1);
-                Err(Trouble::Failed)
-            }
+        self.writes = one_more(self.writes);
+        let answer = written(io::writer(self.rt).write_all(bytes));
+        if answer.is_err() {
+            self.faults = one_more(self.faults);
         }
+        answer
     }
 }

@@ -1,19 +1,30 @@
--- The answer to what was given: parameters, and the texts of files.
-use Rattle.std.proofs.Common.{◌≡◌, IfSome, List, ℕ, Option, Some, None, inl}
+-- The answer to the texts that were fetched is the answer to what the files hold.
+use Rattle.std.proofs.Common.{◌≡◌, IfSome, List, ℕ, Option, Some, None, sym, ap, subst, ◌∙◌, inl, inr}
 use Rattle.std.specs.Prelude.{Ok}
-use Rattle.glass_base.specs.declared.params.Params.{Params}
 use Rattle.glass_io.specs.Told.{Contents}
-use Rattle.glass_run.specs.Calls.{Answers, AnswersTexts, files_of, texts_of}
-use Rattle.glass_run.specs.Words.{Call}
-use Rattle.glass_run.specs.Answers.{Answer, ParamsGiven, WithParams}
+use Rattle.glass_run.specs.Answers.{Answer}
+use Rattle.glass_base.specs.Problem.{Problem}
+use Rattle.glass_run.specs.Commands.{Answers, AnswersInstance, AnswersTexts, flaws_of}
+use Rattle.glass_run.specs.Instances.{InstanceRefused, IsInstanceOf}
+use Rattle.glass_run.specs.declared.grammar.Verb.{Verb}
+use Rattle.glass_run.specs.Grammar.{Line, files_of}
+use Rattle.glass_run.specs.Texts.{Texts, texts_of}
 
--- an answer with the parameters that were given
-pub with_given : (given : Option (List ℕ)) (params : Params) (Next : Params → Type 0) (answer : Answer) → ParamsGiven given (Ok params) → Next params → WithParams given Next answer
-with_given None params Next answer h next = (params, h, next)
-with_given (Some bytes) params Next answer h next = inl (params, h, next)
+pub with_texts : (told : Option Contents) (line : Line) (texts : Texts) (answer : Answer) → IfSome told (λ contents. texts_of contents (files_of line) ≡ Ok texts) → AnswersTexts line texts answer →
+    IfSome told (λ contents. Answers contents line answer)
+with_texts None line texts answer e h = tt
+with_texts (Some contents) line texts answer e h = rw e h
 
--- an answer to the texts that were fetched
-pub with_texts : (told : Option Contents) (call : Call) (texts : List (List ℕ)) (answer : Answer) → IfSome told (λ contents. texts_of contents (files_of call) ≡ Ok texts) → AnswersTexts call texts answer →
-    IfSome told (λ contents. Answers contents call answer)
-with_texts None call texts answer e h = tt
-with_texts (Some contents) call texts answer e h = rw e h
+-- the answer to the instance that the texts say
+pub said_instance : (verb : Verb) (line : Line) (texts : Texts) (flaws : Option (List ℕ)) (b : Problem) (answer : Answer) → line.verb ≡ verb → flaws ≡ flaws_of verb texts →
+    IsInstanceOf texts flaws b → AnswersInstance verb line texts b answer → AnswersTexts line texts answer
+said_instance verb line texts flaws b answer e given is h =
+    let same : flaws ≡ flaws_of line.verb texts = given ∙ ap (λ (v : Verb). flaws_of v texts) (sym e) in
+    inl (b, subst (λ (f : Option (List ℕ)). IsInstanceOf texts f b) same is, subst (λ (v : Verb). AnswersInstance v line texts b answer) (sym e) h)
+
+-- the answer where they say none
+pub said_none : (verb : Verb) (line : Line) (texts : Texts) (flaws : Option (List ℕ)) (told answer : Answer) → line.verb ≡ verb → flaws ≡ flaws_of verb texts →
+    InstanceRefused texts flaws told → answer ≡ told → AnswersTexts line texts answer
+said_none verb line texts flaws told answer e given refused is =
+    let same : flaws ≡ flaws_of line.verb texts = given ∙ ap (λ (v : Verb). flaws_of v texts) (sym e) in
+    inr (subst (λ (f : Option (List ℕ)). InstanceRefused texts f answer) same (subst (λ (a : Answer). InstanceRefused texts flaws a) (sym is) refused))

@@ -1,4 +1,11 @@
-mod Faults
-mod Given
+mod Prefixes
+mod FetchedTexts
+mod ListedFiles
+mod Refusals
+mod TextsByRole
+mod Stores
+mod Endings
 mod Judged
-mod FetchFacts
+mod Given
+mod Statuses
+mod Headlines

@@ -1,5 +1,5 @@
--- The codes that a program ends with.
-use Rattle.std.specs.Prelude.{ℕ}
+-- The codes that a program ends with, and the statuses of answers.
+use Rattle.std.specs.Prelude.{◌≡◌, ℕ, Bool, true, false}
 use Rattle.glass_run.specs.declared.status.Status.{Status}
 use Rattle.glass_run.specs.declared.status.Status.TheVariants as status
 
@@ -18,3 +18,14 @@ code_of status.Refused = 10
 code_of status.NoDraft = 11
 code_of status.WriteFault = 12
 code_of status.Done = 0
+
+-- whether a status is that of an answer: not of wrong words, of a fault, or of want of memory
+abbrev pub is_answered : Status → Bool
+is_answered status.Usage = false
+is_answered status.ReadFault = false
+is_answered status.Memory = false
+is_answered status.WriteFault = false
+is_answered _ = true
+
+abbrev pub IsAnswered : Status → Type 0
+IsAnswered status = is_answered status ≡ true

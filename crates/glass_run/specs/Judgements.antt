@@ -1,16 +1,8 @@
--- What `judge` prints, by the bytes of its files.
-use Rattle.std.specs.Prelude.{◌≡◌, ◌⊎◌, ◌++◌, ℕ, List, Option, Result, Ok, Err, codes, All}
+-- What `judge` answers to an instance and the text of a plan.
+use Rattle.std.specs.Prelude.{◌≡◌, ◌⊎◌, ◌++◌, ℕ, List, Result, Ok, Err, codes, All}
 use Rattle.std.specs.Fmt.{decimal}
-use Rattle.glass_base.specs.BadInstance.{RefusesLists}
-use Rattle.glass_base.specs.Problem.{Problem, IsMadeOf}
-use Rattle.glass_base.specs.declared.bad_text.BadText.{BadText}
-use Rattle.glass_base.specs.declared.item.Defect.{Defect}
-use Rattle.glass_base.specs.declared.instance.BadInstance.{BadInstance}
-use Rattle.glass_base.specs.declared.item.Item.{Item}
-use Rattle.glass_base.specs.declared.params.Params.{Params}
+use Rattle.glass_base.specs.Problem.{Problem}
 use Rattle.glass_base.specs.declared.role.Role.TheVariants as role
-use Rattle.batch_csv.specs.Batches.{items_of}
-use Rattle.stock_csv.specs.DefectRows.{defects_of}
 use Rattle.cut_model.specs.declared.broken.Broken.{Broken}
 use Rattle.cut_model.specs.declared.broken.Rule.{Rule}
 use Rattle.cut_model.specs.Families.{families_of, rows_of}
@@ -24,7 +16,7 @@ use Rattle.stack_order.specs.Cuts.{cuts_of}
 use Rattle.plan_csv.specs.PlanTexts.{plan_said}
 use Rattle.plan_csv.specs.declared.bad_plan.BadPlan.{BadPlan}
 use Rattle.plan_csv.specs.declared.bad_plan.BadPlan.TheVariants as bad_plan
-use Rattle.glass_run.specs.Answers.{Answer, ListsRefused, TextRefused, WithParams, bad_input, only_lines}
+use Rattle.glass_run.specs.Answers.{Answer, bad_input, only_lines}
 use Rattle.glass_run.specs.declared.status.Status.TheVariants as status
 
 -- the word by which a line names a rule
@@ -63,14 +55,14 @@ lawful loss = only_lines status.Done (lawful_line loss)
 -- the first breach of a plan: the rules on cuts come before those on the order of items
 abbrev pub IsFirstBroken : Problem → Forest → Broken → Type 0
 IsFirstBroken b plan broken =
-    IsCutBreach b (families_of b.params plan) broken
-    ⊎ (All (KeepsCutRules b) (families_of b.params plan)
-    × IsOrderBreach b (cuts_of b.items (rows_of b.params plan)) (plate_rows (rows_of b.params plan)) broken)
+    IsCutBreach b (families_of b plan) broken
+    ⊎ (All (KeepsCutRules b) (families_of b plan)
+    × IsOrderBreach b (cuts_of b.items (rows_of b plan)) (plate_rows (rows_of b plan)) broken)
 
 -- the answer to a plan: its loss exactly where it is lawful, else its first breach
 abbrev pub Judges : Problem → Forest → Answer → Type 0
 Judges b plan answer =
-    (IsLawful b plan × (answer ≡ lawful (loss_of b.params plan)))
+    (IsLawful b plan × (answer ≡ lawful (loss_of b plan)))
     ⊎ ((broken : Broken) × (¬ IsLawful b plan) × IsFirstBroken b plan broken × (answer ≡ unlawful broken))
 
 -- the answer to a text that is no plan
@@ -83,27 +75,11 @@ PlanRefused (bad_plan.Level row cut) answer = answer ≡ bad_input role.Plan 23 
 PlanRefused (bad_plan.Size row column) answer = answer ≡ bad_input role.Plan 24 row column
 PlanRefused (bad_plan.Kind row) answer = answer ≡ bad_input role.Plan 25 row 0
 
--- the answer to the plan that a text says, or to its refusal
-abbrev pub JudgesPlan : Problem → Result Forest BadPlan → Answer → Type 0
-JudgesPlan b (Ok plan) answer = Judges b plan answer
-JudgesPlan b (Err reason) answer = PlanRefused reason answer
+-- the answer to the plan that was said, or to its refusal
+abbrev pub JudgesSaid : Problem → Result Forest BadPlan → Answer → Type 0
+JudgesSaid b (Ok plan) answer = Judges b plan answer
+JudgesSaid b (Err reason) answer = PlanRefused reason answer
 
--- the answer to the instance of these lists: it is made before the plan is read
-abbrev pub JudgesLists : List Item → List Defect → List ℕ → Params → Answer → Type 0
-JudgesLists items defects plan params answer =
-    ((b : Problem) × IsMadeOf b params items defects × JudgesPlan b (plan_said b.params plan) answer)
-    ⊎ ((reason : BadInstance) × RefusesLists reason items defects × ListsRefused reason answer)
-
--- the answer to the defects that a text says, or to its refusal
-abbrev pub JudgesDefects : List Item → Result (List Defect) BadText → Option (List ℕ) → List ℕ → Answer → Type 0
-JudgesDefects items (Ok defects) params plan answer = WithParams params (λ p. JudgesLists items defects plan p answer) answer
-JudgesDefects items (Err reason) params plan answer = TextRefused role.Defects reason answer
-
--- the answer to the items that a text says, or to its refusal
-abbrev pub JudgesBatch : Result (List Item) BadText → List ℕ → Option (List ℕ) → List ℕ → Answer → Type 0
-JudgesBatch (Ok items) defects params plan answer = JudgesDefects items (defects_of defects) params plan answer
-JudgesBatch (Err reason) defects params plan answer = TextRefused role.Batch reason answer
-
--- the answer to the bytes of the files: batch, defects and parameters are read in this order, then the instance is made
-abbrev pub JudgesTexts : List ℕ → List ℕ → Option (List ℕ) → List ℕ → Answer → Type 0
-JudgesTexts batch defects params plan answer = JudgesBatch (items_of batch) defects params plan answer
+-- the answer to the text of a plan
+abbrev pub JudgesText : Problem → List ℕ → Answer → Type 0
+JudgesText b text answer = JudgesSaid b (plan_said b text) answer

@@ -1,7 +1,12 @@
-pub mod Words
+pub mod Grammar
 pub mod Codes
 pub mod Answers
+pub mod Texts
+pub mod Instances
+pub mod Drafts
 pub mod Judgements
-pub mod Calls
+pub mod Commands
 pub mod Runs
-pub mod Fetched
+pub mod Headlines
+pub mod Exits
+pub mod inner

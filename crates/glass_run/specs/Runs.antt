@@ -1,53 +1,71 @@
 -- What a run leaves, by how it ended.
-use Rattle.std.specs.Prelude.{◌≡◌, ◌≢◌, ◌⊎◌, ◌++◌, ℕ, List, codes, Option, Some, None}
-use Rattle.glass_io.specs.Told.{Appended, AppendedPrefix, Contents, SameBytes, SameContents, Stored, StoredPrefix}
-use Rattle.glass_run.specs.Answers.{Answer, role_word}
-use Rattle.glass_run.specs.Calls.{Answers, Reaches, files_of, out_of}
+use Rattle.std.specs.Prelude.{◌≡◌, ◌⊎◌, ◌++◌, ◌≤◌, ℕ, List, length, take, fold, slice_get, if◌then◌else◌, codes, Option, Some, None}
+use Rattle.std.specs.Str.{bytes_eq}
 use Rattle.glass_base.specs.declared.role.Role.{Role}
-use Rattle.glass_run.specs.Words.{Call}
+use Rattle.glass_io.specs.Told.{Appended, AppendedPrefix, Contents, Counted, HoldsPrefix, Paper, ReadFailed, SameBytes, SameContents, SameFaults, Shelf, WhereTold, WriteFailed}
+use Rattle.glass_run.specs.Answers.{Answer, Store}
+use Rattle.glass_run.specs.Commands.{Answers}
+use Rattle.glass_run.specs.Grammar.{Line, files_of, role_word}
+use Rattle.glass_run.specs.Texts.{Reaches}
 use Rattle.glass_run.specs.declared.status.Status.{Status}
 use Rattle.glass_run.specs.declared.status.Status.TheVariants as status
 
--- a status that comes of what stands under the names
-abbrev pub TellsFile : Status → Type 0
-TellsFile status.Usage = ⊥
-TellsFile status.ReadFault = ⊥
-TellsFile status.Memory = ⊥
-TellsFile status.WriteFault = ⊥
-TellsFile _ = Unit {0}
+-- all that is told before and after a run
+pub record World : Type 0 where
+  pub shelf : Shelf
+  pub paper : Paper
 
--- the text, if there is one, stands under its name, and nothing else changed
-abbrev pub Stands : List ℕ → Option (List ℕ) → Option Contents → Option Contents → Type 0
-Stands name None old new = SameContents old new
-Stands name (Some text) old new = Stored name text old new
+abbrev pub world : Shelf → Paper → World
+world shelf paper = record { shelf = shelf; paper = paper }
 
--- a store that failed may have left a front of the text
-abbrev pub CutShort : List ℕ → Option (List ℕ) → Option Contents → Option Contents → Type 0
-CutShort name None old new = ⊥
-CutShort name (Some text) old new = StoredPrefix name text old new
+-- what is held once a file is stored
+abbrev pub with_store : Contents → Store → Contents
+with_store contents store name = if bytes_eq store.name name then Some store.bytes else contents name
 
--- a run that ended with its answer: the status is the answer's, its text is stored, and its lines are printed
-pub record Completes (name : List ℕ) (answer : Answer) (old new : Option Contents) (before after : Option (List ℕ)) (result : Status) : Type 0 where
-  pub status_is : result ≡ answer.status
-  pub stored : Stands name answer.text old new
-  pub printed : Appended answer.lines before after
+-- what is held once these files are stored, one after another
+abbrev pub with_stores : Contents → List Store → Contents
+with_stores contents stores = fold with_store contents stores
 
--- a store or a write failed: a front of the text stands and nothing is printed, or the text stands and a front of the lines
--- is printed
-abbrev pub Fails : List ℕ → Answer → Option Contents → Option Contents → Option (List ℕ) → Option (List ℕ) → Type 0
-Fails name answer old new before after =
-    (CutShort name answer.text old new × SameBytes before after) ⊎ (Stands name answer.text old new × AppendedPrefix answer.lines before after)
+-- exactly these files were stored
+abbrev pub Stands : List Store → Option Contents → Option Contents → Type 0
+Stands stores = WhereTold (λ a b. (name : List ℕ) → b name ≡ with_stores a stores name)
 
--- memory ran out: the text stands or nothing is stored, and nothing is printed
-abbrev pub BreaksOff : List ℕ → Answer → Option Contents → Option Contents → Option (List ℕ) → Option (List ℕ) → Type 0
-BreaksOff name answer old new before after = Stands name answer.text old new × SameBytes before after
+-- so many of these files were stored, and of the next one a front at the most
+pub record IsCutShort (stores : List Store) (a b : Contents) : Type 0 where
+  pub whole : ℕ
+  pub next : Store
+  pub there : slice_get stores whole ≡ Some next
+  pub front : HoldsPrefix next.name next.bytes (with_stores a (take whole stores)) b
 
--- nothing is stored
-abbrev pub Prints : List ℕ → Option Contents → Option Contents → Option (List ℕ) → Option (List ℕ) → Type 0
-Prints lines old new before after = SameContents old new × Appended lines before after
+abbrev pub CutShort : List Store → Option Contents → Option Contents → Type 0
+CutShort stores = WhereTold (IsCutShort stores)
 
-abbrev pub PrintsFront : List ℕ → Option Contents → Option Contents → Option (List ℕ) → Option (List ℕ) → Type 0
-PrintsFront lines old new before after = SameContents old new × AppendedPrefix lines before after
+-- the first of these files were stored, up to one of them or all
+abbrev pub StandsInPart : List Store → Option Contents → Option Contents → Type 0
+StandsInPart stores = WhereTold (λ a b. (n : ℕ) × (n ≤ length stores) × ((name : List ℕ) → b name ≡ with_stores a (take n stores) name))
+
+-- nothing was stored, and no fault counted
+pub record IsUntouched (old new : Shelf) : Type 0 where
+  pub contents : SameContents old.contents new.contents
+  pub faults : SameFaults old new
+
+-- these lines were printed, by one write
+pub record Prints (lines : List ℕ) (old new : Paper) : Type 0 where
+  pub printed : Appended lines old.printed new.printed
+  pub once : Counted old.writes new.writes
+  pub sound : new.faults ≡ old.faults
+
+-- one write failed, which printed a front of these lines
+pub record PrintsFront (lines : List ℕ) (old new : Paper) : Type 0 where
+  pub printed : AppendedPrefix lines old.printed new.printed
+  pub once : Counted old.writes new.writes
+  pub failed : Counted old.faults new.faults
+
+-- nothing was printed; one write was asked for at the most, which found no memory
+pub record IsUnprinted (old new : Paper) : Type 0 where
+  pub printed : SameBytes old.printed new.printed
+  pub writes : (new.writes ≡ old.writes) ⊎ Counted old.writes new.writes
+  pub sound : new.faults ≡ old.faults
 
 abbrev pub usage_line : List ℕ
 usage_line = codes "usage\n"
@@ -55,34 +73,76 @@ usage_line = codes "usage\n"
 abbrev pub read_fault_line : Role → List ℕ
 read_fault_line of = codes "read fault " ++ role_word of ++ codes "\n"
 
--- some answer to what stands under the names
-abbrev pub SomeAnswer : Contents → Call → (Answer → Type 0) → Type 0
-SomeAnswer contents call P = (answer : Answer) × Answers contents call answer × P answer
+-- a run whose words are no command line, by its status
+abbrev pub UsageRun : World → World → Status → Type 0
+UsageRun old new status.Usage = IsUntouched old.shelf new.shelf × Prints usage_line old.paper new.paper
+UsageRun old new status.Memory = IsUntouched old.shelf new.shelf × IsUnprinted old.paper new.paper
+UsageRun old new status.WriteFault = IsUntouched old.shelf new.shelf × PrintsFront usage_line old.paper new.paper
+UsageRun old new _ = ⊥
 
--- a read of a file of the command failed, where all files before it were whole, and its count of faults rose
-abbrev pub SomeFault : Contents → Call → (Role → Type 0) → (List ℕ → Type 0) → Type 0
-SomeFault contents call FaultRose P = (of : Role) × Reaches contents of (files_of call) × FaultRose of × P (read_fault_line of)
+-- an answer to what the files hold, where that is told
+abbrev pub AnswersTold : Option Contents → Line → Answer → Type 0
+AnswersTold None line answer = Unit {0}
+AnswersTold (Some contents) line answer = Answers contents line answer
 
--- a run whose words are no command, by its status
-abbrev pub UsageRun : Option Contents → Option Contents → Option (List ℕ) → Option (List ℕ) → Status → Type 0
-UsageRun old new before after status.Usage = Prints usage_line old new before after
-UsageRun old new before after status.Memory = SameContents old new × SameBytes before after
-UsageRun old new before after status.WriteFault = PrintsFront usage_line old new before after
-UsageRun old new before after _ = ⊥
+-- a file of this role is fetched, and all files before it were whole
+abbrev pub ReachesTold : Option Contents → Role → Line → Type 0
+ReachesTold None of line = Unit {0}
+ReachesTold (Some contents) of line = Reaches contents of (files_of line)
 
--- a run of a command, by its status; every status that is not named here is that of an answer
-abbrev pub CallRun : Call → Contents → Option Contents → Option (List ℕ) → Option (List ℕ) → (Role → Type 0) → Status → Type 0
-CallRun call contents new before after FaultRose status.Usage = ⊥
-CallRun call contents new before after FaultRose status.ReadFault = SomeFault contents call FaultRose (λ line. Prints line (Some contents) new before after)
-CallRun call contents new before after FaultRose status.Memory =
-    (SameContents (Some contents) new × SameBytes before after) ⊎ SomeAnswer contents call (λ answer. BreaksOff (out_of call) answer (Some contents) new before after)
-CallRun call contents new before after FaultRose status.WriteFault =
-    SomeFault contents call FaultRose (λ line. PrintsFront line (Some contents) new before after)
-    ⊎ SomeAnswer contents call (λ answer. Fails (out_of call) answer (Some contents) new before after)
-CallRun call contents new before after FaultRose result = SomeAnswer contents call (λ answer. Completes (out_of call) answer (Some contents) new before after result)
+-- a run that did what its answer says: all is stored, the lines are printed, and no fault was counted
+pub record Completes (line : Line) (old new : World) (result : Status) : Type 0 where
+  pub answer : Answer
+  pub answers : AnswersTold old.shelf.contents line answer
+  pub status_is : result ≡ answer.status
+  pub stored : Stands answer.stores old.shelf.contents new.shelf.contents
+  pub faults : SameFaults old.shelf new.shelf
+  pub prints : Prints answer.lines old.paper new.paper
 
--- a run, by its words and by what the files hold, where that is told
-abbrev pub RunsTo : Option Call → Option Contents → Option Contents → Option (List ℕ) → Option (List ℕ) → (Role → Type 0) → Status → Type 0
-RunsTo None old new before after FaultRose result = UsageRun old new before after result
-RunsTo (Some call) None new before after FaultRose result = result ≢ status.Usage
-RunsTo (Some call) (Some contents) new before after FaultRose result = CallRun call contents new before after FaultRose result
+-- a read of one of the files failed, which was counted; nothing is stored
+pub record FailsToRead (line : Line) (old new : World) (of : Role) : Type 0 where
+  pub reached : ReachesTold old.shelf.contents of line
+  pub contents : SameContents old.shelf.contents new.shelf.contents
+  pub counted : ReadFailed of old.shelf new.shelf
+
+-- a store failed, which was counted: the files before it are whole, and nothing is printed or was to be
+pub record FailsToStore (line : Line) (old new : World) : Type 0 where
+  pub answer : Answer
+  pub answers : AnswersTold old.shelf.contents line answer
+  pub stored : CutShort answer.stores old.shelf.contents new.shelf.contents
+  pub counted : WriteFailed old.shelf new.shelf
+  pub silent : new.paper ≡ old.paper
+
+-- the write failed, which was counted: all is stored, and a front of the lines is printed
+pub record FailsToPrint (line : Line) (old new : World) : Type 0 where
+  pub answer : Answer
+  pub answers : AnswersTold old.shelf.contents line answer
+  pub stored : Stands answer.stores old.shelf.contents new.shelf.contents
+  pub faults : SameFaults old.shelf new.shelf
+  pub prints : PrintsFront answer.lines old.paper new.paper
+
+-- memory ran out before anything was stored; a fault of a read may have been counted that could not be told
+abbrev pub StopsEarly : Line → World → World → Type 0
+StopsEarly line old new = (IsUntouched old.shelf new.shelf ⊎ ((of : Role) × FailsToRead line old new of)) × IsUnprinted old.paper new.paper
+
+-- memory ran out while the answer was stored or printed: some files are stored, and the others are as before
+pub record StopsLate (line : Line) (old new : World) : Type 0 where
+  pub answer : Answer
+  pub answers : AnswersTold old.shelf.contents line answer
+  pub stored : StandsInPart answer.stores old.shelf.contents new.shelf.contents
+  pub faults : SameFaults old.shelf new.shelf
+  pub unprinted : IsUnprinted old.paper new.paper
+
+-- a run of a command line, by its status; every status that is not named here is that of an answer
+abbrev pub LineRun : Line → World → World → Status → Type 0
+LineRun line old new status.Usage = ⊥
+LineRun line old new status.ReadFault = (of : Role) × FailsToRead line old new of × Prints (read_fault_line of) old.paper new.paper
+LineRun line old new status.Memory = StopsEarly line old new ⊎ StopsLate line old new
+LineRun line old new status.WriteFault =
+    FailsToStore line old new ⊎ FailsToPrint line old new ⊎ ((of : Role) × FailsToRead line old new of × PrintsFront (read_fault_line of) old.paper new.paper)
+LineRun line old new result = Completes line old new result
+
+-- a run, by its words as a command line
+abbrev pub RunsTo : Option Line → World → World → Status → Type 0
+RunsTo None old new result = UsageRun old new result
+RunsTo (Some line) old new result = LineRun line old new result

@@ -1,15 +1,23 @@
-//! The top call: from the words of a command line to files and printed lines.
+//! The commands of Glass, over files and a sink that may be real or in memory.
 #![tactic(auto)]
 
+mod drafting;
 mod fetching;
 pub mod gate;
+pub mod grammar;
+mod instances;
 mod judging;
+pub mod laws;
 mod lines;
+mod notices;
+pub mod program;
 mod reply;
 pub mod run;
 pub mod status;
+mod texts;
 mod words;
 
 pub use gate::{Gate, OpenGate};
+pub use program::run_program;
 pub use run::glass;
 pub use status::Status;

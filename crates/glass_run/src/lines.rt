@@ -2,33 +2,31 @@
 
 ghost use Rattle.std.specs.Prelude.{◌≡◌, IfOk};
 ghost use Rattle.std.specs.String.{string_bytes};
-ghost use Rattle.glass_run.specs.Answers.{absent_line as absent_line_of, bad_input_line as bad_input_line_of, no_draft_line as no_draft_line_of, role_word as role_word_of, summary, too_long_line as too_long_line_of};
+ghost use Rattle.glass_run.specs.Answers.{absent_line as absent_line_of, bad_input_line as bad_input_line_of, too_long_line as too_long_line_of};
+ghost use Rattle.glass_run.specs.Drafts.{no_draft_line as no_draft_line_of, summary};
 ghost use Rattle.glass_run.specs.Judgements.{lawful_line as lawful_line_of, rule_word as rule_word_of, unlawful_line as unlawful_line_of};
 ghost use Rattle.glass_run.specs.Runs.{read_fault_line as read_fault_line_of};
 
+use crate::grammar::role_word;
 use cut_model::{Broken, Rule};
 use glass_base::{Memory, Role};
 use std::alloc::Global;
 
-/// The word by which a line names a file.
-fn role_word(role: Role) -> &'static str
-    ensures { result.now ≡ role_word_of role }
+/// The line for words that are no command line.
+pub(crate) const USAGE_LINE: &str = "usage\n";
+
+/// The line for a file that cannot be read. It stands ready, so that a fault is told without asking for memory.
+pub(crate) fn read_fault_line(role: Role) -> &'static str
+    ensures { result.now ≡ read_fault_line_of role }
 {
     match role {
-        Role::Batch => "batch",
-        Role::Defects => "defects",
-        Role::Params => "params",
-        Role::Plan => "plan",
-        Role::Cert => "cert",
+        Role::Batch => "read fault batch\n",
+        Role::Defects => "read fault defects\n",
+        Role::Params => "read fault params\n",
+        Role::Plan => "read fault plan\n",
+        Role::Cert => "read fault cert\n",
+        Role::Plates => "read fault plates\n",
     }
-}
-
-/// The line for a file that cannot be read.
-pub(crate) fn read_fault_line(alloc: Global, role: Role) -> Result<String, Memory>
-    ensures { IfOk result (λ line. string_bytes line ≡ read_fault_line_of role) }
-{
-    let word = role_word(role);
-    Ok(format!(in alloc; "read fault {word}\n")?)
 }
 
 /// The line for a file that is not there.

@@ -1,142 +1,147 @@
 //! The top call.
 
-ghost use Rattle.std.specs.Prelude.{◌≡◌, ◌≢◌, ◌⊎◌, length, map, option_map, IfOk, IfErr, IfSome, OnOk, IsErrOf};
+ghost use Rattle.std.specs.Prelude.{◌≡◌, ◌≢◌, ◌⊎◌, [], map, option_map, slice_index_or, IfOk, IfErr, IfSome, OnOk, IsErrOf};
 ghost use Rattle.std.specs.String.{string_bytes};
-ghost use Rattle.glass_base.specs.declared.role.Role.{Role as GlassRole};
-ghost use Rattle.glass_io.specs.Told.{Appended, AppendedPrefix, HasCause, NeverFall, Rose, SameContents};
+ghost use Rattle.glass_io.specs.Told.{CountsStore, SameContents};
 ghost use Rattle.glass_io.specs.declared.files.Trouble.TheVariants.{Failed, Memory as OutOfMemory};
-ghost use Rattle.glass_run.specs.Answers.{answer_in};
-ghost use Rattle.glass_run.specs.Calls.{Answers, AnswersTexts, Reaches, files_of};
-ghost use Rattle.glass_run.specs.Fetched.{OnFault};
-ghost use Rattle.glass_run.specs.Words.{call_in, command_of, draft as draft_call, draft_names, judge as judge_call, judge_names};
-ghost use Rattle.glass_run.specs.Runs.{CutShort, Fails, RunsTo, Stands, TellsFile, read_fault_line as read_fault_line_of};
+ghost use Rattle.glass_run.specs.Commands.{Answers, AnswersInstance, AnswersTexts, flaws_of};
+ghost use Rattle.glass_run.specs.inner.Deliveries.{Delivers, Ends};
+ghost use Rattle.glass_run.specs.inner.Forms.{CountsFetches, OnFault, answer_in, line_in, store_in, texts_in};
+ghost use Rattle.glass_run.specs.Grammar.{Line, files_of, line_of, stored_names};
+ghost use Rattle.glass_run.specs.Instances.{IsInstanceOf};
+ghost use Rattle.glass_run.specs.Runs.{CutShort, RunsTo, Stands, StandsInPart, world};
+ghost use Rattle.glass_run.specs.Texts.{Reaches};
 
+use crate::drafting::draft_instance;
 use crate::fetching::{NoReply, fetch_files};
 use crate::gate::Gate;
-use crate::judging::judge_texts;
-use crate::lines::read_fault_line;
-use crate::reply::{Reply, draft_texts};
+use crate::grammar::Verb;
+use crate::instances::instance_of;
+use crate::judging::judge_text;
+use crate::lines::{USAGE_LINE, read_fault_line};
+use crate::notices::{Stop, reply_with};
+use crate::reply::{Output, Reply};
 use crate::status::Status;
-use crate::words::{Command, Draft, Judge, command_named};
-use glass_base::{Memory, Role, Run};
+use crate::texts::{Text, text_of_role, text_or_empty};
+use crate::words::{CommandLine, line_named};
+use glass_base::{Instance, Memory, Role};
 use glass_io::{Files, Sink, Trouble};
 use std::alloc::Global;
 
-/// The reply of a draft to the texts of its files.
-fn draft_fetched(alloc: Global, draft: Draft, texts: &[Run<u8>]) -> Result<Reply, Memory>
-    requires { length texts.now ≡ length (files_of (draft_call (draft_names draft))) }
-    ensures { IfOk result (λ r. AnswersTexts (draft_call (draft_names draft.entry)) (map (λ text. text.items) texts.now) (answer_in r)) }
+/// The reply of a command to the instance that its texts say.
+fn reply_to_instance(
+    alloc: Global,
+    verb: Verb,
+    texts: &[Text],
+    instance: &Instance,
+) -> Result<Reply, Memory>
+    requires { IsInstanceOf (texts_in texts.now) (flaws_of verb (texts_in texts.now)) instance.now }
+    ensures { IfOk result (λ r. (line : Line) → AnswersInstance verb line (texts_in texts.now) instance.now (answer_in (stored_names line) r)) }
 {
-    match texts {
-        [batch] => draft_texts(alloc, batch.as_slice(), None),
-        [batch, params] => draft_texts(alloc, batch.as_slice(), Some(params.as_slice())),
-        _ => unreachable!(),
+    match verb {
+        Verb::Draft => draft_instance(alloc, instance),
+        Verb::Judge => {
+            let notice = judge_text(alloc, instance, text_or_empty(texts, Role::Plan))?;
+            Ok(reply_with(alloc, notice))
+        }
     }
 }
 
-/// The reply of `judge` to the texts of its files.
-fn judge_fetched(alloc: Global, judge: Judge, texts: &[Run<u8>]) -> Result<Reply, Memory>
-    requires { length texts.now ≡ length (files_of (judge_call (judge_names judge))) }
-    ensures { IfOk result (λ r. AnswersTexts (judge_call (judge_names judge.entry)) (map (λ text. text.items) texts.now) (answer_in r)) }
+/// The text of the defects that a command plans with. A draft is made on plates without defects.
+fn flaws(verb: Verb, texts: &[Text]) -> Option<&[u8]>
+    ensures { option_map (λ bytes. bytes.now) result ≡ flaws_of verb (texts_in texts.now) }
 {
-    match texts {
-        [batch, defects, plan] => judge_texts(
-            alloc,
-            batch.as_slice(),
-            defects.as_slice(),
-            None,
-            plan.as_slice(),
-        ),
-        [batch, defects, params, plan] => judge_texts(
-            alloc,
-            batch.as_slice(),
-            defects.as_slice(),
-            Some(params.as_slice()),
-            plan.as_slice(),
-        ),
-        _ => unreachable!(),
+    match verb {
+        Verb::Draft => None,
+        Verb::Judge => text_of_role(texts, Role::Defects),
     }
 }
 
-/// The reply of a command to the texts of its files.
-fn reply_to_texts(alloc: Global, command: Command, texts: &[Run<u8>]) -> Result<Reply, Memory>
-    requires { length texts.now ≡ length (files_of (call_in command)) }
-    ensures reply { IfOk result (λ r. AnswersTexts (call_in command.entry) (map (λ text. text.items) texts.now) (answer_in r)) }
-    ensures tells { IfOk result (λ r. TellsFile r.status) }
+/// The reply of a command to its texts.
+fn reply_to_texts(alloc: Global, verb: Verb, texts: &[Text]) -> Result<Reply, Memory>
+    ensures { IfOk result (λ r. (line : Line) → line.verb ≡ verb → AnswersTexts line (texts_in texts.now) (answer_in (stored_names line) r)) }
 {
-    match command {
-        Command::Draft(draft) => draft_fetched(alloc, draft, texts),
-        Command::Judge(judge) => judge_fetched(alloc, judge, texts),
+    match instance_of(alloc, texts, flaws(verb, texts)) {
+        Ok(instance) => reply_to_instance(alloc, verb, texts, &instance),
+        Err(Stop::Told(notice)) => Ok(reply_with(alloc, notice)),
+        Err(Stop::Memory) => Err(Memory),
     }
 }
 
-/// The reply of a command to what stands under the names of its files.
-fn reply_of<F: Files>(alloc: Global, files: &mut F, command: Command) -> Result<Reply, NoReply>
-    ensures same { SameContents (F.told files.old) (F.told files.new) }
-    ensures reply { IfOk result (λ r. IfSome (F.told files.old) (λ contents. Answers contents (call_in command.entry) (answer_in r))) }
-    ensures tells { IfOk result (λ r. TellsFile r.status) }
-    ensures reached { IfErr result (OnFault (λ of. IfSome (F.told files.old) (λ contents. Reaches contents of (files_of (call_in command.entry))))) }
-    ensures cause { IfErr result (OnFault (λ of. Rose (F.read_faults files.old of) (F.read_faults files.new of))) }
-    ensures counts { NeverFall (F.read_faults files.old) (F.read_faults files.new) (F.write_faults files.old) (F.write_faults files.new) }
+/// The reply of a command line to what stands under the names of its files.
+fn reply_of<F: Files>(
+    alloc: Global,
+    files: &mut F,
+    line: &CommandLine<'_>,
+) -> Result<Reply, NoReply>
+    ensures same { SameContents (F.shelf files.old).contents (F.shelf files.new).contents }
+    ensures reply { IfOk result (λ r. IfSome (F.shelf files.old).contents (λ contents. Answers contents (line_in line.now) (answer_in (stored_names (line_in line.now)) r))) }
+    ensures reached { IfErr result (OnFault (λ of. IfSome (F.shelf files.old).contents (λ contents. Reaches contents of (files_of (line_in line.now))))) }
+    ensures faults { CountsFetches (F.shelf files.old) (F.shelf files.new) result }
     ensures keeps { F.reliable files.old → F.reliable files.new × IfErr result (OnFault (λ _. ⊥)) }
 {
-    match fetch_files(alloc, files, command)? {
-        Ok(texts) => Ok(reply_to_texts(alloc, command, texts.as_slice())?),
-        Err(reply) => Ok(reply),
+    match fetch_files(alloc, files, line)? {
+        Ok(texts) => Ok(reply_to_texts(alloc, line.verb, texts.as_slice())?),
+        Err(notice) => Ok(reply_with(alloc, notice)),
     }
 }
 
-/// Prints that a file could not be read.
-fn tell_fault<S: Sink>(alloc: Global, out: &mut S, role: Role) -> Result<(), Trouble>
-    ensures written { OnOk result (Appended (read_fault_line_of role) (S.told out.old) (S.told out.new)) }
-    ensures failed { IsErrOf result Failed → AppendedPrefix (read_fault_line_of role) (S.told out.old) (S.told out.new) }
-    ensures memory { IsErrOf result OutOfMemory → S.told out.new ≡ S.told out.old }
-    ensures cause { HasCause (S.faults out.old) (S.faults out.new) result }
-    ensures keeps { S.reliable out.old → IsErrOf result Failed → ⊥ }
-{
-    let line = read_fault_line(alloc, role)?;
-    out.write(line.as_bytes())
-}
-
-/// Stores a text under a name, if there is one.
-fn store<F: Files>(files: &mut F, name: &str, text: &Option<Run<u8>>) -> Result<(), Trouble>
-    ensures stands { OnOk result (Stands name.now (option_map (λ run. run.items) text.now) (F.told files.old) (F.told files.new)) }
-    ensures failed { IsErrOf result Failed → CutShort name.now (option_map (λ run. run.items) text.now) (F.told files.old) (F.told files.new) }
-    ensures memory { IsErrOf result OutOfMemory → SameContents (F.told files.old) (F.told files.new) }
-    ensures cause { HasCause (F.write_faults files.old) (F.write_faults files.new) result }
-    ensures counts { NeverFall (F.read_faults files.old) (F.read_faults files.new) (F.write_faults files.old) (F.write_faults files.new) }
+/// Stores outputs under their names, one after another.
+fn store_all<F: Files>(files: &mut F, names: &[String], outputs: &[Output]) -> Result<(), Trouble>
+    ensures stands { OnOk result (Stands (map (store_in (map string_bytes names.now)) outputs.now) (F.shelf files.old).contents (F.shelf files.new).contents) }
+    ensures failed { IsErrOf result Failed → CutShort (map (store_in (map string_bytes names.now)) outputs.now) (F.shelf files.old).contents (F.shelf files.new).contents }
+    ensures memory { IsErrOf result OutOfMemory → StandsInPart (map (store_in (map string_bytes names.now)) outputs.now) (F.shelf files.old).contents (F.shelf files.new).contents }
+    ensures counts { CountsStore (F.shelf files.old) (F.shelf files.new) result }
     ensures keeps { F.reliable files.old → F.reliable files.new × (IsErrOf result Failed → ⊥) }
 {
-    match text {
-        None => Ok(()),
-        Some(text) => files.store(name, text.as_slice()),
+    for output in outputs {
+        let name = name_at(names, output.place);
+        files.store(name, output.bytes.as_slice())?;
+    }
+    Ok(())
+}
+
+/// The name at a place, empty where there is none.
+fn name_at(names: &[String], place: usize) -> &str
+    ensures { result.now ≡ slice_index_or (map string_bytes names.now) place [] }
+{
+    match names.get(place) {
+        Some(name) => name.as_str(),
+        None => "",
+    }
+}
+
+/// How a run ends whose last step is to print these lines, and which then has this status.
+fn print<S: Sink>(out: &mut S, lines: &str, status: Status) -> Status
+    ensures ends { Ends lines.now status (S.paper out.old) (S.paper out.new) result }
+    ensures keeps { S.reliable out.old → result ≢ Status.WriteFault ⊎ (status ≡ Status.WriteFault) }
+{
+    match out.write(lines.as_bytes()) {
+        Ok(()) => status,
+        Err(Trouble::Failed) => Status::WriteFault,
+        Err(Trouble::Memory) => Status::Memory,
     }
 }
 
 /// Stores what a reply has to store, and then prints its lines.
-fn deliver<F: Files, S: Sink>(
-    files: &mut F,
-    out: &mut S,
-    name: &str,
-    reply: &Reply,
-) -> Result<(), Trouble>
-    ensures stands { OnOk result (Stands name.now (answer_in reply.now).text (F.told files.old) (F.told files.new) × Appended (answer_in reply.now).lines (S.told out.old) (S.told out.new)) }
-    ensures failed { IsErrOf result Failed → Fails name.now (answer_in reply.now) (F.told files.old) (F.told files.new) (S.told out.old) (S.told out.new) }
-    ensures memory { IsErrOf result OutOfMemory → (SameContents (F.told files.old) (F.told files.new) ⊎ Stands name.now (answer_in reply.now).text (F.told files.old) (F.told files.new)) × (S.told out.new ≡ S.told out.old) }
-    ensures cause { IsErrOf result Failed → Rose (F.write_faults files.old) (F.write_faults files.new) ⊎ Rose (S.faults out.old) (S.faults out.new) }
-    ensures counts { NeverFall (F.read_faults files.old) (F.read_faults files.new) (F.write_faults files.old) (F.write_faults files.new) }
-    ensures keeps { F.reliable files.old → S.reliable out.old → IsErrOf result Failed → ⊥ }
+fn deliver<F: Files, S: Sink>(files: &mut F, out: &mut S, names: &[String], reply: &Reply) -> Status
+    ensures delivers { Delivers (answer_in (map string_bytes names.now) reply.now) (world (F.shelf files.old) (S.paper out.old)) (world (F.shelf files.new) (S.paper out.new)) result }
+    ensures keeps { F.reliable files.old → S.reliable out.old → result ≢ Status.WriteFault }
 {
-    store(files, name, &reply.text)?;
-    out.write(reply.lines.as_bytes())
+    match store_all(files, names, reply.outputs.as_slice()) {
+        Ok(()) => print(out, reply.lines.as_str(), reply.status),
+        Err(Trouble::Failed) => Status::WriteFault,
+        Err(Trouble::Memory) => Status::Memory,
+    }
 }
 
 /// Runs a command line, its words being those after the program's name.
 ///
 /// `draft BATCH OUT` stores the plan of the draft of the batch, on plates without defects, and prints its loss and the number
 /// of its plates. `judge BATCH DEFECTS PLAN` judges anybody's solution file: it prints the loss of a lawful plan, or the first
-/// rule that the plan breaks. The parameters are the challenge's, or those of the file that the option `--params=FILE` names. All
-/// is computed before anything is stored, and a run writes once at the most. A refusal stores nothing and prints its one line.
+/// rule that the plan breaks. The parameters are the challenge's, or those of the file that the option `--params=FILE` names; each
+/// plate is as wide as they say, or as the file of the option `--plates=FILE` says of it. All is computed before anything is
+/// stored, and a run writes once at the most. A refusal stores nothing and prints its one line.
 pub fn glass<R, F: Files, S: Sink, G: Gate>(
     _rt: &R,
     alloc: Global,
@@ -145,34 +150,18 @@ pub fn glass<R, F: Files, S: Sink, G: Gate>(
     out: &mut S,
     _gate: &G,
 ) -> Status
-    // what is stored and printed, by the status
-    ensures runs { RunsTo (command_of (map string_bytes words.now)) (F.told files.old) (F.told files.new) (S.told out.old) (S.told out.new) (λ of. Rose (F.read_faults files.old of) (F.read_faults files.new of)) result }
-
-    // each fault has its cause
-    ensures read_fault { result ≡ Status.ReadFault → (of : GlassRole) × Rose (F.read_faults files.old of) (F.read_faults files.new of) }
-    ensures write_fault { result ≡ Status.WriteFault → Rose (F.write_faults files.old) (F.write_faults files.new) ⊎ Rose (S.faults out.old) (S.faults out.new) }
+    // what is stored, printed and counted, by the status
+    ensures runs { RunsTo (line_of (map string_bytes words.now)) (world (F.shelf files.old) (S.paper out.old)) (world (F.shelf files.new) (S.paper out.new)) result }
 
     // where nothing fails there is no fault
     ensures no_fault { F.reliable files.old → S.reliable out.old → (result ≢ Status.ReadFault) × (result ≢ Status.WriteFault) }
 {
-    match command_named(words) {
-        None => match out.write(b"usage\n") {
-            Ok(()) => Status::Usage,
-            Err(Trouble::Failed) => Status::WriteFault,
-            Err(Trouble::Memory) => Status::Memory,
-        },
-        Some(command) => match reply_of(alloc, files, command) {
-            Ok(reply) => match deliver(files, out, command.out(), &reply) {
-                Ok(()) => reply.status,
-                Err(Trouble::Failed) => Status::WriteFault,
-                Err(Trouble::Memory) => Status::Memory,
-            },
+    match line_named(words) {
+        None => print(out, USAGE_LINE, Status::Usage),
+        Some(line) => match reply_of(alloc, files, &line) {
+            Ok(reply) => deliver(files, out, line.stored(), &reply),
             Err(NoReply::Memory) => Status::Memory,
-            Err(NoReply::ReadFault(role)) => match tell_fault(alloc, out, role) {
-                Ok(()) => Status::ReadFault,
-                Err(Trouble::Failed) => Status::WriteFault,
-                Err(Trouble::Memory) => Status::Memory,
-            },
+            Err(NoReply::ReadFault(role)) => print(out, read_fault_line(role), Status::ReadFault),
         },
     }
 }

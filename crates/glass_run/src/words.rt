@@ -1,46 +1,22 @@
 //! The words of a command line.
 
-ghost use Rattle.std.specs.Prelude.{◌≡◌, ◌∷◌, map, option_map};
+ghost use Rattle.std.specs.Prelude.{◌≡◌, ◌+◌, map, count_by, option_map, find, position, slice_get};
+ghost use Rattle.std.specs.List.{list_all};
+ghost use Rattle.std.specs.Str.{bytes_eq};
 ghost use Rattle.std.specs.String.{string_bytes};
-ghost use Rattle.glass_run.specs.Words.{call_in, command_of, draft_names, draft_of, draft_with as draft_with_names, is_apart as is_apart_from, is_name as is_name_of, judge_names, judge_of, judge_with as judge_with_names, params_named};
+ghost use Rattle.glass_run.specs.inner.Forms.{line_in};
+ghost use Rattle.glass_base.specs.Roles.{is_role};
+ghost use Rattle.glass_run.specs.Grammar.{are_options as are_options_of, is_once, is_option_for as is_option_for_of, is_some_option as is_some_option_of, is_name as is_name_of, is_option as is_option_of, line_if, line_of, line_with, option_name as option_name_of, option_names as option_names_of, verb_of};
 
-/// A command with the names of its files.
+use crate::grammar::{VERBS, Verb, option_front};
+use glass_base::Role;
+
+/// A command with the names of its files, and its options, which name further files.
 #[derive(Clone, Copy, Debug)]
-pub enum Command<'a> {
-    Draft(Draft<'a>),
-    Judge(Judge<'a>),
-}
-
-impl<'a> Command<'a> {
-    ghost use Rattle.glass_run.specs.Calls.{out_of};
-    ghost use Rattle.glass_run.specs.Words.{call_in};
-
-    /// The name under which the command stores, empty where it stores nothing.
-    pub(crate) fn out(&self) -> &'a str
-        ensures { result.now ≡ out_of (call_in self.now) }
-    {
-        match self {
-            Command::Draft(draft) => draft.out,
-            Command::Judge(_) => "",
-        }
-    }
-}
-
-/// The files of `draft BATCH OUT`, with the one of `--params=FILE`.
-#[derive(Clone, Copy, Debug)]
-pub struct Draft<'a> {
-    pub batch: &'a str,
-    pub out: &'a str,
-    pub params: Option<&'a str>,
-}
-
-/// The files of `judge BATCH DEFECTS PLAN`, with the one of `--params=FILE`.
-#[derive(Clone, Copy, Debug)]
-pub struct Judge<'a> {
-    pub batch: &'a str,
-    pub defects: &'a str,
-    pub plan: &'a str,
-    pub params: Option<&'a str>,
+pub struct CommandLine<'a> {
+    pub verb: Verb,
+    pub names: &'a [String],
+    pub options: &'a [String],
 }
 
 /// Whether a word is a file name: not empty, no dash alone, and without two dashes at its front.
@@ -55,120 +31,220 @@ fn is_name(word: &str) -> bool
     }
 }
 
-/// The file name of `--params=FILE`.
-fn params_name(word: &str) -> Option<&str>
-    ensures { option_map (λ name. name.now) result ≡ params_named word.now }
+/// Whether each word is a file name.
+fn are_names(words: &[String]) -> bool
+    ensures { result ≡ list_all is_name_of (map string_bytes words.now) }
 {
-    match word.strip_prefix("--params=") {
+    words.iter().all(|word| is_name(word.as_str()))
+}
+
+/// The file that a word names as an option of this role.
+fn option_name(role: Role, word: &str) -> Option<&str>
+    ensures { option_map (λ name. name.now) result ≡ option_name_of role word.now }
+{
+    match word.strip_prefix(option_front(role)) {
         Some(name) => { if is_name(name) { Some(name) } else { None } }
         None => None,
     }
 }
 
-/// Whether a name that is stored differs from another one.
-fn is_apart(out: &str, other: Option<&str>) -> bool
-    ensures { result ≡ is_apart_from out.now (option_map (λ name. name.now) other.entry) }
+/// Whether a word is an option of this role.
+fn is_option(role: Role, word: &str) -> bool
+    ensures { result ≡ is_option_of role word.now }
 {
-    match other {
-        None => true,
-        Some(name) => name != out,
-    }
+    option_name(role, word).is_some()
 }
 
-/// The draft of these names, if they may stand together.
-fn draft_with<'a>(batch: &'a str, out: &'a str, params: Option<&'a str>) -> Option<Draft<'a>>
-    ensures { option_map draft_names result ≡ draft_with_names batch.now out.now (option_map (λ name. name.now) params.entry) }
+/// Whether a word is an option of one of these roles.
+fn is_some_option(roles: &[Role], word: &str) -> bool
+    ensures { result ≡ is_some_option_of roles.now word.now }
 {
-    if is_name(batch) && is_name(out) && batch != out && is_apart(out, params) {
-        Some(Draft { batch, out, params })
-    } else {
-        None
-    }
+    roles.iter().any(|role| is_option(*role, word))
 }
 
-/// The judging of these names, if they are names.
-fn judge_with<'a>(
-    batch: &'a str,
-    defects: &'a str,
-    plan: &'a str,
-    params: Option<&'a str>,
-) -> Option<Judge<'a>>
-    ensures { option_map judge_names result ≡ judge_with_names batch.now defects.now plan.now (option_map (λ name. name.now) params.entry) }
+/// How many words are options of this role.
+fn options_of_role(role: Role, words: &[String]) -> usize
+    ensures { result ≡ count_by (is_option_of role) (map string_bytes words.now) }
 {
-    if is_name(batch) && is_name(defects) && is_name(plan) {
-        Some(Judge {
-            batch,
-            defects,
-            plan,
-            params,
-        })
-    } else {
-        None
-    }
+    words
+        .iter()
+        .filter(|word| is_option(role, word.as_str()))
+        .count()
 }
 
-/// The draft that the words behind `draft` are, if they are one.
-fn draft_named(words: &[String]) -> Option<Draft<'_>>
-    ensures { option_map draft_names result ≡ draft_of (map string_bytes words.now) }
+/// Whether each word is an option of one of these roles.
+fn are_some_options(roles: &[Role], words: &[String]) -> bool
+    ensures { result ≡ list_all (is_some_option_of roles.now) (map string_bytes words.now) }
 {
-    match words {
-        [batch, out] => draft_with(batch.as_str(), out.as_str(), None),
-        [batch, out, option] => match params_name(option.as_str()) {
-            None => None,
-            Some(params) => draft_with(batch.as_str(), out.as_str(), Some(params)),
-        },
-        _ => None,
-    }
+    words
+        .iter()
+        .all(|word| is_some_option(roles, word.as_str()))
 }
 
-/// The judging that the words behind `judge` are, if they are one.
-fn judge_named(words: &[String]) -> Option<Judge<'_>>
-    ensures { option_map judge_names result ≡ judge_of (map string_bytes words.now) }
+/// Whether each of these roles has one option at the most.
+fn are_once(roles: &[Role], words: &[String]) -> bool
+    ensures { result ≡ list_all (is_once (map string_bytes words.now)) roles.now }
 {
-    match words {
-        [batch, defects, plan] => {
-            judge_with(batch.as_str(), defects.as_str(), plan.as_str(), None)
+    roles.iter().all(|role| options_of_role(*role, words) <= 1)
+}
+
+/// Whether words are options of these roles, of each role once at the most.
+fn are_options(roles: &[Role], words: &[String]) -> bool
+    ensures { result ≡ are_options_of roles.now (map string_bytes words.now) }
+{
+    are_some_options(roles, words) && are_once(roles, words)
+}
+
+/// Whether a word is an option of this role that names this file.
+fn is_option_for(role: Role, name: &str, word: &str) -> bool
+    ensures { result ≡ is_option_for_of role name.now word.now }
+{
+    option_name(role, word) == Some(name)
+}
+
+/// Whether an option of one of these roles names this file.
+fn option_names(roles: &[Role], name: &str, word: &str) -> bool
+    ensures { result ≡ option_names_of roles.now name.now word.now }
+{
+    roles.iter().any(|role| is_option_for(*role, name, word))
+}
+
+/// The place of a role among others.
+fn place_among(role: Role, roles: &[Role]) -> Option<usize>
+    ensures { result ≡ position (is_role role) roles.now }
+{
+    roles.iter().position(|other| role.is(*other))
+}
+
+/// The word at a place, if there is one.
+fn word_at(words: &[String], place: usize) -> Option<&str>
+    ensures { option_map (λ word. word.now) result ≡ slice_get (map string_bytes words.now) place }
+{
+    words.get(place).map(|word| word.as_str())
+}
+
+/// The first option of this role.
+fn first_option(role: Role, words: &[String]) -> Option<&str>
+    ensures { option_map (λ word. word.now) result ≡ find (is_option_of role) (map string_bytes words.now) }
+{
+    words
+        .iter()
+        .map(|word| word.as_str())
+        .find(|word| is_option(role, word))
+}
+
+impl<'a> CommandLine<'a> {
+    ghost use Rattle.glass_run.specs.inner.Forms.{line_in};
+    ghost use Rattle.glass_run.specs.Grammar.{is_line, is_named_once, name_at, name_by_option, name_of, option_names as option_names_of, pattern_of, stored_names};
+
+    /// How often names and options name this file.
+    fn namings(&self, name: &str) -> usize
+        ensures { result ≡ count_by (λ n. bytes_eq n name.now) (line_in self.now).names + count_by (option_names_of (pattern_of self.now.verb).options name.now) (line_in self.now).options }
+    {
+        let roles = self.verb.form().options;
+        let names = self.names.iter().filter(|n| n.as_str() == name).count();
+        let options = self
+            .options
+            .iter()
+            .filter(|word| option_names(roles, name, word.as_str()))
+            .count();
+        names + options
+    }
+
+    /// Whether names and options name this file once.
+    fn names_once(&self, name: &str) -> bool
+        ensures { result ≡ is_named_once (line_in self.now) name.now }
+    {
+        self.namings(name) == 1
+    }
+
+    /// The names under which the command stores.
+    pub(crate) fn stored(&self) -> &'a [String]
+        ensures { map string_bytes result.now ≡ stored_names (line_in self.now) }
+    {
+        let reads = self.verb.form().reads.len();
+        self.names.get(reads..).unwrap_or(&[])
+    }
+
+    /// Whether each name under which the command stores is named once.
+    fn stores_apart(&self) -> bool
+        ensures { result ≡ list_all (is_named_once (line_in self.now)) (stored_names (line_in self.now)) }
+    {
+        self.stored()
+            .iter()
+            .all(|name| self.names_once(name.as_str()))
+    }
+
+    /// Whether names and options are those of the command.
+    fn is_whole(&self) -> bool
+        ensures { result ≡ is_line (line_in self.now) }
+    {
+        let form = self.verb.form();
+        self.names.len() == form.reads.len() + form.stores.len()
+            && are_names(self.names)
+            && are_options(form.options, self.options)
+            && self.stores_apart()
+    }
+
+    /// The name of the file of this role, where it is one of the names.
+    fn name_at(&self, role: Role) -> Option<&'a str>
+        ensures { option_map (λ name. name.now) result ≡ name_at (line_in self.now) role }
+    {
+        let place = place_among(role, self.verb.form().reads)?;
+        word_at(self.names, place)
+    }
+
+    /// The name of the file of this role, where an option names it.
+    fn name_by_option(&self, role: Role) -> Option<&'a str>
+        ensures { option_map (λ name. name.now) result ≡ name_by_option (line_in self.now) role }
+    {
+        let word = first_option(role, self.options)?;
+        option_name(role, word)
+    }
+
+    /// The name of the file of this role, if the line names it.
+    pub(crate) fn name_of(&self, role: Role) -> Option<&'a str>
+        ensures { option_map (λ name. name.now) result ≡ name_of (line_in self.now) role }
+    {
+        match self.name_at(role) {
+            Some(name) => Some(name),
+            None => self.name_by_option(role),
         }
-        [batch, defects, plan, option] => match params_name(option.as_str()) {
-            None => None,
-            Some(params) => {
-                judge_with(
-                    batch.as_str(),
-                    defects.as_str(),
-                    plan.as_str(),
-                    Some(params),
-                )
-            }
-        },
-        _ => None,
     }
 }
 
-/// The command of this word, with the words behind it.
-fn command_with<'a>(word: &str, words: &'a [String]) -> Option<Command<'a>>
-    ensures { option_map call_in result ≡ command_of (word.now ∷ map string_bytes words.now) }
+/// The words behind the word of a command, as its names and its options.
+fn split_words(verb: Verb, words: &[String]) -> CommandLine<'_>
+    ensures { line_in result ≡ line_with verb (map string_bytes words.now) }
 {
-    if word == "draft" {
-        match draft_named(words) {
-            Some(draft) => Some(Command::Draft(draft)),
-            None => None,
-        }
-    } else if word == "judge" {
-        match judge_named(words) {
-            Some(judge) => Some(Command::Judge(judge)),
-            None => None,
-        }
-    } else {
-        None
+    let form = verb.form();
+    let many = (form.reads.len() + form.stores.len()).min(words.len());
+    CommandLine {
+        verb,
+        names: &words[..many],
+        options: &words[many..],
     }
 }
 
-/// The command that the words are, if they are one.
-pub(crate) fn command_named(words: &[String]) -> Option<Command<'_>>
-    ensures { option_map call_in result ≡ command_of (map string_bytes words.now) }
+/// The line of a command, if the words behind its own are those of such a line.
+fn line_behind(verb: Verb, words: &[String]) -> Option<CommandLine<'_>>
+    ensures { option_map line_in result ≡ line_if (line_with verb (map string_bytes words.now)) }
 {
-    match words {
-        [] => None,
-        [word, ..] => command_with(word.as_str(), &words[1..]),
-    }
+    let line = split_words(verb, words);
+    if line.is_whole() { Some(line) } else { None }
+}
+
+/// The command of this word.
+fn verb_named(word: &str) -> Option<Verb>
+    ensures { result ≡ verb_of word.now }
+{
+    VERBS.iter().copied().find(|verb| word == verb.form().word)
+}
+
+/// The command line that the words are, if they are one.
+pub(crate) fn line_named(words: &[String]) -> Option<CommandLine<'_>>
+    ensures { option_map line_in result ≡ line_of (map string_bytes words.now) }
+{
+    let verb = verb_named(words.first()?.as_str())?;
+    line_behind(verb, &words[1..])
 }

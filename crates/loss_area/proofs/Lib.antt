@@ -1,5 +1,4 @@
 mod Wasting
-mod Shapes
 mod Areas
 mod Conserved
 mod Plates

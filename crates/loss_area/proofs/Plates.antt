@@ -1,19 +1,23 @@
 -- Wastes, items and the residual make up the plates.
-use Rattle.std.proofs.Common.{◌≡◌, ℕ, ◌+◌, ◌*◌, List, [], ◌++◌, Bool, true, false, ◌&&◌, refl, ap, subst, ◌∙◌, arith, Option, None, All}
+use Rattle.std.proofs.Common.{◌≡◌, ◌≤◌, ℕ, ◌+◌, ◌*◌, List, [], ◌++◌, Bool, true, false, ◌&&◌, refl, ap, subst, ◌∙◌, arith, Option, None, All}
 use Rattle.std.specs.Option.{option_map_or}
 use Rattle.std.proofs.lemmas.List.{append-nil}
+use Rattle.glass_base.specs.Plates.{Before, Width}
+use Rattle.glass_base.specs.Problem.{Problem}
+use Rattle.glass_base.proofs.PlateLemmas.{before-next}
 use Rattle.cut_model.specs.declared.family.Row.{Row}
 use Rattle.cut_model.specs.declared.family.Sort.{Sort}
 use Rattle.cut_model.specs.declared.family.Along.{Along}
 use Rattle.cut_model.specs.declared.family.Area.{Area}
 use Rattle.cut_model.specs.declared.family.Family.{Family}
+use Rattle.cut_model.specs.Shape.{IsOfLevel, IsShaped}
+use Rattle.cut_model.specs.Sized.{sized}
 use Rattle.cut_model.specs.Tree.{Forest, nothing, piece, is_nothing, neighbour_count, total_size, type_number, count}
 use Rattle.cut_model.specs.Families.{families, behind, inside, moved, row_at, side_along, turned, width_at, height_at}
 use Rattle.cut_model.specs.Loss.{names_residual}
 use Rattle.cut_model.specs.Rules.{IsInPlace}
 use Rattle.loss_area.proofs.Areas.{families_below, family_at, first_residual, hold_of, residual_behind, residual_in, rows_at, rows_below, rows_after, rows_nothing, rows_piece, used_of, used_piece}
-use Rattle.loss_area.proofs.Conserved.{IsAcross, KeepsSum, across, across_at, moved_across, part_area, parts_area, turned_lies}
-use Rattle.loss_area.proofs.Shapes.{AreParts, ArePlates, AreStrips, IsPart, IsStripped}
+use Rattle.loss_area.proofs.Conserved.{IsAcross, KeepsSum, across, across_at, moved_across, part_area, part_kind, parts_area, turned_lies}
 
 -- a residual is the last strip of the last plate
 abbrev pub KeepsPlace : Family → Type 0
@@ -30,12 +34,6 @@ moved_last : (along : Along) (at : Area) (size : ℕ) → (moved along at size).
 moved_last Along.Plates at size = refl
 moved_last Along.X at size = refl
 moved_last Along.Y at size = refl
-
--- behind a piece the width of the place stays the same
-moved_width : (along : Along) (at : Area) (size : ℕ) → (moved along at size).width ≡ at.width
-moved_width Along.Plates at size = refl
-moved_width Along.X at size = refl
-moved_width Along.Y at size = refl
 
 -- behind a piece the height of the place stays the same
 moved_height : (along : Along) (at : Area) (size : ℕ) → (moved along at size).height ≡ at.height
@@ -55,19 +53,13 @@ residual_later : (at : Area) (first : Bool) (node size : ℕ) (sort : Sort) (inn
 residual_later at first node size sort inner later isnt none =
     residual_passed at first node size sort inner later isnt ∙ residual_behind (rows_below at first node size sort inner later) (rows_after at node size inner later) none
 
--- the type of a piece inside a strip is not that of a residual
-part_kind : (sort : Sort) (inner : Forest) → IsPart sort inner → names_residual (type_number sort) ≡ false
-part_kind (Sort.Item number) inner h = refl
-part_kind Sort.Waste inner h = refl
-part_kind Sort.Branch inner h = refl
-part_kind Sort.Residual inner h = absurd h
-
 -- no piece inside a strip is a residual
-no_residual : (at : Area) (first : Bool) (node : ℕ) (forest : Forest) → AreParts forest → first_residual (rows_at at first node forest) ≡ None
-no_residual at first node nothing shape = ap first_residual (rows_nothing at first node nothing refl)
-no_residual at first node (piece size sort inner later) shape =
-    residual_later at first node size sort inner later (part_kind sort inner shape.0) (no_residual (inside (family_at at first node size sort inner later)) true (node + 1) inner shape.1)
-    ∙ no_residual (behind at size) false (node + 1 + count inner) later shape.2
+no_residual : (at : Area) (first : Bool) (node level : ℕ) (forest : Forest) → 2 ≤ level → IsShaped level forest → first_residual (rows_at at first node forest) ≡ None
+no_residual at first node level nothing deep shape = ap first_residual (rows_nothing at first node nothing refl)
+no_residual at first node level (piece size sort inner later) deep shape =
+    let below = no_residual (inside (family_at at first node size sort inner later)) true (node + 1) (level + 1) inner (omega (arith, deep)) shape.2 in
+    residual_later at first node size sort inner later (part_kind level sort inner deep shape.1) below
+    ∙ no_residual (behind at size) false (node + 1 + count inner) level later deep shape.3
 
 -- a piece that keeps its place on a plate before the last one is no residual
 not_before : (last ends : Bool) (sort : Sort) (f : Family) → last ≡ false → f.ends ≡ (last && ends) → IsInPlace f sort → names_residual (type_number sort) ≡ false
@@ -79,13 +71,13 @@ not_before last ends Sort.Residual f is e h =
     cc
 
 -- no strip is a residual on a plate before the last one
-none_before_last : (at : Area) (first : Bool) (node : ℕ) (forest : Forest) → at.last ≡ false → AreStrips forest → All KeepsPlace (families at first node forest) → first_residual (rows_at at first node forest) ≡ None
+none_before_last : (at : Area) (first : Bool) (node : ℕ) (forest : Forest) → at.last ≡ false → IsShaped 1 forest → All KeepsPlace (families at first node forest) → first_residual (rows_at at first node forest) ≡ None
 none_before_last at first node nothing last shape places = ap first_residual (rows_nothing at first node nothing refl)
 none_before_last at first node (piece size sort inner later) last shape places =
     let h = hold_of KeepsPlace at first node size sort inner later places in
     let f : Family = family_at at first node size sort inner later in
-    residual_later at first node size sort inner later (not_before at.last (is_nothing later) sort f last refl h.here) (no_residual (inside f) true (node + 1) inner shape.1)
-    ∙ none_before_last (behind at size) false (node + 1 + count inner) later (moved_last at.along at size ∙ last) shape.2 h.after
+    residual_later at first node size sort inner later (not_before at.last (is_nothing later) sort f last refl h.here) (no_residual (inside f) true (node + 1) 2 inner (omega arith) shape.2)
+    ∙ none_before_last (behind at size) false (node + 1 + count inner) later (moved_last at.along at size ∙ last) shape.3 h.after
 
 -- wastes, items and the residual of these strips have the area that the strips fill
 abbrev StripsArea : Area → Bool → ℕ → Forest → Type 0
@@ -96,18 +88,18 @@ abbrev width_of : Option Row → ℕ
 width_of o = option_map_or (λ row. row.width) o 0
 
 -- a strip that is no residual, and the strips behind it
-other_strip : (at : Area) (first : Bool) (node size : ℕ) (sort : Sort) (inner later : Forest) → at.along ≡ Along.X → IsPart sort inner → AreParts inner →
+other_strip : (at : Area) (first : Bool) (node size : ℕ) (sort : Sort) (inner later : Forest) → at.along ≡ Along.X → names_residual (type_number sort) ≡ false → IsOfLevel 1 sort inner → IsShaped 2 inner →
     KeepsSum (family_at at first node size sort inner later) → All KeepsSum (families_below at first node size sort inner later) → StripsArea (behind at size) false (node + 1 + count inner) later →
     StripsArea at first node (piece size sort inner later)
-other_strip at first node size sort inner later lies is shape sum sums rest =
+other_strip at first node size sort inner later lies isnt is shape sum sums rest =
     let f : Family = family_at at first node size sort inner later in
     let after : List Row = rows_after at node size inner later in
     let sideways : IsAcross at.along = rw lies tt in
-    let here = part_area at first node size sort inner later sideways is sum (parts_area (inside f) true (node + 1) inner (turned_lies at.along) shape sums) in
+    let here = part_area at first node 1 size sort inner later sideways isnt is sum (parts_area (inside f) true (node + 1) 2 inner (turned_lies at.along) (omega arith) shape sums) in
     let behind_it : used_of after + across_at at * residual_in after ≡ total_size later * across_at at =
     subst (λ n. used_of after + n * residual_in after ≡ total_size later * n) (moved_across at.along at size) rest in
     let residual : residual_in (rows_at at first node (piece size sort inner later)) ≡ residual_in after =
-    ap width_of (residual_later at first node size sort inner later (part_kind sort inner is) (no_residual (inside f) true (node + 1) inner shape)) in
+    ap width_of (residual_later at first node size sort inner later isnt (no_residual (inside f) true (node + 1) 2 inner (omega arith) shape)) in
     omega (arith, used_piece at first node size sort inner later, here, behind_it, ap (λ n. across_at at * n) residual)
 
 -- the residual, behind which there is nothing
@@ -133,16 +125,16 @@ ends_there true (piece size sort inner later) h = cc
 ends_there false (piece size sort inner later) h = cc
 
 -- a strip of any sort, and the strips behind it
-one_strip : (at : Area) (first : Bool) (node size : ℕ) (sort : Sort) (inner later : Forest) → at.along ≡ Along.X → IsStripped sort inner → AreParts inner →
+one_strip : (at : Area) (first : Bool) (node size : ℕ) (sort : Sort) (inner later : Forest) → at.along ≡ Along.X → IsOfLevel 1 sort inner → IsShaped 2 inner →
     KeepsSum (family_at at first node size sort inner later) → KeepsPlace (family_at at first node size sort inner later) → All KeepsSum (families_below at first node size sort inner later) →
     StripsArea (behind at size) false (node + 1 + count inner) later → StripsArea at first node (piece size sort inner later)
-one_strip at first node size (Sort.Item number) inner later lies is shape sum place sums rest = other_strip at first node size (Sort.Item number) inner later lies is shape sum sums rest
-one_strip at first node size Sort.Waste inner later lies is shape sum place sums rest = other_strip at first node size Sort.Waste inner later lies is shape sum sums rest
-one_strip at first node size Sort.Branch inner later lies is shape sum place sums rest = other_strip at first node size Sort.Branch inner later lies is shape sum sums rest
-one_strip at first node size Sort.Residual inner later lies is shape sum place sums rest = residual_strip at first node size inner later lies is (ends_there at.last later place)
+one_strip at first node size (Sort.Item number) inner later lies is shape sum place sums rest = other_strip at first node size (Sort.Item number) inner later lies refl is shape sum sums rest
+one_strip at first node size Sort.Waste inner later lies is shape sum place sums rest = other_strip at first node size Sort.Waste inner later lies refl is shape sum sums rest
+one_strip at first node size Sort.Branch inner later lies is shape sum place sums rest = other_strip at first node size Sort.Branch inner later lies refl is shape sum sums rest
+one_strip at first node size Sort.Residual inner later lies is shape sum place sums rest = residual_strip at first node size inner later lies is.empty (ends_there at.last later place.1)
 
 -- the strips of a plate
-strips_area : (at : Area) (first : Bool) (node : ℕ) (forest : Forest) → at.along ≡ Along.X → AreStrips forest → All KeepsSum (families at first node forest) → All KeepsPlace (families at first node forest) →
+strips_area : (at : Area) (first : Bool) (node : ℕ) (forest : Forest) → at.along ≡ Along.X → IsShaped 1 forest → All KeepsSum (families at first node forest) → All KeepsPlace (families at first node forest) →
     StripsArea at first node forest
 strips_area at first node nothing lies shape sums places =
     let none = rows_nothing at first node nothing refl in
@@ -150,8 +142,8 @@ strips_area at first node nothing lies shape sums places =
 strips_area at first node (piece size sort inner later) lies shape sums places =
     let sum = hold_of KeepsSum at first node size sort inner later sums in
     let place = hold_of KeepsPlace at first node size sort inner later places in
-    one_strip at first node size sort inner later lies shape.0 shape.1 sum.here place.here sum.below
-    (strips_area (behind at size) false (node + 1 + count inner) later (moved_along at.along at size ∙ lies) shape.2 sum.after place.after)
+    one_strip at first node size sort inner later lies shape.1 shape.2 sum.here place.here sum.below
+    (strips_area (behind at size) false (node + 1 + count inner) later (moved_along at.along at size ∙ lies) shape.3 sum.after place.after)
 
 -- what is not the last piece ends nothing
 and_false : (b : Bool) → (b && false) ≡ false
@@ -159,7 +151,7 @@ and_false true = refl
 and_false false = refl
 
 -- of a plate and those behind it only the last one has a residual
-plate_residual : (at : Area) (first : Bool) (node size : ℕ) (inner later : Forest) → AreStrips inner → All KeepsPlace (families_below at first node size Sort.Branch inner later) →
+plate_residual : (at : Area) (first : Bool) (node size : ℕ) (inner later : Forest) → IsShaped 1 inner → All KeepsPlace (families_below at first node size Sort.Branch inner later) →
     residual_in (rows_at at first node (piece size Sort.Branch inner later)) ≡ residual_in (rows_below at first node size Sort.Branch inner later) + residual_in (rows_after at node size inner later)
 plate_residual at first node size inner nothing shape places =
     let below : List Row = rows_below at first node size Sort.Branch inner nothing in
@@ -176,38 +168,44 @@ plate_residual at first node size inner (piece s t i l) shape places =
 -- the strips of a plate have its area
 plate_area : (at : Area) (first : Bool) (node size : ℕ) (inner later : Forest) → at.along ≡ Along.Plates → KeepsSum (family_at at first node size Sort.Branch inner later) →
     StripsArea (inside (family_at at first node size Sort.Branch inner later)) true (node + 1) inner →
-    used_of (rows_below at first node size Sort.Branch inner later) + at.height * residual_in (rows_below at first node size Sort.Branch inner later) ≡ at.width * at.height
+    used_of (rows_below at first node size Sort.Branch inner later) + at.height * residual_in (rows_below at first node size Sort.Branch inner later) ≡ size * at.height
 plate_area at first node size inner later lies sum strips =
     let f : Family = family_at at first node size Sort.Branch inner later in
     let row : Row = row_at at node size Sort.Branch in
     let below : List Row = rows_below at first node size Sort.Branch inner later in
     let high : across_at (inside f) ≡ at.height = ap (λ (along : Along). across (turned along) (width_at along size at.width) (height_at along size at.height)) lies in
-    let wide : total_size inner ≡ at.width = sum.1 ∙ ap (λ (along : Along). side_along (turned along) row) lies ∙ ap (λ (along : Along). width_at along size at.width) lies in
-    subst (λ n. used_of below + n * residual_in below ≡ at.width * n) high (strips ∙ ap (λ n. n * across_at (inside f)) wide)
+    let wide : total_size inner ≡ size = sum.1 ∙ ap (λ (along : Along). side_along (turned along) row) lies ∙ ap (λ (along : Along). width_at along size at.width) lies in
+    subst (λ n. used_of below + n * residual_in below ≡ size * n) high (strips ∙ ap (λ n. n * across_at (inside f)) wide)
 
--- wastes, items and the residual have the area of the plates
-pub plates_area : (at : Area) (first : Bool) (node : ℕ) (forest : Forest) → at.along ≡ Along.Plates → ArePlates forest → All KeepsSum (families at first node forest) → All KeepsPlace (families at first node forest) →
-    used_of (rows_at at first node forest) + at.height * residual_in (rows_at at first node forest) ≡ at.height * (at.width * neighbour_count forest)
-plates_area at first node nothing lies shape sums places =
+-- wastes, items and the residual have the area of the plates from this number on
+pub plates_area : (b : Problem) (plate : ℕ) (at : Area) (first : Bool) (node : ℕ) (plan : Forest) → at.along ≡ Along.Plates → IsShaped 0 plan →
+    All KeepsSum (families at first node (sized b plate plan)) → All KeepsPlace (families at first node (sized b plate plan)) →
+    used_of (rows_at at first node (sized b plate plan)) + at.height * residual_in (rows_at at first node (sized b plate plan)) + at.height * Before b plate ≡ at.height * Before b (plate + neighbour_count plan)
+plates_area b plate at first node nothing lies shape sums places =
     let none = rows_nothing at first node nothing refl in
-    omega (arith, ap used_of none, ap (λ (rows : List Row). at.height * residual_in rows) none)
-plates_area at first node (piece size (Sort.Item number) inner later) lies shape sums places = absurd shape.0
-plates_area at first node (piece size Sort.Waste inner later) lies shape sums places = absurd shape.0
-plates_area at first node (piece size Sort.Residual inner later) lies shape sums places = absurd shape.0
-plates_area at first node (piece size Sort.Branch inner later) lies shape sums places =
-    let sum = hold_of KeepsSum at first node size Sort.Branch inner later sums in
-    let place = hold_of KeepsPlace at first node size Sort.Branch inner later places in
-    let f : Family = family_at at first node size Sort.Branch inner later in
-    let after : List Row = rows_after at node size inner later in
-    let strips = strips_area (inside f) true (node + 1) inner (ap turned lies) shape.1 sum.below place.below in
-    let rest = plates_area (behind at size) false (node + 1 + count inner) later (moved_along at.along at size ∙ lies) shape.2 sum.after place.after in
-    let behind_it : used_of after + at.height * residual_in after ≡ at.height * (at.width * neighbour_count later) =
-    subst (λ w. used_of after + at.height * residual_in after ≡ at.height * (w * neighbour_count later)) (moved_width at.along at size)
-    (subst (λ n. used_of after + n * residual_in after ≡ n * ((behind at size).width * neighbour_count later)) (moved_height at.along at size) rest) in
+    let same : plate + 0 ≡ plate = omega arith in
+    omega (arith, ap used_of none, ap (λ (rows : List Row). at.height * residual_in rows) none, ap (λ n. at.height * Before b n) same)
+plates_area b plate at first node (piece size (Sort.Item number) inner later) lies shape sums places = absurd (omega (arith, shape.1.below))
+plates_area b plate at first node (piece size Sort.Waste inner later) lies shape sums places = absurd (omega (arith, shape.1.below))
+plates_area b plate at first node (piece size Sort.Residual inner later) lies shape sums places = absurd (omega (arith, shape.1.strip))
+plates_area b plate at first node (piece size Sort.Branch inner plan) lies shape sums places =
+    let wide : ℕ = Width b plate in
+    let later : Forest = sized b (plate + 1) plan in
+    let sum = hold_of KeepsSum at first node wide Sort.Branch inner later sums in
+    let place = hold_of KeepsPlace at first node wide Sort.Branch inner later places in
+    let f : Family = family_at at first node wide Sort.Branch inner later in
+    let after : List Row = rows_after at node wide inner later in
+    let strips = strips_area (inside f) true (node + 1) inner (ap turned lies) shape.2 sum.below place.below in
+    let rest = plates_area b (plate + 1) (behind at wide) false (node + 1 + count inner) plan (moved_along at.along at wide ∙ lies) shape.3 sum.after place.after in
+    let behind_it : used_of after + at.height * residual_in after + at.height * Before b (plate + 1) ≡ at.height * Before b (plate + 1 + neighbour_count plan) =
+    subst (λ n. used_of after + n * residual_in after + n * Before b (plate + 1) ≡ n * Before b (plate + 1 + neighbour_count plan)) (moved_height at.along at wide) rest in
+    let same : plate + (1 + neighbour_count plan) ≡ plate + 1 + neighbour_count plan = omega arith in
     omega (
       arith,
-      used_piece at first node size Sort.Branch inner later,
-      plate_area at first node size inner later lies sum.here strips,
+      used_piece at first node wide Sort.Branch inner later,
+      plate_area at first node wide inner later lies sum.here strips,
       behind_it,
-      ap (λ n. at.height * n) (plate_residual at first node size inner later shape.1 place.below),
+      ap (λ n. at.height * n) (plate_residual at first node wide inner later shape.2 place.below),
+      ap (λ n. at.height * n) (before-next b plate),
+      ap (λ n. at.height * Before b n) same,
     )

@@ -10,8 +10,8 @@ use Rattle.std.proofs.lemmas.List.Elements.{All-head, All-tail, All-contains_its
 use Rattle.std.proofs.lemmas.List.Sums.{sum_by-append, sum_by-cons}
 use Rattle.std.proofs.lemmas.List.Sorted.{Contains-permutation, IsPermutation-remove, sum_by_popped}
 use Rattle.glass_base.specs.declared.item.Item.{Item}
-use Rattle.glass_base.specs.declared.params.Params.{Params}
 use Rattle.glass_base.specs.Items.{DifferentIds, area_of}
+use Rattle.glass_base.specs.Problem.{Problem}
 use Rattle.glass_base.proofs.Found.{Distinct, item_found}
 use Rattle.glass_base.proofs.Pairs.{contained_cases, pairs_head, pairs_tail, pairs_map}
 use Rattle.cut_model.specs.declared.family.Row.{Row}
@@ -23,7 +23,8 @@ use Rattle.cut_model.specs.Families.{behind, families, families_of, first_plate,
 use Rattle.cut_model.specs.Lawful.{CutsEachOnce}
 use Rattle.cut_model.specs.Order.{cut_order, item_named, item_with}
 use Rattle.cut_model.specs.Rules.{HasItsSides, IsTurnOf}
-use Rattle.cut_model.proofs.Cutting.{items_in, rows_cut}
+use Rattle.cut_model.specs.Sized.{on_plates}
+use Rattle.cut_model.proofs.Cutting.{items_in, rows_cut, sized_cut}
 use Rattle.loss_area.proofs.Areas.{All-both, area_cut, cut_of, cut_of-append, family_at, hold_of, rows_at, rows_below, rows_after, rows_nothing, rows_piece}
 
 -- different numbers, each among the others, have no greater sum
@@ -138,8 +139,8 @@ cut_area items at first node (piece size sort inner later) sides known =
     )
 
 -- the item pieces of a plan that cuts each item once, with its sides, have the area of all items
-pub served_area : (items : List Item) (params : Params) (plan : Forest) → AllPairs DifferentIds items → All (KeepsSides items) (families_of params plan) → CutsEachOnce items (cut_order (rows_of params plan)) →
-    cut_of (rows_of params plan) ≡ area_of items
-served_area items params plan apart sides h =
-    let cut : CutsEachOnce items (items_in plan) = subst (CutsEachOnce items) (rows_cut params plan) h in
-    cut_area items (first_plate params) true 0 plan sides cut.known ∙ order_area items (items_in plan) apart cut
+pub served_area : (items : List Item) (b : Problem) (plan : Forest) → AllPairs DifferentIds items → All (KeepsSides items) (families_of b plan) → CutsEachOnce items (cut_order (rows_of b plan)) →
+    cut_of (rows_of b plan) ≡ area_of items
+served_area items b plan apart sides h =
+    let cut : CutsEachOnce items (items_in (on_plates b plan)) = subst (CutsEachOnce items) (rows_cut b plan ∙ sym (sized_cut b 0 plan)) h in
+    cut_area items (first_plate b) true 0 (on_plates b plan) sides cut.known ∙ order_area items (items_in (on_plates b plan)) apart cut

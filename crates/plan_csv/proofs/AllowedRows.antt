@@ -4,7 +4,7 @@ use Rattle.std.specs.Prelude.{find, Option, Some, None, ◌==◌, ◌||◌, not,
 use Rattle.std.specs.List.{list_any}
 use Rattle.std.specs.Option.{is_some}
 use Rattle.std.proofs.lemmas.Bool.{eq-eqb, eqb-true, leb-true}
-use Rattle.glass_base.specs.declared.params.Params.{Params}
+use Rattle.glass_base.specs.Problem.{Problem}
 use Rattle.glass_base.specs.Plates.{Width}
 use Rattle.cut_model.specs.declared.family.Along.{Along}
 use Rattle.cut_model.specs.declared.family.Row.{Row}
@@ -14,7 +14,8 @@ use Rattle.cut_model.specs.Loss.{names_residual}
 use Rattle.plan_csv.specs.declared.bad_plan.BadPlan.{BadPlan}
 use Rattle.plan_csv.specs.declared.bad_plan.BadPlan.TheVariants as bad
 use Rattle.plan_csv.specs.PlanTexts.{child_refusal, filled_by, first_refusal, lies, names_branch, piece_refusal, place_refusal, plate_refusal, row_refusal, side_refusal, unless}
-use Rattle.plan_csv.specs.ReadNodes.{GoesWith, IsAllowed, IsPlaced, IsRowType, IsUnder, row_with}
+use Rattle.cut_model.specs.Tree.{IsRowType}
+use Rattle.plan_csv.specs.inner.ReadNodes.{GoesWith, MayFollow, IsPlaced, IsUnder, row_with}
 use Rattle.plan_csv.proofs.CheckFacts.{any-find}
 
 -- each of these refusals is none
@@ -53,15 +54,15 @@ found_passes {X = X} test (y ∷ xs) x h = by (test y) refl h (found_passes test
     by false e s later = later s
 
 -- a plate that is not refused is of a plate's type
-plate_branch : (p : Params) (row : ℕ) (before : List Row) (r : Row) → plate_refusal p row before r ≡ None → names_branch r.kind ≡ true
-plate_branch p row before r h =
+plate_branch : (b : Problem) (row : ℕ) (before : List Row) (r : Row) → plate_refusal b row before r ≡ None → names_branch r.kind ≡ true
+plate_branch b row before r h =
     let all = all_none (
     unless (r.plate == length (plate_rows before)) (bad.Level row 0)
     ∷ unless (names_branch r.kind) (bad.Kind row)
     ∷ unless (r.x == 0) (bad.Size row 3)
     ∷ unless (r.y == 0) (bad.Size row 4)
-    ∷ unless (r.width == Width p r.plate) (bad.Size row 5)
-    ∷ unless (r.height == p.height) (bad.Size row 6)
+    ∷ unless (r.width == Width b r.plate) (bad.Size row 5)
+    ∷ unless (r.height == b.params.height) (bad.Size row 6)
     ∷ []) h in
     holds (names_branch r.kind) (bad.Kind row) all.1.0
 
@@ -142,12 +143,12 @@ under row cut parent before r (Some e) level found h =
     }
 
 -- a row that is not refused is in its place
-placed : (p : Params) (row : ℕ) (before : List Row) (r : Row) (cut : ℕ) (parent : Option ℕ) → r.cut ≡ cut
-    → place_refusal p row before r cut parent ≡ None → IsPlaced before r cut parent
-placed p row before r zero None level h = plate_branch p row before r h
-placed p row before r zero (Some _) level h = absurd (let e : Some (bad.Parent row) ≡ None = h in cc)
-placed p row before r (suc _) None level h = absurd (let e : Some (bad.Parent row) ≡ None = h in cc)
-placed p row before r (suc cut) (Some parent) level h = under row cut parent before r (row_with parent before) level refl h
+placed : (b : Problem) (row : ℕ) (before : List Row) (r : Row) (cut : ℕ) (parent : Option ℕ) → r.cut ≡ cut
+    → place_refusal b row before r cut parent ≡ None → IsPlaced before r cut parent
+placed b row before r zero None level h = plate_branch b row before r h
+placed b row before r zero (Some _) level h = absurd (let e : Some (bad.Parent row) ≡ None = h in cc)
+placed b row before r (suc _) None level h = absurd (let e : Some (bad.Parent row) ≡ None = h in cc)
+placed b row before r (suc cut) (Some parent) level h = under row cut parent before r (row_with parent before) level refl h
 
 -- nothing is found where no element passes
 none_found : (o : Option Row) → is_some o ≡ false → o ≡ None
@@ -155,13 +156,13 @@ none_found None h = refl
 none_found (Some x) h = cc
 
 -- a row that is not refused may stand behind the others
-pub allowed : (p : Params) (row : ℕ) (before : List Row) (r : Row) → row_refusal p row before r ≡ None → IsRowType r.kind → IsAllowed before r
-allowed p row before r h typed = by (list_any (λ e. e.node == r.node) before) refl h
+pub allowed : (b : Problem) (row : ℕ) (before : List Row) (r : Row) → row_refusal b row before r ≡ None → IsRowType r.kind → MayFollow before r
+allowed b row before r h typed = by (list_any (λ e. e.node == r.node) before) refl h
   where
-    by : (b : Bool) → list_any (λ e. e.node == r.node) before ≡ b → cond b (Some (bad.Parent row)) (place_refusal p row before r r.cut r.parent) ≡ None → IsAllowed before r
+    by : (test : Bool) → list_any (λ e. e.node == r.node) before ≡ test → cond test (Some (bad.Parent row)) (place_refusal b row before r r.cut r.parent) ≡ None → MayFollow before r
     by true e s = absurd (let u : Some (bad.Parent row) ≡ None = s in cc)
     by false e s = record {
       new = none_found (row_with r.node before) (sym (any-find (λ x. x.node == r.node) before) ∙ e);
       typed = typed;
-      placed = placed p row before r r.cut r.parent refl s;
+      placed = placed b row before r r.cut r.parent refl s;
     }

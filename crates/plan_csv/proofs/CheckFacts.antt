@@ -3,12 +3,12 @@ use Rattle.std.proofs.Common.{◌≡◌, ◌∙◌, ℕ, List, [], ◌∷◌, Bo
 use Rattle.std.specs.Prelude.{find, Option, Some, None, ◌==◌, ◌||◌}
 use Rattle.std.specs.List.{list_any}
 use Rattle.std.specs.Option.{is_some}
-use Rattle.glass_base.specs.declared.params.Params.{Params}
+use Rattle.glass_base.specs.Problem.{Problem}
 use Rattle.cut_model.specs.declared.family.Row.{Row}
 use Rattle.plan_csv.specs.declared.bad_plan.BadPlan.TheVariants as bad
 use Rattle.plan_csv.specs.declared.nodes.Node.{Node}
 use Rattle.plan_csv.specs.PlanTexts.{place_refusal, row_refusal}
-use Rattle.plan_csv.specs.ReadNodes.{IsNamed, row_with}
+use Rattle.plan_csv.specs.inner.ReadNodes.{IsNamed, row_with}
 
 -- an element passes the test exactly where one is found
 pub any-find : {X : Type 0} (test : X → Bool) (xs : List X) → list_any test xs ≡ is_some (find test xs)
@@ -21,15 +21,15 @@ some_named rows number None n = rw n.0 refl
 some_named rows number (Some node) n = rw n.found refl
 
 -- a row whose number was used
-pub used : (p : Params) (row : ℕ) (rows : List Row) (r : Row) (o : Option Node) → IsNamed rows r.node o → is_some o ≡ true
-    → Some (bad.Parent row) ≡ row_refusal p row rows r
-used p row rows r o n h =
+pub used : (b : Problem) (row : ℕ) (rows : List Row) (r : Row) (o : Option Node) → IsNamed rows r.node o → is_some o ≡ true
+    → Some (bad.Parent row) ≡ row_refusal b row rows r
+used b row rows r o n h =
     let any : list_any (λ e. e.node == r.node) rows ≡ true = any-find (λ e. e.node == r.node) rows ∙ sym (some_named rows r.node o n) ∙ h in
     rw any refl
 
 -- a row whose number is new
-pub unused : (p : Params) (row : ℕ) (rows : List Row) (r : Row) (o : Option Node) → IsNamed rows r.node o → is_some o ≡ false
-    → place_refusal p row rows r r.cut r.parent ≡ row_refusal p row rows r
-unused p row rows r o n h =
+pub unused : (b : Problem) (row : ℕ) (rows : List Row) (r : Row) (o : Option Node) → IsNamed rows r.node o → is_some o ≡ false
+    → place_refusal b row rows r r.cut r.parent ≡ row_refusal b row rows r
+unused b row rows r o n h =
     let any : list_any (λ e. e.node == r.node) rows ≡ false = any-find (λ e. e.node == r.node) rows ∙ sym (some_named rows r.node o n) ∙ h in
     rw any refl

@@ -2,10 +2,9 @@
 use Rattle.std.proofs.Common.{◌≡◌, ◌+◌, ◌<◌, ◌≤◌, ◌∙◌, ℕ, List, [], ◌∷◌, ◌++◌, drop, length, get_or, refl, sym, ap}
 use Rattle.cut_model.specs.declared.family.Row.{Row}
 use Rattle.cut_model.specs.declared.family.Sort.{Sort}
-use Rattle.cut_model.specs.Tree.{Forest, nothing, piece, neighbours}
+use Rattle.cut_model.specs.Tree.{Forest, nothing, piece, neighbours, sort_named}
 use Rattle.cut_model.proofs.Neighbours.{next, none_left}
-use Rattle.plan_csv.specs.PlanTexts.{sort_named}
-use Rattle.plan_csv.specs.ReadNodes.{IsGrown, side_filled}
+use Rattle.plan_csv.specs.inner.ReadNodes.{IsGrown, side_filled}
 
 -- pieces with others behind them
 abbrev pub onto : {A : Type 0} → (A → ℕ) → (A → Sort) → (A → Forest) → List A → Forest → Forest

@@ -1,5 +1,5 @@
 -- What is cut from a row among rows that were read.
-use Rattle.std.proofs.Common.{◌≡◌, ◌+◌, ◌∙◌, ℕ, zero, suc, ℤ, pos, negsuc, List, [], ◌∷◌, Bool, true, false, cond, length, get_or, refl, sym, ap, arith, All}
+use Rattle.std.proofs.Common.{◌≡◌, ◌+◌, ◌∙◌, ℕ, zero, suc, List, [], ◌∷◌, Bool, true, false, cond, length, get_or, refl, sym, ap, arith, All}
 use Rattle.std.specs.Prelude.{Option, Some, None, ◌==◌, ◌||◌, ◌&&◌, not}
 use Rattle.std.specs.Option.{option_or}
 use Rattle.std.specs.BTreeMap.{get}
@@ -10,27 +10,13 @@ use Rattle.cut_model.specs.declared.family.Row.{Row}
 use Rattle.cut_model.specs.declared.family.Sort.{Sort}
 use Rattle.cut_model.specs.Families.{side_along}
 use Rattle.cut_model.specs.Parents.{rows_in}
-use Rattle.cut_model.specs.Tree.{nothing, piece}
+use Rattle.cut_model.specs.Tree.{is_branch, nothing, piece, sort_named}
 use Rattle.plan_csv.specs.declared.bad_plan.BadPlan.{BadPlan}
 use Rattle.plan_csv.specs.declared.bad_plan.BadPlan.TheVariants as bad
 use Rattle.plan_csv.specs.declared.nodes.Node.{Node}
 use Rattle.plan_csv.specs.declared.nodes.Nodes.{Nodes}
-use Rattle.plan_csv.specs.PlanTexts.{cell_refusal, grown, lies, names_branch, sort_named, unless}
-use Rattle.plan_csv.specs.ReadNodes.{AreNodes, HaveTwo, IsChild, IsNamed, IsPiece, below, row_with, side_filled}
-
--- not the sort of a piece that is cut
-abbrev pub IsUncut : Sort → Type 0
-IsUncut (Sort.Item _) = Unit {0}
-IsUncut Sort.Waste = Unit {0}
-IsUncut Sort.Residual = Unit {0}
-IsUncut Sort.Branch = ⊥
-
--- the type of a piece that is not cut
-uncut_type : (kind : ℤ) (sort : Sort) → sort ≡ sort_named kind → IsUncut sort → names_branch kind ≡ false
-uncut_type (pos number) sort e uncut = refl
-uncut_type (negsuc zero) sort e uncut = refl
-uncut_type (negsuc (suc zero)) sort e uncut = absurd (rw e at uncut)
-uncut_type (negsuc (suc (suc _))) sort e uncut = refl
+use Rattle.plan_csv.specs.PlanTexts.{cell_refusal, grown, lies, names_branch, unless}
+use Rattle.plan_csv.specs.inner.ReadNodes.{AreNodes, HaveTwo, IsChild, IsNamed, IsPiece, below, row_with, side_filled}
 
 -- a row that is not cut has no children
 childless : (rows children : List Row) (e : Row) → names_branch e.kind ≡ false → All (IsChild rows e) children → children ≡ []
@@ -52,10 +38,10 @@ grown_of_none (suc depth) rows = refl
 
 -- nothing is cut from a row of such a sort
 pub below_nothing : (nodes : Nodes) (r : Row) (depth : ℕ) (sort : Sort) → AreNodes nodes → row_with r.node nodes.rows.items ≡ Some r
-    → sort ≡ sort_named r.kind → IsUncut sort → nothing ≡ below (suc depth) nodes.rows.items r
+    → sort ≡ sort_named r.kind → is_branch sort ≡ false → nothing ≡ below (suc depth) nodes.rows.items r
 below_nothing nodes r depth sort kept known e uncut =
     let none : rows_in r.node nodes.rows.items ≡ [] =
-    none_below nodes.rows.items r (get nat_cmp nodes.named r.node) (kept.named r.node) known (uncut_type r.kind sort e uncut) in
+    none_below nodes.rows.items r (get nat_cmp nodes.named r.node) (kept.named r.node) known (ap is_branch (sym e) ∙ uncut) in
     rw none (grown_of_none depth nodes.rows.items)
 
 -- of two refusals that are none together, both are none

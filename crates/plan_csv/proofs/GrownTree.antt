@@ -1,16 +1,19 @@
 -- The tree that a plan's rows say is the plan's own.
 use Rattle.std.proofs.Common.{◌≡◌, ◌≤◌, ℕ, zero, suc, ◌+◌, List, [], ◌∷◌, Bool, true, false, refl, sym, subst, ap, ◌∙◌, arith}
-use Rattle.glass_base.specs.declared.params.Params.{Params}
+use Rattle.glass_base.specs.Plates.{Width}
+use Rattle.glass_base.specs.Problem.{Problem}
 use Rattle.cut_model.specs.declared.plan.Plan.{Plan}
 use Rattle.cut_model.specs.declared.family.Row.{Row}
 use Rattle.cut_model.specs.declared.family.Sort.{Sort}
 use Rattle.cut_model.specs.declared.family.Along.{Along}
 use Rattle.cut_model.specs.declared.family.Area.{Area}
-use Rattle.cut_model.specs.Tree.{Forest, nothing, piece, count, tree, type_number}
+use Rattle.cut_model.specs.Shape.{IsOfLevel, IsShaped}
+use Rattle.cut_model.specs.Sized.{on_plates, sized}
+use Rattle.cut_model.specs.Tree.{Forest, nothing, piece, count, tree, type_number, sort_named}
 use Rattle.cut_model.specs.Families.{behind, row_at, first_plate, rows_of, side_along}
 use Rattle.cut_model.specs.Parents.{rows_in, tops}
-use Rattle.plan_csv.specs.PlanTexts.{lies, sort_named, grown, tree_of}
-use Rattle.plan_csv.proofs.Shaped.{IsOfLevel, IsShaped, tree_shaped}
+use Rattle.plan_csv.specs.PlanTexts.{lies, grown, tree_of}
+use Rattle.cut_model.proofs.Shapes.{tree_shaped}
 use Rattle.plan_csv.proofs.Told.{place_in, behind_next}
 use Rattle.plan_csv.proofs.PlateRows.{own_plates}
 use Rattle.plan_csv.proofs.RowsBefore.{inside_lies, side_is}
@@ -82,9 +85,31 @@ grown_again whole depth at first node (piece size sort inner later) lie deep sha
     grown_row depth whole r (tops (behind at size) false (node + 1 + count inner) later)
     ∙ rw (side, sort_again sort, inside, rest) refl
 
+-- the rows of plates from this number on grow into the plates of the plan, which have no size of their own
+plates_grown : (whole : List Row) (b : Problem) (plate : ℕ) (at : Area) (first : Bool) (node : ℕ) (plan : Forest) →
+    at.along ≡ Along.Plates → at.cut ≡ 0 → IsShaped 0 plan → AllOwn whole at first node (sized b plate plan) →
+    grown 4 whole (tops at first node (sized b plate plan)) ≡ plan
+unfolding tops
+plates_grown whole b plate at first node nothing lie level shape own = refl
+plates_grown whole b plate at first node (piece size sort inner plan) lie level shape own =
+    let wide : ℕ = Width b plate in
+    let later : Forest = sized b (plate + 1) plan in
+    let r : Row = row_at at node wide sort in
+    let place : Area = place_in at first node wide sort inner later in
+    let next = behind_next at wide in
+    let below : place.cut ≡ 1 = omega (arith, level) in
+    let side : side_along (lies at.cut) r ≡ size = ap (λ n. side_along (lies n) r) level ∙ sym (shape.0 refl) in
+    let inside : grown 3 whole (rows_in node whole) ≡ inner =
+    ap (grown 3 whole) own.0
+    ∙ grown_again whole 3 place true (node + 1) inner (inside_lies at.along at.cut (lie ∙ ap lies (sym level)) (omega (arith, level))) (omega (arith, below))
+    (subst (λ (n : ℕ). IsShaped n inner) (sym below) shape.2) own.1 in
+    let rest : grown 4 whole (tops (behind at wide) false (node + 1 + count inner) later) ≡ plan =
+    plates_grown whole b (plate + 1) (behind at wide) false (node + 1 + count inner) plan (next.along ∙ lie) (next.cut ∙ level) shape.3 own.2 in
+    rw (side, sort_again sort, inside, rest) refl
+
 -- the tree of a plan's rows is the plan
-pub plan_grown : (p : Params) (plan : Plan) → tree_of (rows_of p (tree plan)) ≡ tree plan
-plan_grown p plan =
-    let rs : List Row = rows_of p (tree plan) in
-    ap (grown 4 rs) (own_plates (first_plate p) true 0 (tree plan) refl)
-    ∙ grown_again rs 4 (first_plate p) true 0 (tree plan) refl refl (tree_shaped plan) (plan_own p (tree plan))
+pub plan_grown : (b : Problem) (plan : Plan) → tree_of (rows_of b (tree plan)) ≡ tree plan
+plan_grown b plan =
+    let rows : List Row = rows_of b (tree plan) in
+    ap (grown 4 rows) (own_plates (first_plate b) true 0 (on_plates b (tree plan)) refl)
+    ∙ plates_grown rows b 0 (first_plate b) true 0 (tree plan) refl refl (tree_shaped plan) (plan_own b (tree plan))

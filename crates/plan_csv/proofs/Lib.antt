@@ -1,6 +1,5 @@
 pub mod WrittenNumbers
 pub mod WrittenRows
-mod Shaped
 mod Told
 mod Refusals
 mod PlateRows

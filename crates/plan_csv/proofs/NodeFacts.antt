@@ -11,7 +11,8 @@ use Rattle.cut_model.specs.declared.family.Along.{Along}
 use Rattle.cut_model.specs.Families.{side_along}
 use Rattle.cut_model.specs.Parents.{is_number, rows_in, sum_along}
 use Rattle.plan_csv.specs.PlanTexts.{lies}
-use Rattle.plan_csv.specs.ReadNodes.{Gained, GoesWith, IsChild, IsNamed, IsRowType, IsUnder, row_with, side_filled}
+use Rattle.cut_model.specs.Tree.{IsRowType}
+use Rattle.plan_csv.specs.inner.ReadNodes.{Gained, GoesWith, IsChild, IsNamed, IsUnder, row_with, side_filled}
 use Rattle.plan_csv.specs.declared.nodes.Node.{Node}
 
 -- two numbers that differ are not equal to the order of numbers
@@ -67,7 +68,7 @@ named_same rows r number (Some node) ne h n =
 -- the node of the new row's parent has gained it
 pub named_gained : (rows : List Row) (r : Row) (parent : ℕ) (o m : Option Node) → row_with r.node rows ≡ None → r.parent ≡ Some parent → IsRowType r.kind
     → IsUnder rows r parent → Gained r o m → IsNamed rows parent o → IsNamed (rows ++ r ∷ []) parent m
-named_gained rows r parent None m new p typed under gained n = absurd (let u : Some under.above ≡ None = sym under.found ∙ n.0 in cc)
+named_gained rows r parent None m new p typed under gained n = absurd gained
 named_gained rows r parent (Some node) None new p typed under gained n = absurd gained
 named_gained rows r parent (Some node) (Some more) new p typed under gained n =
     let own : is_number parent r.parent ≡ true = rw p (eq-eqb parent parent refl) in

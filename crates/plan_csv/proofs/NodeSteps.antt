@@ -9,7 +9,8 @@ use Rattle.std.proofs.lemmas.List.Elements.{All-push, All-weaker, filter-append}
 use Rattle.cut_model.specs.declared.family.Row.{Row}
 use Rattle.cut_model.specs.Lawful.{plate_rows}
 use Rattle.cut_model.specs.Parents.{is_number}
-use Rattle.plan_csv.specs.ReadNodes.{AreNodes, IsAllowed, IsAttached, IsNamed, IsPlaced, IsRoot, IsRowType, row_with}
+use Rattle.cut_model.specs.Tree.{IsRowType}
+use Rattle.plan_csv.specs.inner.ReadNodes.{AreNodes, MayFollow, IsAttached, IsNamed, IsPlaced, IsRoot, row_with}
 use Rattle.plan_csv.specs.declared.nodes.Node.{Node}
 use Rattle.plan_csv.specs.declared.nodes.Nodes.{Nodes}
 use Rattle.plan_csv.proofs.NodeFacts.{found_last, found_more, named_gained, named_new, named_same, number_differs}
@@ -77,7 +78,7 @@ pub record HasNewNode (number : ℕ) (n : Node) (old new : ℕ → Option Node) 
   pub others : (q : ℕ) → is_eq (nat_cmp number q) ≡ false → new q ≡ old q
 
 -- what is kept is that of one row more
-pub are_nodes-more : (r : Row) (n : Node) (old mid new : Nodes) → AreNodes old → IsAllowed old.rows.items r → IsAttached r r.parent old mid
+pub are_nodes-more : (r : Row) (n : Node) (old mid new : Nodes) → AreNodes old → MayFollow old.rows.items r → IsAttached r r.parent old mid
     → new.rows.items ≡ old.rows.items ++ r ∷ [] → new.plates.items ≡ mid.plates.items
     → HasNewNode r.node n (get nat_cmp mid.named) (get nat_cmp new.named) → n.row ≡ r → n.children.items ≡ [] → n.filled ≡ 0 → AreNodes new
 are_nodes-more r n old mid new nodes allowed attached rows plates put row_is none filled =

@@ -2,17 +2,20 @@
 use Rattle.std.proofs.Common.{◌≡◌, ◌≤◌, ◌<◌, ℕ, ◌+◌, ◌==◌, List, [], ◌∷◌, ◌++◌, length, Bool, true, false, not, ◌||◌, ◌&&◌, refl, sym, subst, ap, ◌∙◌, append-nil, arith, None}
 use Rattle.std.specs.List.{AllByRecursion}
 use Rattle.std.proofs.lemmas.Bool.Decides.{nat_tests, Decides-eqb}
-use Rattle.glass_base.specs.declared.params.Params.{Params}
+use Rattle.glass_base.specs.Plates.{Width}
+use Rattle.glass_base.specs.Problem.{Problem}
 use Rattle.cut_model.specs.declared.plan.Plan.{Plan}
 use Rattle.cut_model.specs.declared.family.Row.{Row}
 use Rattle.cut_model.specs.declared.family.Sort.{Sort}
 use Rattle.cut_model.specs.declared.family.Area.{Area}
+use Rattle.cut_model.specs.Shape.{IsOfLevel, IsShaped}
+use Rattle.cut_model.specs.Sized.{on_plates, sized}
 use Rattle.cut_model.specs.Tree.{Forest, nothing, piece, count, tree, type_number, neighbour_count}
 use Rattle.cut_model.specs.Families.{behind, first_plate, rows_of}
 use Rattle.cut_model.specs.Parents.{is_number, rows_in, tops}
 use Rattle.cut_model.proofs.Parents.{none_in, own_in}
+use Rattle.cut_model.proofs.Shapes.{tree_shaped}
 use Rattle.plan_csv.specs.PlanTexts.{names_branch, cell_refusal}
-use Rattle.plan_csv.proofs.Shaped.{IsOfLevel, IsShaped, tree_shaped}
 use Rattle.plan_csv.proofs.Told.{rows_at, place_in, rows_below, rows_past, rows_nothing, rows_piece, behind_next, hold_all}
 use Rattle.plan_csv.proofs.Refusals.{same}
 use Rattle.plan_csv.proofs.RowsBefore.{rows_in-append, none_past, IsElder}
@@ -51,8 +54,8 @@ own_rows whole at first node (piece size sort inner later) elder among =
     )
 
 -- of each piece of a plan
-pub plan_own : (p : Params) (plan : Forest) → AllOwn (rows_of p plan) (first_plate p) true 0 plan
-plan_own p plan = own_rows (rows_of p plan) (first_plate p) true 0 plan (λ n le. refl) (λ n le lt. refl)
+pub plan_own : (b : Problem) (plan : Forest) → AllOwn (rows_of b plan) (first_plate b) true 0 (on_plates b plan)
+plan_own b plan = own_rows (rows_of b plan) (first_plate b) true 0 (on_plates b plan) (λ n le. refl) (λ n le lt. refl)
 
 -- there are as many rows in a list of neighbours as neighbours
 length-tops : (at : Area) (first : Bool) (node : ℕ) (forest : Forest) → length (tops at first node forest) ≡ neighbour_count forest
@@ -86,21 +89,37 @@ two_inside level Sort.Waste inner n h e = not_cut (level == 3) (n == 2)
 two_inside level Sort.Branch inner n h e = where_cell (level == 3) (n == 2) (λ cell. same n 2 (e ∙ h.two ((Decides-eqb level 3).0 cell)))
 two_inside level Sort.Residual inner n h e = not_cut (level == 3) (n == 2)
 
--- the cells of a tree with a plan's shape have two leaves
+-- the cells among a piece, the pieces inside it and those behind it have two leaves
+two_of : (whole : List Row) (at : Area) (first : Bool) (node size : ℕ) (sort : Sort) (inner later : Forest) → IsOfLevel at.cut sort inner →
+    rows_in node whole ≡ tops (place_in at first node size sort inner later) true (node + 1) inner →
+    AllByRecursion (HasTwo whole) (rows_below at first node size sort inner later) → AllByRecursion (HasTwo whole) (rows_past at node size inner later) →
+    AllByRecursion (HasTwo whole) (rows_at at first node (piece size sort inner later))
+two_of whole at first node size sort inner later level own below past =
+    let many : length (rows_in node whole) ≡ neighbour_count inner = ap length own ∙ length-tops (place_in at first node size sort inner later) true (node + 1) inner in
+    hold_all (HasTwo whole) at first node size sort inner later
+    (record { here = two_inside at.cut sort inner (length (rows_in node whole)) level many; below = below; past = past })
+
+-- so have those of pieces with a plan's shape
 all_two : (whole : List Row) (at : Area) (first : Bool) (node : ℕ) (forest : Forest) → IsShaped at.cut forest → AllOwn whole at first node forest → AllByRecursion (HasTwo whole) (rows_at at first node forest)
 all_two whole at first node nothing shape own = rw (rows_nothing at first node) tt
 all_two whole at first node (piece size sort inner later) shape own =
-    let place : Area = place_in at first node size sort inner later in
-    let many : length (rows_in node whole) ≡ neighbour_count inner = ap length own.0 ∙ length-tops place true (node + 1) inner in
-    hold_all (HasTwo whole) at first node size sort inner later
-    (record {
-      here = two_inside at.cut sort inner (length (rows_in node whole)) shape.1 many;
-      below = all_two whole place true (node + 1) inner shape.2 own.1;
-      past = all_two whole (behind at size) false (node + 1 + count inner) later (subst (λ (level : ℕ). IsShaped level later) (sym (behind_next at size).cut) shape.3) own.2;
-    })
+    two_of whole at first node size sort inner later shape.1 own.0
+    (all_two whole (place_in at first node size sort inner later) true (node + 1) inner shape.2 own.1)
+    (all_two whole (behind at size) false (node + 1 + count inner) later (subst (λ (level : ℕ). IsShaped level later) (sym (behind_next at size).cut) shape.3) own.2)
+
+-- and those of its plates from this number on
+plates_two : (whole : List Row) (b : Problem) (plate : ℕ) (at : Area) (first : Bool) (node : ℕ) (plan : Forest) → IsShaped at.cut plan → AllOwn whole at first node (sized b plate plan) →
+    AllByRecursion (HasTwo whole) (rows_at at first node (sized b plate plan))
+plates_two whole b plate at first node nothing shape own = rw (rows_nothing at first node) tt
+plates_two whole b plate at first node (piece size sort inner plan) shape own =
+    let wide : ℕ = Width b plate in
+    let later : Forest = sized b (plate + 1) plan in
+    two_of whole at first node wide sort inner later shape.1 own.0
+    (all_two whole (place_in at first node wide sort inner later) true (node + 1) inner shape.2 own.1)
+    (plates_two whole b (plate + 1) (behind at wide) false (node + 1 + count inner) plan (subst (λ (level : ℕ). IsShaped level plan) (sym (behind_next at wide).cut) shape.3) own.2)
 
 -- no row of a plan is refused once all are read
-pub plan_cells_accepted : (p : Params) (plan : Plan) → cell_refusal (rows_of p (tree plan)) 2 (rows_of p (tree plan)) ≡ None
-plan_cells_accepted p plan =
-    cells_pass (rows_of p (tree plan)) 2 (rows_of p (tree plan))
-    (all_two (rows_of p (tree plan)) (first_plate p) true 0 (tree plan) (tree_shaped plan) (plan_own p (tree plan)))
+pub plan_cells_accepted : (b : Problem) (plan : Plan) → cell_refusal (rows_of b (tree plan)) 2 (rows_of b (tree plan)) ≡ None
+plan_cells_accepted b plan =
+    cells_pass (rows_of b (tree plan)) 2 (rows_of b (tree plan))
+    (plates_two (rows_of b (tree plan)) b 0 (first_plate b) true 0 (tree plan) (tree_shaped plan) (plan_own b (tree plan)))

@@ -3,7 +3,8 @@ use Rattle.std.proofs.Common.{◌≡◌, ◌≤◌, ℕ, suc, ◌+◌, ◌==◌,
 use Rattle.std.specs.Prelude.{nat_le, find}
 use Rattle.std.specs.List.{list_any}
 use Rattle.std.proofs.lemmas.Bool.Decides.{nat_tests}
-use Rattle.glass_base.specs.declared.params.Params.{Params}
+use Rattle.glass_base.specs.Plates.{Width}
+use Rattle.glass_base.specs.Problem.{Problem}
 use Rattle.cut_model.specs.declared.family.Row.{Row}
 use Rattle.cut_model.specs.declared.family.Along.{Along}
 use Rattle.cut_model.specs.Lawful.{plate_rows}
@@ -19,17 +20,17 @@ small : (a b : ℕ) → a ≤ b → nat_le a b ≡ true
 small a b le = grind (arith, nat_tests)
 
 -- a plate that is next behind these rows
-pub record IsNextPlate (p : Params) (before : List Row) (r : Row) : Type 0 where
+pub record IsNextPlate (b : Problem) (before : List Row) (r : Row) : Type 0 where
   pub plate : r.plate ≡ length (plate_rows before)
   pub branch : names_branch r.kind ≡ true
   pub x : r.x ≡ 0
   pub y : r.y ≡ 0
-  pub width : r.width ≡ p.width
-  pub height : r.height ≡ p.height
+  pub width : r.width ≡ Width b r.plate
+  pub height : r.height ≡ b.params.height
 
 -- such a plate is not refused
-plate_passes : (p : Params) (row : ℕ) (before : List Row) (r : Row) → IsNextPlate p before r → plate_refusal p row before r ≡ None
-plate_passes p row before r h =
+plate_passes : (b : Problem) (row : ℕ) (before : List Row) (r : Row) → IsNextPlate b before r → plate_refusal b row before r ≡ None
+plate_passes b row before r h =
     rw (same _ _ h.plate, h.branch, same _ _ h.x, same _ _ h.y, same _ _ h.width, same _ _ h.height) refl
 
 -- a row whose sides are those of the piece behind so much of its parent
@@ -60,22 +61,22 @@ piece_passes row filled e r h =
     rw (same _ _ h.plate, same _ _ h.cut, h.cut_up, h.residual, h.branch, sides_pass row filled e r (lies r.cut) h.beside) refl
 
 -- a plate in its place is not refused
-pub plate_row_passes : (p : Params) (row : ℕ) (before : List Row) (r : Row) →
-    list_any (λ e. e.node == r.node) before ≡ false → r.cut ≡ 0 → r.parent ≡ None → IsNextPlate p before r → row_refusal p row before r ≡ None
-plate_row_passes p row before r new cut parent h =
-    rw (new) (rw (cut) (rw (parent) (plate_passes p row before r h)))
+pub plate_row_passes : (b : Problem) (row : ℕ) (before : List Row) (r : Row) →
+    list_any (λ e. e.node == r.node) before ≡ false → r.cut ≡ 0 → r.parent ≡ None → IsNextPlate b before r → row_refusal b row before r ≡ None
+plate_row_passes b row before r new cut parent h =
+    rw (new) (rw (cut) (rw (parent) (plate_passes b row before r h)))
 
 -- the place of a piece is not refused
-place_passes : (p : Params) (row : ℕ) (before : List Row) (e r : Row) (level : ℕ) (parent : Option ℕ) →
+place_passes : (b : Problem) (row : ℕ) (before : List Row) (e r : Row) (level : ℕ) (parent : Option ℕ) →
     level ≡ suc e.cut → parent ≡ Some e.node → child_refusal row before r (find (λ x. x.node == e.node) before) ≡ None →
-    place_refusal p row before r level parent ≡ None
-place_passes p row before e r level parent cut named h = rw (cut, named) h
+    place_refusal b row before r level parent ≡ None
+place_passes b row before e r level parent cut named h = rw (cut, named) h
 
 -- a piece in its place is not refused
-pub piece_row_passes : (p : Params) (row : ℕ) (before : List Row) (e r : Row) →
+pub piece_row_passes : (b : Problem) (row : ℕ) (before : List Row) (e r : Row) →
     list_any (λ e. e.node == r.node) before ≡ false → find (λ x. x.node == e.node) before ≡ Some e →
-    IsNextPiece (filled_by r.cut before e.node) e r → row_refusal p row before r ≡ None
-piece_row_passes p row before e r new found h =
+    IsNextPiece (filled_by r.cut before e.node) e r → row_refusal b row before r ≡ None
+piece_row_passes b row before e r new found h =
     let cut : r.cut ≡ suc e.cut = omega (arith, h.cut) in
     let passes : child_refusal row before r (find (λ x. x.node == e.node) before) ≡ None = rw found (piece_passes row (filled_by r.cut before e.node) e r h) in
-    rw new (place_passes p row before e r r.cut r.parent cut h.parent passes)
+    rw new (place_passes b row before e r r.cut r.parent cut h.parent passes)

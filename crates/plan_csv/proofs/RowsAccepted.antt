@@ -6,7 +6,7 @@ use Rattle.std.proofs.lemmas.List.Elements.{All-cons, All-nil, All-push, All-sam
 use Rattle.std.proofs.lemmas.List.Folds.{list_any-append}
 use Rattle.std.proofs.lemmas.Option.{none-some, same_Some}
 use Rattle.std.specs.Prelude.{Option, Some, None, Ok, find, nat_le, not, ◌||◌}
-use Rattle.glass_base.specs.declared.params.Params.{Params}
+use Rattle.glass_base.specs.Problem.{Problem}
 use Rattle.cut_model.specs.declared.family.Along.{Along}
 use Rattle.cut_model.specs.declared.family.Row.{Row}
 use Rattle.cut_model.specs.Families.{side_along}
@@ -85,12 +85,12 @@ piece_fits row filled level e r is h =
     (eqb-true r.cut (e.cut + 1) holds.0, side_fits row filled e r (lies r.cut) (λ plates. lies_cut level (ap lies (sym is) ∙ plates)) holds.1)
 
 -- a row that is not refused has a place
-placed : (p : Params) (row : ℕ) (before : List Row) (r : Row) (cut : ℕ) (parent : Option ℕ) → r.cut ≡ cut
-    → place_refusal p row before r cut parent ≡ None → HasPlace before r parent
-placed p row before r zero None is h = tt
-placed p row before r zero (Some n) is h = cc h
-placed p row before r (suc level) None is h = tt
-placed p row before r (suc level) (Some n) is h = by (find (λ x. x.node == n) before) refl h
+placed : (b : Problem) (row : ℕ) (before : List Row) (r : Row) (cut : ℕ) (parent : Option ℕ) → r.cut ≡ cut
+    → place_refusal b row before r cut parent ≡ None → HasPlace before r parent
+placed b row before r zero None is h = tt
+placed b row before r zero (Some n) is h = cc h
+placed b row before r (suc level) None is h = tt
+placed b row before r (suc level) (Some n) is h = by (find (λ x. x.node == n) before) refl h
   where
     by : (o : Option Row) → find (λ x. x.node == n) before ≡ o → child_refusal row before r o ≡ None → HasPlace before r (Some n)
     by None found k = cc k
@@ -182,15 +182,15 @@ head_more before r e is place head =
     fits false rows h k = rw (append-nil rows) h
 
 -- one more row that is not refused
-accepted_more : (p : Params) (row : ℕ) (before : List Row) (r : Row) → AreAccepted before → IsRowInRange r → row_refusal p row before r ≡ None
+accepted_more : (b : Problem) (row : ℕ) (before : List Row) (r : Row) → AreAccepted before → IsRowInRange r → row_refusal b row before r ≡ None
     → AreAccepted (before ++ r ∷ [])
-accepted_more p row before r all small h = by (has_number r.node before) refl h
+accepted_more b row before r all small h = by (has_number r.node before) refl h
   where
-    by : (b : Bool) → has_number r.node before ≡ b → (if b then Some (bad.Parent row) else place_refusal p row before r r.cut r.parent) ≡ None
+    by : (test : Bool) → has_number r.node before ≡ test → (if test then Some (bad.Parent row) else place_refusal b row before r r.cut r.parent) ≡ None
         → AreAccepted (before ++ r ∷ [])
     by true free k = cc k
     by false free k =
-        let place = placed p row before r r.cut r.parent refl k in
+        let place = placed b row before r r.cut r.parent refl k in
         let names_none : rows_in r.node (before ++ r ∷ []) ≡ [] = none_names r.node before r free (all.known r.node free) place in
         record {
           small = All-push IsRowInRange before r all.small small;
@@ -220,13 +220,13 @@ not_refused rows more None h = (refl, cc h)
 not_refused rows more (Some refusal) h = cc h
 
 -- all rows of a text are accepted
-pub accepted_all : (p : Params) (row : ℕ) (before rows : List Row) (rest : List (List (List ℕ))) → AreAccepted before
-    → rows_behind p row before rest ≡ Ok rows → AreAccepted rows
-accepted_all p row before rows [] all h = let same : before ≡ rows = cc h in subst AreAccepted same all
-accepted_all p row before rows (fields ∷ rest) all h =
+pub accepted_all : (b : Problem) (row : ℕ) (before rows : List Row) (rest : List (List (List ℕ))) → AreAccepted before
+    → rows_behind b row before rest ≡ Ok rows → AreAccepted rows
+accepted_all b row before rows [] all h = let same : before ≡ rows = cc h in subst AreAccepted same all
+accepted_all b row before rows (fields ∷ rest) all h =
     let read = read_behind (row_in row fields) _ rows h in
     let r : Row = read.0 in
-    let here = read_behind (or_refusal (before ++ r ∷ []) (row_refusal p row before r)) (λ more. rows_behind p (row + 1) more rest) rows read.2 in
-    let kept = not_refused (before ++ r ∷ []) here.0 (row_refusal p row before r) here.1 in
-    accepted_all p (row + 1) here.0 rows rest
-    (subst AreAccepted kept.1 (accepted_more p row before r all (row_in_range row fields r read.1) kept.0)) here.2
+    let here = read_behind (or_refusal (before ++ r ∷ []) (row_refusal b row before r)) (λ more. rows_behind b (row + 1) more rest) rows read.2 in
+    let kept = not_refused (before ++ r ∷ []) here.0 (row_refusal b row before r) here.1 in
+    accepted_all b (row + 1) here.0 rows rest
+    (subst AreAccepted kept.1 (accepted_more b row before r all (row_in_range row fields r read.1) kept.0)) here.2

@@ -15,7 +15,7 @@ use Rattle.cut_model.specs.Loss.{names_residual}
 use Rattle.cut_model.specs.Parents.{is_number, rows_in, sum_along}
 use Rattle.cut_model.proofs.Parents.{none_in}
 use Rattle.plan_csv.specs.PlanTexts.{lies, names_branch, filled_by}
-use Rattle.plan_csv.proofs.Shaped.{IsOfLevel}
+use Rattle.cut_model.specs.Shape.{IsOfLevel}
 use Rattle.plan_csv.proofs.Told.{rows_at, place_in, rows_below, rows_past, rows_nothing, rows_piece, behind_next, fresh_past}
 use Rattle.plan_csv.proofs.Refusals.{IsBeside, IsNextPiece, same}
 

@@ -2,7 +2,7 @@
 use Rattle.std.proofs.Common.{◌≡◌, ◌<◌, ◌≤◌, ◌+◌, ◌==◌, ℕ, zero, suc, List, [], ◌∷◌, All, drop, get_or, refl, ap, subst, arith}
 use Rattle.std.proofs.lemmas.List.Elements.{All-filter, All-head, All-tail, All-weaker}
 use Rattle.std.specs.Prelude.{ℤ, pos, negsuc, Ok}
-use Rattle.glass_base.specs.declared.params.Params.{Params}
+use Rattle.glass_base.specs.Problem.{Problem}
 use Rattle.cut_model.specs.declared.family.Along.{Along}
 use Rattle.cut_model.specs.declared.family.Row.{Row}
 use Rattle.cut_model.specs.declared.family.Sort.{Sort}
@@ -10,9 +10,9 @@ use Rattle.cut_model.specs.Families.{side_along}
 use Rattle.cut_model.specs.Fits.{Fits, InRange, IsNumbered}
 use Rattle.cut_model.specs.Lawful.{plate_rows}
 use Rattle.cut_model.specs.Parents.{is_number, rows_in, sum_along}
-use Rattle.cut_model.specs.Tree.{Forest, nothing, count, neighbours, total_size}
-use Rattle.csv_table.specs.Rows.{rows_of}
-use Rattle.plan_csv.specs.PlanTexts.{cell_refusal, grown, lies, or_refusal, plan_said, rows_behind, rows_said, sort_named, tree_of}
+use Rattle.cut_model.specs.Tree.{Forest, nothing, count, neighbours, total_size, sort_named}
+use Rattle.csv_table.specs.Rows.{table_rows}
+use Rattle.plan_csv.specs.PlanTexts.{cell_refusal, grown, lies, or_refusal, plan_said, rows_behind, rows_said, tree_of}
 use Rattle.plan_csv.proofs.RowsAccepted.{AreAccepted, IsHead, accepted_all, accepted_none, not_refused}
 use Rattle.plan_csv.proofs.FieldsInRange.{read_behind}
 use Rattle.plan_csv.proofs.RowsGrown.{few_grow, few_rows}
@@ -52,7 +52,8 @@ item_small : (kind : ℤ) → IsType kind → IsNumbered (sort_named kind)
 item_small (pos n) h = h
 item_small (negsuc zero) h = tt
 item_small (negsuc (suc zero)) h = tt
-item_small (negsuc (suc (suc n))) h = tt
+item_small (negsuc (suc (suc zero))) h = tt
+item_small (negsuc (suc (suc (suc n)))) h = tt
 
 -- a row of which it is known that it is in range and what is cut from it
 abbrev IsKnown : List Row → Row → Type 0
@@ -87,14 +88,14 @@ tree_fits rows all =
     least r h = omega arith
 
 -- the rows of a text are accepted
-rows_accepted : (p : Params) (bytes : List ℕ) (rows : List Row) → rows_said p bytes ≡ Ok rows → AreAccepted rows
-rows_accepted p bytes rows h =
-    let read = read_behind (rows_behind p 2 [] (drop 1 (rows_of bytes))) (λ said. or_refusal said (cell_refusal said 2 said)) rows h in
-    subst AreAccepted (not_refused read.0 rows (cell_refusal read.0 2 read.0) read.2).1 (accepted_all p 2 [] read.0 (drop 1 (rows_of bytes)) accepted_none read.1)
+rows_accepted : (b : Problem) (bytes : List ℕ) (rows : List Row) → rows_said b bytes ≡ Ok rows → AreAccepted rows
+rows_accepted b bytes rows h =
+    let read = read_behind (rows_behind b 2 [] (drop 1 (table_rows bytes))) (λ said. or_refusal said (cell_refusal said 2 said)) rows h in
+    subst AreAccepted (not_refused read.0 rows (cell_refusal read.0 2 read.0) read.2).1 (accepted_all b 2 [] read.0 (drop 1 (table_rows bytes)) accepted_none read.1)
 
 -- the tree that a text says fits, and has few pieces
-pub read_fits : (p : Params) (bytes : List ℕ) (plan : Forest) → plan_said p bytes ≡ Ok plan → Fits plan × (count plan ≤ 1000000000)
-read_fits p bytes plan h =
-    let read = read_behind (rows_said p bytes) (λ rows. Ok (tree_of rows)) plan h in
+pub read_fits : (b : Problem) (bytes : List ℕ) (plan : Forest) → plan_said b bytes ≡ Ok plan → Fits plan × (count plan ≤ 1000000000)
+read_fits b bytes plan h =
+    let read = read_behind (rows_said b bytes) (λ rows. Ok (tree_of rows)) plan h in
     let same : tree_of read.0 ≡ plan = cc read.2 in
-    subst (λ (t : Forest). Fits t × (count t ≤ 1000000000)) same (tree_fits read.0 (rows_accepted p bytes read.0 read.1))
+    subst (λ (t : Forest). Fits t × (count t ≤ 1000000000)) same (tree_fits read.0 (rows_accepted b bytes read.0 read.1))

@@ -5,10 +5,10 @@ use Rattle.std.proofs.lemmas.List.Folds.{flat_map-map}
 use Rattle.std.specs.Fmt.{decimal, signed_decimal}
 use Rattle.std.specs.List.{flat_map}
 use Rattle.std.specs.Prelude.{All, ℤ, pos, negsuc, Option, Some, None, Result, Ok, Err, suc}
-use Rattle.glass_base.specs.declared.params.Params.{Params}
+use Rattle.glass_base.specs.Problem.{Problem}
 use Rattle.cut_model.specs.declared.family.Row.{Row}
 use Rattle.csv_table.specs.Lines.{IsPlain, line_of, number_or_none}
-use Rattle.csv_table.specs.Rows.{rows_of}
+use Rattle.csv_table.specs.Rows.{table_rows}
 use Rattle.csv_table.proofs.DigitTexts.{digits_of_decimal, plain_digits}
 use Rattle.csv_table.proofs.PlainRows.{IsLine, no_mark, rows_of_lines}
 use Rattle.plan_csv.specs.PlanRows.{◌>>=◌}
@@ -54,27 +54,27 @@ text_lines : (rs : List Row) → header ++ rows_text rs ≡ flat_map line_of (he
 text_lines rs = ap (λ (rest : List ℕ). header ++ rest) (sym (flat_map-map line_of row_fields rs))
 
 -- what is written of rows is read as the names of the columns and their fields
-pub written_rows : (rs : List Row) → rows_of (header ++ rows_text rs) ≡ header_fields ∷ map row_fields rs
+pub written_rows : (rs : List Row) → table_rows (header ++ rows_text rs) ≡ header_fields ∷ map row_fields rs
 written_rows rs =
     let lines = All-cons IsLine header_fields (map row_fields rs) header_line (rows_are_lines rs) in
-    ap rows_of (text_lines rs) ∙ rows_of_lines (header_fields ∷ map row_fields rs) lines (no_mark 80 _ refl)
+    ap table_rows (text_lines rs) ∙ rows_of_lines (header_fields ∷ map row_fields rs) lines (no_mark 80 _ refl)
 
 -- what rows give that are read one behind the other, behind these: the first refusal decides
-abbrev pub rows_after : Params → ℕ → List Row → List Row → Result (List Row) BadPlan
-rows_after p row before [] = Ok before
-rows_after p row before (r ∷ rest) = or_refusal (before ++ r ∷ []) (row_refusal p row before r) >>= λ rows. rows_after p (row + 1) rows rest
+abbrev pub rows_after : Problem → ℕ → List Row → List Row → Result (List Row) BadPlan
+rows_after b row before [] = Ok before
+rows_after b row before (r ∷ rest) = or_refusal (before ++ r ∷ []) (row_refusal b row before r) >>= λ rows. rows_after b (row + 1) rows rest
 
 -- the fields of rows behind others give what the rows give
-pub fields_read : (p : Params) (row : ℕ) (before rs : List Row) → All IsRowInRange rs → rows_behind p row before (map row_fields rs) ≡ rows_after p row before rs
-fields_read p row before [] h = refl
-fields_read p row before (r ∷ rs) h =
-    rw (row_read row r (All-head IsRowInRange r rs h)) (by (or_refusal (before ++ r ∷ []) (row_refusal p row before r)) (λ rows. fields_read p (row + 1) rows rs (All-tail IsRowInRange r rs h)))
+pub fields_read : (b : Problem) (row : ℕ) (before rs : List Row) → All IsRowInRange rs → rows_behind b row before (map row_fields rs) ≡ rows_after b row before rs
+fields_read b row before [] h = refl
+fields_read b row before (r ∷ rs) h =
+    rw (row_read row r (All-head IsRowInRange r rs h)) (by (or_refusal (before ++ r ∷ []) (row_refusal b row before r)) (λ rows. fields_read b (row + 1) rows rs (All-tail IsRowInRange r rs h)))
   where
-    by : (said : Result (List Row) BadPlan) → ((rows : List Row) → rows_behind p (row + 1) rows (map row_fields rs) ≡ rows_after p (row + 1) rows rs)
-        → (said >>= λ rows. rows_behind p (row + 1) rows (map row_fields rs)) ≡ (said >>= λ rows. rows_after p (row + 1) rows rs)
+    by : (said : Result (List Row) BadPlan) → ((rows : List Row) → rows_behind b (row + 1) rows (map row_fields rs) ≡ rows_after b (row + 1) rows rs)
+        → (said >>= λ rows. rows_behind b (row + 1) rows (map row_fields rs)) ≡ (said >>= λ rows. rows_after b (row + 1) rows rs)
     by (Ok rows) more = more rows
     by (Err e) more = refl
 
 -- the text of rows gives what the rows give
-pub text_read : (p : Params) (rs : List Row) → All IsRowInRange rs → rows_behind p 2 [] (drop 1 (rows_of (header ++ rows_text rs))) ≡ rows_after p 2 [] rs
-text_read p rs h = rw (written_rows rs) (fields_read p 2 [] rs h)
+pub text_read : (b : Problem) (rs : List Row) → All IsRowInRange rs → rows_behind b 2 [] (drop 1 (table_rows (header ++ rows_text rs))) ≡ rows_after b 2 [] rs
+text_read b rs h = rw (written_rows rs) (fields_read b 2 [] rs h)

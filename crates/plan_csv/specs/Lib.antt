@@ -1,4 +1,4 @@
 pub mod Solutions
 pub mod PlanRows
 pub mod PlanTexts
-pub mod ReadNodes
+pub mod inner

@@ -1,21 +1,20 @@
 -- The plan that a solution text says, or its first refusal. Rows may have any node numbers that differ and come in any order in
 -- which each follows its parent; the children of a piece are taken in the order of the text.
-use Rattle.std.specs.Prelude.{◌≡◌, ◌≤◌, All, ◌==◌, ◌||◌, ◌&&◌, not, ◌+◌, ℕ, zero, suc, ℤ, pos, negsuc, List, [], ◌∷◌, ◌++◌, length, drop, find, nat_le, Bool, true, false, if◌then◌else◌, Option, Some, None, Result, Ok, Err}
+use Rattle.std.specs.Prelude.{◌≡◌, ◌≤◌, All, ◌==◌, ◌||◌, ◌&&◌, not, ◌+◌, ℕ, zero, suc, ℤ, List, [], ◌∷◌, ◌++◌, length, drop, find, nat_le, Bool, true, false, if◌then◌else◌, Option, Some, None, Result, Ok, Err}
 use Rattle.std.specs.List.{list_any}
 use Rattle.std.specs.Option.{option_or}
-use Rattle.glass_base.specs.declared.params.Params.{Params}
 use Rattle.glass_base.specs.Plates.{Width}
+use Rattle.glass_base.specs.Problem.{Problem}
 use Rattle.cut_model.specs.declared.family.Along.{Along}
 use Rattle.cut_model.specs.declared.family.Row.{Row}
-use Rattle.cut_model.specs.declared.family.Sort.{Sort}
 use Rattle.cut_model.specs.declared.plan.Plan.{Plan}
-use Rattle.cut_model.specs.Families.{side_along, rows_of as rows_of_plan}
+use Rattle.cut_model.specs.Families.{side_along, rows_of}
 use Rattle.cut_model.specs.Fits.{Fits}
 use Rattle.cut_model.specs.Lawful.{plate_rows}
 use Rattle.cut_model.specs.Loss.{names_residual}
 use Rattle.cut_model.specs.Parents.{rows_in, sum_along}
-use Rattle.cut_model.specs.Tree.{Forest, nothing, neighbours, tree, count}
-use Rattle.csv_table.specs.Rows.{rows_of}
+use Rattle.cut_model.specs.Tree.{Forest, nothing, neighbours, tree, count, is_branch, sort_named}
+use Rattle.csv_table.specs.Rows.{table_rows}
 use Rattle.plan_csv.specs.declared.bad_plan.BadPlan.{BadPlan}
 use Rattle.plan_csv.specs.declared.bad_plan.BadPlan.TheVariants as bad
 use Rattle.plan_csv.specs.PlanRows.{◌>>=◌, row_in}
@@ -40,21 +39,18 @@ lies (suc (suc (suc (suc _)))) = Along.Y
 
 -- whether a type is that of a plate or a piece that is cut
 abbrev pub names_branch : ℤ → Bool
-names_branch (pos _) = false
-names_branch (negsuc zero) = false
-names_branch (negsuc (suc zero)) = true
-names_branch (negsuc (suc (suc _))) = false
+names_branch kind = is_branch (sort_named kind)
 
 -- why a plate is refused behind these rows
-abbrev pub plate_refusal : Params → ℕ → List Row → Row → Option BadPlan
-plate_refusal p row before r =
+abbrev pub plate_refusal : Problem → ℕ → List Row → Row → Option BadPlan
+plate_refusal b row before r =
     first_refusal (
     unless (r.plate == length (plate_rows before)) (bad.Level row 0)
     ∷ unless (names_branch r.kind) (bad.Kind row)
     ∷ unless (r.x == 0) (bad.Size row 3)
     ∷ unless (r.y == 0) (bad.Size row 4)
-    ∷ unless (r.width == Width p r.plate) (bad.Size row 5)
-    ∷ unless (r.height == p.height) (bad.Size row 6)
+    ∷ unless (r.width == Width b r.plate) (bad.Size row 5)
+    ∷ unless (r.height == b.params.height) (bad.Size row 6)
     ∷ [])
 
 -- why the sides of a piece are refused, by how it lies: the parent fixes three of X, Y, WIDTH and HEIGHT, the pieces before it one
@@ -98,15 +94,15 @@ child_refusal row before r None = Some (bad.Parent row)
 child_refusal row before r (Some e) = piece_refusal row (filled_by r.cut before e.node) e r
 
 -- why a row is refused behind these rows, by its level and its parent
-abbrev pub place_refusal : Params → ℕ → List Row → Row → ℕ → Option ℕ → Option BadPlan
-place_refusal p row before r zero None = plate_refusal p row before r
-place_refusal p row before r zero (Some _) = Some (bad.Parent row)
-place_refusal p row before r (suc _) None = Some (bad.Parent row)
-place_refusal p row before r (suc _) (Some parent) = child_refusal row before r (find (λ e. e.node == parent) before)
+abbrev pub place_refusal : Problem → ℕ → List Row → Row → ℕ → Option ℕ → Option BadPlan
+place_refusal b row before r zero None = plate_refusal b row before r
+place_refusal b row before r zero (Some _) = Some (bad.Parent row)
+place_refusal b row before r (suc _) None = Some (bad.Parent row)
+place_refusal b row before r (suc _) (Some parent) = child_refusal row before r (find (λ e. e.node == parent) before)
 
-abbrev pub row_refusal : Params → ℕ → List Row → Row → Option BadPlan
-row_refusal p row before r =
-    if list_any (λ e. e.node == r.node) before then Some (bad.Parent row) else place_refusal p row before r r.cut r.parent
+abbrev pub row_refusal : Problem → ℕ → List Row → Row → Option BadPlan
+row_refusal b row before r =
+    if list_any (λ e. e.node == r.node) before then Some (bad.Parent row) else place_refusal b row before r r.cut r.parent
 
 -- nothing is refused
 abbrev pub or_refusal : {A : Type 0} → A → Option BadPlan → Result A BadPlan
@@ -114,10 +110,10 @@ or_refusal x None = Ok x
 or_refusal x (Some refusal) = Err refusal
 
 -- rows behind these: the first refusal decides
-abbrev pub rows_behind : Params → ℕ → List Row → List (List (List ℕ)) → Result (List Row) BadPlan
-rows_behind p row before [] = Ok before
-rows_behind p row before (fields ∷ rest) =
-    row_in row fields >>= λ r. or_refusal (before ++ r ∷ []) (row_refusal p row before r) >>= λ rows. rows_behind p (row + 1) rows rest
+abbrev pub rows_behind : Problem → ℕ → List Row → List (List (List ℕ)) → Result (List Row) BadPlan
+rows_behind b row before [] = Ok before
+rows_behind b row before (fields ∷ rest) =
+    row_in row fields >>= λ r. or_refusal (before ++ r ∷ []) (row_refusal b row before r) >>= λ rows. rows_behind b (row + 1) rows rest
 
 -- why one of these rows is refused once all are read: a piece of a 3-cut that is cut has two children
 abbrev pub cell_refusal : List Row → ℕ → List Row → Option BadPlan
@@ -127,15 +123,8 @@ cell_refusal rows row (r ∷ later) =
     (cell_refusal rows (row + 1) later)
 
 -- the rows of a text, the first record being skipped
-abbrev pub rows_said : Params → List ℕ → Result (List Row) BadPlan
-rows_said p bytes = rows_behind p 2 [] (drop 1 (rows_of bytes)) >>= λ rows. or_refusal rows (cell_refusal rows 2 rows)
-
--- what a type names
-abbrev pub sort_named : ℤ → Sort
-sort_named (pos number) = Sort.Item number
-sort_named (negsuc zero) = Sort.Waste
-sort_named (negsuc (suc zero)) = Sort.Branch
-sort_named (negsuc (suc (suc _))) = Sort.Residual
+abbrev pub rows_said : Problem → List ℕ → Result (List Row) BadPlan
+rows_said b bytes = rows_behind b 2 [] (drop 1 (table_rows bytes)) >>= λ rows. or_refusal rows (cell_refusal rows 2 rows)
 
 -- the pieces of these rows, with what is cut from them among all rows, down to this depth
 abbrev pub grown : ℕ → List Row → List Row → Forest
@@ -147,8 +136,8 @@ abbrev pub tree_of : List Row → Forest
 tree_of rows = grown 4 rows (plate_rows rows)
 
 -- the tree of the plan that a text says
-abbrev pub plan_said : Params → List ℕ → Result Forest BadPlan
-plan_said p bytes = rows_said p bytes >>= λ rows. Ok (tree_of rows)
+abbrev pub plan_said : Problem → List ℕ → Result Forest BadPlan
+plan_said b bytes = rows_said b bytes >>= λ rows. Ok (tree_of rows)
 
 -- a plan was read exactly where the text says one, and it is this one; a text was refused exactly where and why its first refusal
 -- says; memory may run out at any time
@@ -167,7 +156,7 @@ abbrev pub IsWithin : Row → Type 0
 IsWithin r = (r.x ≤ 20000) × (r.y ≤ 20000)
 
 -- a plan whose text can be read again
-pub record IsWritable (p : Params) (plan : Forest) : Type 0 where
+pub record IsWritable (b : Problem) (plan : Forest) : Type 0 where
   pub fits : Fits plan
-  pub within : All IsWithin (rows_of_plan p plan)
+  pub within : All IsWithin (rows_of b plan)
   pub few : count plan ≤ 1000000000

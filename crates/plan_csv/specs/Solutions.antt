@@ -2,7 +2,7 @@
 use Rattle.std.specs.Prelude.{ℕ, List, [], ◌∷◌, ◌++◌, codes}
 use Rattle.std.specs.Fmt.{decimal, signed_decimal}
 use Rattle.std.specs.List.{flat_map}
-use Rattle.glass_base.specs.declared.params.Params.{Params}
+use Rattle.glass_base.specs.Problem.{Problem}
 use Rattle.cut_model.specs.Tree.{Forest}
 use Rattle.cut_model.specs.declared.family.Row.{Row}
 use Rattle.cut_model.specs.Families.{rows_of}
@@ -34,5 +34,5 @@ abbrev pub rows_text : List Row → List ℕ
 rows_text rows = flat_map row_line rows
 
 -- the names of the columns and the lines of the plan's rows
-abbrev pub solution_text : Params → Forest → List ℕ
-solution_text params plan = header ++ rows_text (rows_of params plan)
+abbrev pub solution_text : Problem → Forest → List ℕ
+solution_text b plan = header ++ rows_text (rows_of b plan)

@@ -3,12 +3,12 @@
 ghost use Rattle.std.specs.Prelude.{◌≡◌};
 ghost use Rattle.cut_model.specs.Loss.{names_residual};
 ghost use Rattle.plan_csv.specs.PlanTexts.{child_refusal as child_refusal_of, names_branch, piece_refusal as piece_refusal_of, place_refusal as place_refusal_of, plate_refusal as plate_refusal_of, row_refusal, side_refusal as side_refusal_of, lies as lies_of};
-ghost use Rattle.plan_csv.specs.ReadNodes.{AreNodes, row_with};
+ghost use Rattle.plan_csv.specs.inner.ReadNodes.{AreNodes, row_with};
 
 use crate::bad_plan::BadPlan;
 use crate::nodes::Nodes;
-use cut_model::{Along, Row};
-use glass_base::{Params, plate_width};
+use cut_model::{Along, Row, Sort};
+use glass_base::Instance;
 
 /// The greatest size of a piece and of the pieces that are cut from it, in mm.
 const SIDE_LIMIT: u64 = 20_000;
@@ -17,20 +17,14 @@ const SIDE_LIMIT: u64 = 20_000;
 pub fn is_branch(kind: i64) -> bool
     ensures { result ≡ names_branch kind }
 {
-    match kind {
-        -2 => true,
-        _ => false,
-    }
+    kind == Sort::Branch.kind()
 }
 
 /// Whether a type is that of the residual.
 fn is_residual(kind: i64) -> bool
     ensures { result ≡ names_residual kind }
 {
-    match kind {
-        -3 => true,
-        _ => false,
-    }
+    kind == Sort::Residual.kind()
 }
 
 /// How the pieces that a cut of this level makes lie.
@@ -47,9 +41,9 @@ fn lies(cut: u32) -> Along
 }
 
 /// Why a plate is refused.
-fn plate_refusal(params: &Params, row: u64, nodes: &Nodes, r: &Row) -> Option<BadPlan>
+fn plate_refusal(instance: &Instance, row: u64, nodes: &Nodes, r: &Row) -> Option<BadPlan>
     requires { AreNodes nodes.now }
-    ensures { result ≡ plate_refusal_of params.now row nodes.now.rows.items r.now }
+    ensures { result ≡ plate_refusal_of instance.now row nodes.now.rows.items r.now }
 {
     if u64::from(r.plate) != nodes.plates.len() as u64 {
         return Some(BadPlan::Level(row, 0));
@@ -63,10 +57,10 @@ fn plate_refusal(params: &Params, row: u64, nodes: &Nodes, r: &Row) -> Option<Ba
     if r.y != 0 {
         return Some(BadPlan::Size(row, 4));
     }
-    if r.width != plate_width(params, r.plate) {
+    if r.width != instance.width(r.plate) {
         return Some(BadPlan::Size(row, 5));
     }
-    if r.height != params.height {
+    if r.height != instance.params().height {
         return Some(BadPlan::Size(row, 6));
     }
     None
@@ -155,13 +149,13 @@ fn child_refusal(row: u64, nodes: &Nodes, r: &Row, parent: u64) -> Option<BadPla
 }
 
 /// Why a row is refused, by its level and its parent.
-fn place_refusal(params: &Params, row: u64, nodes: &Nodes, r: &Row) -> Option<BadPlan>
+fn place_refusal(instance: &Instance, row: u64, nodes: &Nodes, r: &Row) -> Option<BadPlan>
     requires { AreNodes nodes.now }
-    ensures { result ≡ place_refusal_of params.now row nodes.now.rows.items r.now r.now.cut r.now.parent }
+    ensures { result ≡ place_refusal_of instance.now row nodes.now.rows.items r.now r.now.cut r.now.parent }
 {
     match r.cut {
         0 => match r.parent {
-            None => plate_refusal(params, row, nodes, r),
+            None => plate_refusal(instance, row, nodes, r),
             Some(_) => Some(BadPlan::Parent(row)),
         },
         _ => match r.parent {
@@ -172,13 +166,13 @@ fn place_refusal(params: &Params, row: u64, nodes: &Nodes, r: &Row) -> Option<Ba
 }
 
 /// Why a row is refused, if it is.
-pub fn refusal(params: &Params, row: u64, nodes: &Nodes, r: &Row) -> Option<BadPlan>
+pub fn refusal(instance: &Instance, row: u64, nodes: &Nodes, r: &Row) -> Option<BadPlan>
     requires { AreNodes nodes.now }
-    ensures { result ≡ row_refusal params.now row nodes.now.rows.items r.now }
+    ensures { result ≡ row_refusal instance.now row nodes.now.rows.items r.now }
 {
     if nodes.named.contains_key(&r.node) {
         Some(BadPlan::Parent(row))
     } else {
-        place_refusal(params, row, nodes, r)
+        place_refusal(instance, row, nodes, r)
     }
 }

@@ -3,7 +3,7 @@
 ghost use Rattle.std.specs.Prelude.{◌≡◌, ◌<◌, ◌-◌, IfOk, IfSome};
 ghost use Rattle.csv.specs.Records.{field_at, fields_of};
 ghost use Rattle.plan_csv.specs.PlanRows.{item_type as item_type_of, number_in, parent_in, row_in, signed_type as signed_type_of, type_in, type_text, whole_text};
-ghost use Rattle.plan_csv.specs.ReadNodes.{IsRowType};
+ghost use Rattle.cut_model.specs.Tree.{IsRowType};
 
 use crate::bad_plan::BadPlan;
 use csv::ByteRecord;

@@ -2,9 +2,9 @@
 
 ghost use Rattle.std.specs.Prelude.{◌≡◌, ◌+◌, true, All, IfOk, Some};
 ghost use Rattle.cut_model.specs.Parents.{rows_in};
-ghost use Rattle.cut_model.specs.Tree.{bands as bands_tree, cells as cells_tree, inner1, inner2, inner3, plates_of as plates_tree, sort1, sort2, sort3, sort4, strips as strips_tree, tree};
-ghost use Rattle.plan_csv.specs.PlanTexts.{grown, names_branch, sort_named, tree_of};
-ghost use Rattle.plan_csv.specs.ReadNodes.{AreNodes, HaveTwo, IsGrown, IsLeaf, IsPiece, IsRoot, IsRowType, below, row_with};
+ghost use Rattle.cut_model.specs.Tree.{bands as bands_tree, cells as cells_tree, inner1, inner2, inner3, plates_of as plates_tree, sort1, sort2, sort3, sort4, strips as strips_tree, tree, sort_named, IsRowType};
+ghost use Rattle.plan_csv.specs.PlanTexts.{grown, names_branch, tree_of};
+ghost use Rattle.plan_csv.specs.inner.ReadNodes.{AreNodes, HaveTwo, IsGrown, IsLeaf, IsPiece, IsRoot, below, row_with};
 
 use crate::nodes::Nodes;
 use cut_model::{
@@ -12,19 +12,6 @@ use cut_model::{
 };
 use glass_base::{Memory, Run, append};
 use std::alloc::Global;
-
-/// What the type of a row names.
-fn sort_of(row: &Row) -> Sort
-    requires { IsRowType row.now.kind }
-    ensures { result ≡ sort_named row.now.kind }
-{
-    match row.kind {
-        -1 => Sort::Waste,
-        -2 => Sort::Branch,
-        -3 => Sort::Residual,
-        kind => Sort::Item(kind as u32),
-    }
-}
 
 /// The children of a row.
 fn children_of<'a>(nodes: &'a Nodes, row: &Row) -> &'a [Row]
@@ -45,7 +32,7 @@ fn leaf_of(row: &Row) -> Leaf4
     ensures size { result.height ≡ row.now.height }
     ensures sort { sort4 result.body ≡ sort_named row.now.kind }
 {
-    let body = match sort_of(row) {
+    let body = match row.sort() {
         Sort::Item(number) => Body4::Item(number),
         Sort::Waste => Body4::Waste,
         Sort::Branch => unreachable!(),
@@ -78,7 +65,7 @@ fn cell_body(nodes: &Nodes, row: &Row) -> Body3
     ensures sort { sort3 result ≡ sort_named row.now.kind }
     ensures inner { inner3 result ≡ below 1 nodes.now.rows.items row.now }
 {
-    match sort_of(row) {
+    match row.sort() {
         Sort::Item(number) => Body3::Item(number),
         Sort::Waste => Body3::Waste,
         Sort::Branch => two_leaves(nodes, row),
@@ -121,7 +108,7 @@ fn band_body(alloc: Global, nodes: &Nodes, row: &Row) -> Result<Body2, Memory>
     ensures sort { IfOk result (λ body. sort2 body ≡ sort_named row.now.kind) }
     ensures inner { IfOk result (λ body. inner2 body ≡ below 2 nodes.now.rows.items row.now) }
 {
-    match sort_of(row) {
+    match row.sort() {
         Sort::Item(number) => Ok(Body2::Item(number)),
         Sort::Waste => Ok(Body2::Waste),
         Sort::Branch => Ok(Body2::Cut(cells_of(alloc, nodes, children_of(nodes, row))?)),
@@ -165,7 +152,7 @@ fn strip_body(alloc: Global, nodes: &Nodes, row: &Row) -> Result<Body1, Memory>
     ensures sort { IfOk result (λ body. sort1 body ≡ sort_named row.now.kind) }
     ensures inner { IfOk result (λ body. inner1 body ≡ below 3 nodes.now.rows.items row.now) }
 {
-    match sort_of(row) {
+    match row.sort() {
         Sort::Item(number) => Ok(Body1::Item(number)),
         Sort::Waste => Ok(Body1::Waste),
         Sort::Residual => Ok(Body1::Residual),

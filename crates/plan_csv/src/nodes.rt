@@ -3,7 +3,7 @@
 ghost use Rattle.std.specs.Prelude.{◌≡◌, ◌+◌, ◌≤◌, ◌++◌, [], ◌∷◌, OnOk};
 ghost use Rattle.std.specs.BTreeMap.{get};
 ghost use Rattle.std.specs.Ordering.{nat_cmp};
-ghost use Rattle.plan_csv.specs.ReadNodes.{AreNodes, HasGained, HasNewChild, HasRoom, IsAllowed, IsAttached, side_filled};
+ghost use Rattle.plan_csv.specs.inner.ReadNodes.{AreNodes, HasGained, HasNewChild, HasSpace, MayFollow, IsAttached, side_filled};
 
 use cut_model::Row;
 use glass_base::{Memory, Run, append};
@@ -52,14 +52,14 @@ fn add(node: &mut Node, row: &Row) -> Result<(), Memory>
     Ok(())
 }
 
-/// Adds a child to the node of this number.
+/// Adds a child to the node of this number, which is kept and has room for it.
 fn add_child(named: &mut BTreeMap<u64, Node>, parent: u64, row: &Row) -> Result<(), Memory>
-    requires { HasRoom row.now (get nat_cmp named.old parent) }
+    requires { HasSpace row.now (get nat_cmp named.old parent) }
     ensures { OnOk result (HasNewChild row.now parent (get nat_cmp named.old) (get nat_cmp named.new)) }
 {
     match named.get_mut(&parent) {
         Some(node) => add(node, row),
-        None => Ok(()),
+        None => unreachable!(),
     }
 }
 
@@ -79,7 +79,7 @@ impl Nodes {
     /// Puts a row among the plates, or among the children of its parent.
     fn attach(&mut self, row: &Row) -> Result<(), Memory>
         requires nodes { AreNodes self.old }
-        requires allowed { IsAllowed self.old.rows.items row.now }
+        requires allowed { MayFollow self.old.rows.items row.now }
         ensures rows { OnOk result (self.new.rows.items ≡ self.old.rows.items) }
         ensures attached { OnOk result (IsAttached row.now row.now.parent self.old self.new) }
     {
@@ -92,7 +92,7 @@ impl Nodes {
     /// Adds a row.
     pub fn push(&mut self, alloc: Global, row: &Row) -> Result<(), Memory>
         requires nodes { AreNodes self.old }
-        requires allowed { IsAllowed self.old.rows.items row.now }
+        requires allowed { MayFollow self.old.rows.items row.now }
         ensures rows { OnOk result (self.new.rows.items ≡ self.old.rows.items ++ row.now ∷ []) }
         ensures nodes { OnOk result (AreNodes self.new) }
     {

@@ -2,12 +2,12 @@
 
 ghost use Rattle.std.specs.Prelude.{◌≡◌, ◌≤◌, ◌==◌, ◌&&◌, ◌||◌, not, [], drop, length, IfOk, MatchResult};
 ghost use Rattle.csv.specs.Records.{fields_of};
-ghost use Rattle.csv_table.specs.Rows.{rows_of};
+ghost use Rattle.csv_table.specs.Rows.{table_rows};
 ghost use Rattle.cut_model.specs.Fits.{Fits};
 ghost use Rattle.cut_model.specs.Parents.{rows_in};
 ghost use Rattle.cut_model.specs.Tree.{count, tree};
 ghost use Rattle.plan_csv.specs.PlanTexts.{Reads, cell_refusal, names_branch, plan_said, rows_behind, rows_said};
-ghost use Rattle.plan_csv.specs.ReadNodes.{AreNodes, HasRead, HaveTwo, Refused, rows_with};
+ghost use Rattle.plan_csv.specs.inner.ReadNodes.{AreNodes, HasRead, HaveTwo, Refused, rows_with};
 
 use crate::bad_plan::BadPlan;
 use crate::checks::{is_branch, refusal};
@@ -17,22 +17,22 @@ use crate::nodes::Nodes;
 use csv::ByteRecord;
 use csv_table::Rows;
 use cut_model::{Plan, Row};
-use glass_base::Params;
+use glass_base::Instance;
 use std::alloc::Global;
 
 /// Reads one row.
 fn read_row(
     alloc: Global,
-    params: &Params,
+    instance: &Instance,
     nodes: &mut Nodes,
     row: u64,
     fields: &ByteRecord,
 ) -> Result<(), BadPlan>
     requires { AreNodes nodes.old }
-    ensures { MatchResult result (λ _. HasRead (rows_with params.now row nodes.old.rows.items (fields_of fields.now)) nodes.new) (λ e. Refused e (rows_with params.now row nodes.old.rows.items (fields_of fields.now))) }
+    ensures { MatchResult result (λ _. HasRead (rows_with instance.now row nodes.old.rows.items (fields_of fields.now)) nodes.new) (λ e. Refused e (rows_with instance.now row nodes.old.rows.items (fields_of fields.now))) }
 {
     let r = row_of(row, fields)?;
-    match refusal(params, row, nodes, &r) {
+    match refusal(instance, row, nodes, &r) {
         Some(refused) => Err(refused),
         None => {
             nodes.push(alloc, &r)?;
@@ -42,8 +42,8 @@ fn read_row(
 }
 
 /// Reads all rows.
-fn read_rows(alloc: Global, params: &Params, bytes: &[u8]) -> Result<Nodes, BadPlan>
-    ensures { MatchResult result (HasRead (rows_behind params.now 2 [] (drop 1 (rows_of bytes.now)))) (λ e. Refused e (rows_behind params.now 2 [] (drop 1 (rows_of bytes.now)))) }
+fn read_rows(alloc: Global, instance: &Instance, bytes: &[u8]) -> Result<Nodes, BadPlan>
+    ensures { MatchResult result (HasRead (rows_behind instance.now 2 [] (drop 1 (table_rows bytes.now)))) (λ e. Refused e (rows_behind instance.now 2 [] (drop 1 (table_rows bytes.now)))) }
 {
     let mut rows = Rows::new(alloc, bytes);
     let mut nodes = Nodes::new(alloc);
@@ -51,7 +51,7 @@ fn read_rows(alloc: Global, params: &Params, bytes: &[u8]) -> Result<Nodes, BadP
     rows.next_row()?;
     'rows: while let Some(fields) = rows.next_row()? {
         row += 1;
-        read_row(alloc, params, &mut nodes, row, &fields)?;
+        read_row(alloc, instance, &mut nodes, row, &fields)?;
     }
     Ok(nodes)
 }
@@ -89,11 +89,11 @@ fn refused_cell(nodes: &Nodes) -> Option<BadPlan>
 }
 
 /// Reads the rows of a plan.
-fn read_nodes(alloc: Global, params: &Params, bytes: &[u8]) -> Result<Nodes, BadPlan>
-    ensures said { MatchResult result (HasRead (rows_said params.now bytes.now)) (λ e. Refused e (rows_said params.now bytes.now)) }
+fn read_nodes(alloc: Global, instance: &Instance, bytes: &[u8]) -> Result<Nodes, BadPlan>
+    ensures said { MatchResult result (HasRead (rows_said instance.now bytes.now)) (λ e. Refused e (rows_said instance.now bytes.now)) }
     ensures cells { IfOk result (λ nodes. HaveTwo nodes.rows.items) }
 {
-    let nodes = read_rows(alloc, params, bytes)?;
+    let nodes = read_rows(alloc, instance, bytes)?;
     match refused_cell(&nodes) {
         Some(refused) => Err(refused),
         None => Ok(nodes),
@@ -101,11 +101,11 @@ fn read_nodes(alloc: Global, params: &Params, bytes: &[u8]) -> Result<Nodes, Bad
 }
 
 /// The plan that a solution text says, or the first refusal.
-pub fn read_plan(alloc: Global, params: &Params, bytes: &[u8]) -> Result<Plan, BadPlan>
-    ensures plan { Reads result (plan_said params.now bytes.now) }
+pub fn read_plan(alloc: Global, instance: &Instance, bytes: &[u8]) -> Result<Plan, BadPlan>
+    ensures plan { Reads result (plan_said instance.now bytes.now) }
     ensures fits { IfOk result (λ plan. Fits (tree plan)) }
     ensures few { IfOk result (λ plan. count (tree plan) ≤ 1000000000) }
 {
-    let nodes = read_nodes(alloc, params, bytes)?;
+    let nodes = read_nodes(alloc, instance, bytes)?;
     Ok(plan_of(alloc, &nodes)?)
 }

@@ -7,13 +7,13 @@ ghost use Rattle.plan_csv.specs.Solutions.{header, row_line, rows_text, solution
 
 use csv_table::{Lines, optional, signed, unsigned};
 use cut_model::{Family, Plan, Row, Visitor, walk};
-use glass_base::{Memory, Params, Run};
+use glass_base::{Instance, Memory, Run};
 use itoa::Buffer;
 use std::alloc::Global;
 
 /// Writes the names of the columns.
 fn write_header(lines: &mut Lines) -> Result<(), Memory>
-    ensures { OnOk result (lines.new ≡ lines.old ++ header) }
+    ensures { OnOk result (lines.new.text ≡ lines.old.text ++ header) }
 {
     lines.write_line(&[
         b"PLATE_ID".as_slice(),
@@ -30,7 +30,7 @@ fn write_header(lines: &mut Lines) -> Result<(), Memory>
 
 /// Writes the line of a row.
 fn write_row(lines: &mut Lines, row: &Row) -> Result<(), Memory>
-    ensures { OnOk result (lines.new ≡ lines.old ++ row_line row.now) }
+    ensures { OnOk result (lines.new.text ≡ lines.old.text ++ row_line row.now) }
 {
     let mut plate = Buffer::new();
     let mut node = Buffer::new();
@@ -64,7 +64,7 @@ struct Solution {
 impl Visitor for Solution {
     type Stop = Memory;
 
-    ghost has_seen = { λ start now seen. now.lines ≡ start.lines ++ rows_text (map (λ f. f.row) seen) };
+    ghost has_seen = { λ start now seen. now.lines.text ≡ start.lines.text ++ rows_text (map (λ f. f.row) seen) };
 
     fn visit(&mut self, family: &Family) -> Result<(), Memory> {
         write_row(&mut self.lines, &family.row)
@@ -73,13 +73,13 @@ impl Visitor for Solution {
 
 /// The solution text of a plan: a line with the names of the columns, and one for each plate and piece in order of node
 /// number. It fails only where memory runs out.
-pub fn write_plan(alloc: Global, params: &Params, plan: &Plan) -> Result<Run<u8>, Memory>
+pub fn write_plan(alloc: Global, instance: &Instance, plan: &Plan) -> Result<Run<u8>, Memory>
     requires { Fits (tree plan.now) }
-    ensures { IfOk result (λ text. text.items ≡ solution_text params.now (tree plan.now)) }
+    ensures { IfOk result (λ text. text.items ≡ solution_text instance.now (tree plan.now)) }
 {
     let mut lines = Lines::new(alloc);
     write_header(&mut lines)?;
     let mut solution = Solution { lines };
-    walk(&mut solution, params, plan)?;
+    walk(&mut solution, instance, plan)?;
     solution.lines.into_text()
 }

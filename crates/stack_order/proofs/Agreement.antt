@@ -14,7 +14,7 @@ use Rattle.cut_model.specs.Order.{cut_order, item_named, item_with, items_cut, K
 use Rattle.cut_model.proofs.Firsts.{first_not_all}
 use Rattle.stack_order.specs.declared.cuts.Cut.{Cut}
 use Rattle.stack_order.specs.Cuts.{cuts_of, AreCuts}
-use Rattle.stack_order.specs.Breaches.{numbers, numbers_cut, items_of, HasItem, Keeps, order_rules, IsBreach}
+use Rattle.stack_order.specs.Breaches.{numbers, numbers_cut, items_of, HasItem, KeepsOrderRule, order_rules, IsBreach}
 use Rattle.stack_order.proofs.Searches.{find_some, find_is_some, any_cases, any_first, any_later, any_none, any_from_contained, all_unmap, pairs_unmap}
 use Rattle.stack_order.proofs.Answered.{all_kept}
 
@@ -109,7 +109,7 @@ items_from_numbers items cuts are known k d lt =
     (found_from_known items (get_or cuts k d).number (all_unmap (Contains (numbers items)) (λ (c : Cut). c.number) cuts known k d lt))
 
 -- a plan whose cuts keep each rule keeps them by its rows
-rows_from_cuts : (b : Problem) (rows : List Row) → All (Keeps b (cuts_of b.items rows) (plate_rows rows)) order_rules → KeepsOrderRules b rows
+rows_from_cuts : (b : Problem) (rows : List Row) → All (KeepsOrderRule b (cuts_of b.items rows) (plate_rows rows)) order_rules → KeepsOrderRules b rows
 rows_from_cuts b rows kept =
     let cuts : List Cut = cuts_of b.items rows in
     record {
@@ -124,7 +124,7 @@ rows_from_cuts b rows kept =
     }
 
 -- a plan that keeps the rules by its rows keeps each of them by its cuts
-cuts_from_rows : (b : Problem) (rows : List Row) → KeepsOrderRules b rows → All (Keeps b (cuts_of b.items rows) (plate_rows rows)) order_rules
+cuts_from_rows : (b : Problem) (rows : List Row) → KeepsOrderRules b rows → All (KeepsOrderRule b (cuts_of b.items rows) (plate_rows rows)) order_rules
 cuts_from_rows b rows lawful =
     let cuts : List Cut = cuts_of b.items rows in
     let same = numbers_agree b.items rows in
@@ -153,7 +153,7 @@ breach_unlawful b rows cuts plates broken are h lawful =
     first_not_all order_rules broken.rule breach.rule (cuts_from_rows b rows lawful)
 
 -- a plan without one keeps them
-pub kept_lawful : (b : Problem) (rows : List Row) (cuts : List Cut) (plates : List Row) → AreGathered b rows cuts plates → All (Keeps b cuts plates) order_rules → KeepsOrderRules b rows
+pub kept_lawful : (b : Problem) (rows : List Row) (cuts : List Cut) (plates : List Row) → AreGathered b rows cuts plates → All (KeepsOrderRule b cuts plates) order_rules → KeepsOrderRules b rows
 kept_lawful b rows cuts plates are kept =
     rows_from_cuts b rows
-    (subst (λ (ps : List Row). All (Keeps b (cuts_of b.items rows) ps) order_rules) are.plates_are (subst (λ (cs : List Cut). All (Keeps b cs plates) order_rules) are.cuts_are kept))
+    (subst (λ (ps : List Row). All (KeepsOrderRule b (cuts_of b.items rows) ps) order_rules) are.plates_are (subst (λ (cs : List Cut). All (KeepsOrderRule b cs plates) order_rules) are.cuts_are kept))

@@ -28,14 +28,14 @@ abbrev pub HasItem : List Cut → Row → Type 0
 HasItem cuts plate = Any (λ c. c.plate ≡ plate.plate) cuts
 
 -- one of the rules L9 and L10; the others are judged at each piece
-abbrev pub Keeps : Problem → List Cut → List Row → Rule → Type 0
-Keeps b cuts plates Rule.L9Unknown = All (λ c. IsSome c.item) cuts
-Keeps b cuts plates Rule.L9Twice = AllPairs (λ a c. a.number ≢ c.number) cuts
-Keeps b cuts plates Rule.L9Missing = All (Contains (numbers_cut cuts)) (numbers b.items)
-Keeps b cuts plates Rule.L9EmptyPlate = All (HasItem cuts) plates
-Keeps b cuts plates Rule.L9Plates = length plates ≤ b.params.plates
-Keeps b cuts plates Rule.L10 = KeepsStacks (items_of cuts)
-Keeps b cuts plates _ = Unit {0}
+abbrev pub KeepsOrderRule : Problem → List Cut → List Row → Rule → Type 0
+KeepsOrderRule b cuts plates Rule.L9Unknown = All (λ c. IsSome c.item) cuts
+KeepsOrderRule b cuts plates Rule.L9Twice = AllPairs (λ a c. a.number ≢ c.number) cuts
+KeepsOrderRule b cuts plates Rule.L9Missing = All (Contains (numbers_cut cuts)) (numbers b.items)
+KeepsOrderRule b cuts plates Rule.L9EmptyPlate = All (HasItem cuts) plates
+KeepsOrderRule b cuts plates Rule.L9Plates = length plates ≤ b.params.plates
+KeepsOrderRule b cuts plates Rule.L10 = KeepsStacks (items_of cuts)
+KeepsOrderRule b cuts plates _ = Unit {0}
 
 -- these rules, in the order in which they are judged
 abbrev pub order_rules : List Rule
@@ -106,5 +106,5 @@ Names b cuts plates _ broken = ⊥
 
 -- the first of the rules that is broken, its place and its two numbers
 pub record IsBreach (b : Problem) (cuts : List Cut) (plates : List Row) (broken : Broken) : Type 0 where
-  pub rule : IsFirstWithout (Keeps b cuts plates) order_rules broken.rule
+  pub rule : IsFirstWithout (KeepsOrderRule b cuts plates) order_rules broken.rule
   pub named : Names b cuts plates broken.rule broken

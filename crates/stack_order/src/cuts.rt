@@ -69,15 +69,15 @@ pub struct Gathered {
 /// What a plan cuts. It fails only where memory runs out.
 pub fn gather(alloc: Global, instance: &Instance, plan: &Plan) -> Result<Gathered, Memory>
     requires { Fits (tree plan.now) }
-    ensures cuts { let b = instance.now in IfOk result (λ g. g.cuts.items ≡ cuts_of b.items (rows_of b.params (tree plan.now))) }
-    ensures plates { let b = instance.now in IfOk result (λ g. g.plates.items ≡ plate_rows (rows_of b.params (tree plan.now))) }
+    ensures cuts { let b = instance.now in IfOk result (λ g. g.cuts.items ≡ cuts_of b.items (rows_of b (tree plan.now))) }
+    ensures plates { let b = instance.now in IfOk result (λ g. g.plates.items ≡ plate_rows (rows_of b (tree plan.now))) }
 {
     let mut gathering = Gathering {
         items: instance.items(),
         cuts: Run::new(alloc),
         plates: Run::new(alloc),
     };
-    walk(&mut gathering, instance.params(), plan)?;
+    walk(&mut gathering, instance, plan)?;
     let Gathering { cuts, plates, .. } = gathering;
     Ok(Gathered { cuts, plates })
 }

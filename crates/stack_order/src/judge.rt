@@ -5,7 +5,7 @@ ghost use Rattle.cut_model.specs.Families.{rows_of};
 ghost use Rattle.cut_model.specs.Fits.{Fits};
 ghost use Rattle.cut_model.specs.Lawful.{KeepsOrderRules, plate_rows};
 ghost use Rattle.cut_model.specs.Tree.{tree};
-ghost use Rattle.stack_order.specs.Breaches.{IsBreach, Keeps, order_rules};
+ghost use Rattle.stack_order.specs.Breaches.{IsBreach, KeepsOrderRule, order_rules};
 ghost use Rattle.stack_order.specs.Cuts.{cuts_of, AreCuts};
 
 use crate::breaches::{
@@ -19,7 +19,7 @@ use std::alloc::Global;
 /// The first rule on the order of items that is broken, at its first place.
 fn first_breach(instance: &Instance, cuts: &[Cut], plates: &[Row]) -> Option<Broken>
     requires { AreCuts instance.now.items cuts.now }
-    ensures { let b = instance.now in MatchOption result (All (Keeps b cuts.now plates.now) order_rules) (IsBreach b cuts.now plates.now) }
+    ensures { let b = instance.now in MatchOption result (All (KeepsOrderRule b cuts.now plates.now) order_rules) (IsBreach b cuts.now plates.now) }
 {
     if let Some(broken) = first_unknown(cuts) {
         return Some(broken);
@@ -57,8 +57,8 @@ pub fn judge_order(
     plan: &Plan,
 ) -> Result<Result<(), Broken>, Memory>
     requires { Fits (tree plan.now) }
-    ensures lawful { let b = instance.now in IfOk result (λ answer. IsOk answer ↔ KeepsOrderRules b (rows_of b.params (tree plan.now))) }
-    ensures first { let b = instance.now in let rows = rows_of b.params (tree plan.now) in IfOk result (λ answer. IfErr answer (IsBreach b (cuts_of b.items rows) (plate_rows rows))) }
+    ensures lawful { let b = instance.now in IfOk result (λ answer. IsOk answer ↔ KeepsOrderRules b (rows_of b (tree plan.now))) }
+    ensures first { let b = instance.now in let rows = rows_of b (tree plan.now) in IfOk result (λ answer. IfErr answer (IsBreach b (cuts_of b.items rows) (plate_rows rows))) }
 {
     let gathered = gather(alloc, instance, plan)?;
     match first_breach(

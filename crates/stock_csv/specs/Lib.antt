@@ -1,2 +1,3 @@
 pub mod DefectRows
 pub mod Settings
+pub mod PlateRows

@@ -2,17 +2,16 @@
 use Rattle.std.specs.Prelude.{◌≡◌, ◌==◌, ℕ, List, length, if◌then◌else◌, codes, fold, Option, Some, None, Result, Ok, Err}
 use Rattle.std.specs.Str.{bytes_eq}
 use Rattle.csv.specs.Records.{field_at}
-use Rattle.glass_base.specs.BadParams.{HasSizes, Refuses}
+use Rattle.glass_base.specs.Sizes.{AreSizes, RefusesSizes, usual_sizes}
 use Rattle.glass_base.specs.declared.bad_text.BadText.{BadText}
 use Rattle.glass_base.specs.declared.bad_text.BadText.TheVariants as bad
 use Rattle.glass_base.specs.declared.params.Params.{Params}
-use Rattle.glass_base.specs.declared.params.BadParams.{BadParams}
+use Rattle.glass_base.specs.declared.sizes.Sizes.{Sizes}
 use Rattle.csv_table.specs.Numbers.{trimmed}
 use Rattle.csv_table.specs.Readings.{◌>>=◌, Fails, table, whole_in}
 use Rattle.stock_csv.specs.declared.parameters.Name.{Name}
 use Rattle.stock_csv.specs.declared.parameters.Name.TheVariants.{Plates, Width, Height, Min1, Max1, Min2, Waste}
 use Rattle.stock_csv.specs.declared.parameters.Setting.{Setting}
-use Rattle.stock_csv.specs.declared.parameters.Sizes.{Sizes}
 
 -- the parameter of this name, which is compared byte by byte
 abbrev pub parameter_named : List ℕ → Option Name
@@ -41,10 +40,6 @@ unfoldable pub setting_at : ℕ → List (List ℕ) → Result (Option Setting) 
 setting_at row fields =
     if length fields == 2 then setting row (parameter_in (field_at fields 0)) (field_at fields 1) else Err (bad.Record row (length fields))
 
--- the challenge's parameters
-abbrev pub usual_sizes : Sizes
-usual_sizes = record { plates = 100; width = 6000; height = 3210; min1 = 100; max1 = 3500; min2 = 100; waste = 20 }
-
 -- the sizes with this one set
 abbrev pub set_to : Sizes → Name → ℕ → Sizes
 set_to s Plates n = record s { plates = n }
@@ -66,12 +61,6 @@ sizes_of settings = fold set_by usual_sizes settings
 abbrev pub settings_of : List ℕ → Result (List (Option Setting)) BadText
 settings_of bytes = table setting_at bytes
 
-abbrev pub AreSizes : Params → Sizes → Type 0
-AreSizes p s = HasSizes p s.plates s.width s.height s.min1 s.max1 s.min2 s.waste
-
-abbrev pub RefusesSizes : BadParams → Sizes → Type 0
-RefusesSizes reason s = Refuses reason s.plates s.width s.height s.min1 s.max1 s.min2 s.waste
-
 -- a reader refused the text for its first reason, or the sizes that it says for the first rule that they break, or memory ran out
 abbrev pub RefusesSettings : BadText → Result (List (Option Setting)) BadText → Type 0
 RefusesSettings e (Err said) = Fails {Y = List (Option Setting)} e (Err said)
@@ -81,6 +70,7 @@ RefusesSettings (bad.Record row fields) (Ok settings) = ⊥
 RefusesSettings (bad.Number row column) (Ok settings) = ⊥
 RefusesSettings (bad.Range row column) (Ok settings) = ⊥
 RefusesSettings (bad.EmptyDefect row) (Ok settings) = ⊥
+RefusesSettings (bad.ZeroWidth row) (Ok settings) = ⊥
 
 -- the parameters that settings make
 abbrev pub ReadAs : Params → Result (List (Option Setting)) BadText → Type 0
@@ -88,7 +78,7 @@ ReadAs p (Ok settings) = AreSizes p (sizes_of settings)
 ReadAs p (Err e) = ⊥
 
 -- the sizes that settings make, or the refusal of their text, or memory ran out
-abbrev pub Reads : Result Sizes BadText → Result (List (Option Setting)) BadText → Type 0
-Reads (Ok sizes) (Ok settings) = sizes ≡ sizes_of settings
-Reads (Ok sizes) (Err e) = ⊥
-Reads (Err e) said = Fails e said
+abbrev pub GivesSizes : Result Sizes BadText → Result (List (Option Setting)) BadText → Type 0
+GivesSizes (Ok sizes) (Ok settings) = sizes ≡ sizes_of settings
+GivesSizes (Ok sizes) (Err e) = ⊥
+GivesSizes (Err e) said = Fails e said

@@ -3,11 +3,11 @@
 ghost use Rattle.std.specs.Prelude.{◌≡◌, IfOk, IfErr};
 ghost use Rattle.std.specs.Str.{bytes_eq};
 ghost use Rattle.csv.specs.Records.{field_at, fields_of};
-ghost use Rattle.stock_csv.specs.Settings.{AreSizes, ReadAs, Reads, RefusesSettings, RefusesSizes, parameter_in, parameter_named, set_by, set_to, setting_at, settings_of, usual_sizes};
+ghost use Rattle.stock_csv.specs.Settings.{ReadAs, GivesSizes, RefusesSettings, parameter_in, parameter_named, set_by, set_to, setting_at, settings_of};
 
 use csv::ByteRecord;
 use csv_table::{Rows, trim, whole_at};
-use glass_base::{BadParams, BadText, Params};
+use glass_base::{BadText, Params, Sizes};
 use std::alloc::Global;
 
 /// The greatest value of a parameter.
@@ -32,94 +32,49 @@ pub struct Setting {
     pub value: u32,
 }
 
-/// Parameters that are not yet checked: the number of plates, and sizes in mm.
-#[derive(Clone, Copy, Debug)]
-pub struct Sizes {
-    pub plates: u32,
-    pub width: u32,
-    pub height: u32,
-    pub min1: u32,
-    pub max1: u32,
-    pub min2: u32,
-    pub waste: u32,
+/// Sizes with one of them set.
+fn with_value(sizes: Sizes, name: Name, value: u32) -> Sizes
+    ensures { result ≡ set_to sizes name value }
+{
+    match name {
+        Name::Plates => Sizes {
+            plates: value,
+            ..sizes
+        },
+        Name::Width => Sizes {
+            width: value,
+            ..sizes
+        },
+        Name::Height => Sizes {
+            height: value,
+            ..sizes
+        },
+        Name::Min1 => Sizes {
+            min1: value,
+            ..sizes
+        },
+        Name::Max1 => Sizes {
+            max1: value,
+            ..sizes
+        },
+        Name::Min2 => Sizes {
+            min2: value,
+            ..sizes
+        },
+        Name::Waste => Sizes {
+            waste: value,
+            ..sizes
+        },
+    }
 }
 
-impl Sizes {
-    /// The challenge's parameters.
-    fn usual() -> Sizes
-        ensures { result ≡ usual_sizes }
-    {
-        Sizes {
-            plates: 100,
-            width: 6000,
-            height: 3210,
-            min1: 100,
-            max1: 3500,
-            min2: 100,
-            waste: 20,
-        }
-    }
-
-    /// These sizes with one of them set.
-    fn with(self, name: Name, value: u32) -> Sizes
-        ensures { result ≡ set_to self name value }
-    {
-        match name {
-            Name::Plates => Sizes {
-                plates: value,
-                ..self
-            },
-            Name::Width => Sizes {
-                width: value,
-                ..self
-            },
-            Name::Height => Sizes {
-                height: value,
-                ..self
-            },
-            Name::Min1 => Sizes {
-                min1: value,
-                ..self
-            },
-            Name::Max1 => Sizes {
-                max1: value,
-                ..self
-            },
-            Name::Min2 => Sizes {
-                min2: value,
-                ..self
-            },
-            Name::Waste => Sizes {
-                waste: value,
-                ..self
-            },
-        }
-    }
-
-    /// These sizes with what a row sets.
-    fn set(self, setting: Option<Setting>) -> Sizes
-        ensures { result ≡ set_by self setting }
-    {
-        match setting {
-            None => self,
-            Some(setting) => self.with(setting.name, setting.value),
-        }
-    }
-
-    /// The parameters of these sizes.
-    fn check(self) -> Result<Params, BadParams>
-        ensures made { IfOk result (λ p. AreSizes p self) }
-        ensures refused { IfErr result (λ e. RefusesSizes e self) }
-    {
-        Params::check(
-            self.plates,
-            self.width,
-            self.height,
-            self.min1,
-            self.max1,
-            self.min2,
-            self.waste,
-        )
+/// Sizes with what a row sets.
+fn with_setting(sizes: Sizes, setting: Option<Setting>) -> Sizes
+    ensures { result ≡ set_by sizes setting }
+{
+    match setting {
+        None => sizes,
+        Some(setting) => with_value(sizes, setting.name, setting.value),
     }
 }
 
@@ -182,7 +137,7 @@ fn setting_of(row: u64, fields: &ByteRecord) -> Result<Option<Setting>, BadText>
 
 /// The usual sizes with those that a file sets, or its first refusal.
 fn read_sizes(alloc: Global, bytes: &[u8]) -> Result<Sizes, BadText>
-    ensures { Reads result (settings_of bytes.now) }
+    ensures { GivesSizes result (settings_of bytes.now) }
 {
     let mut rows = Rows::new(alloc, bytes);
     let mut sizes = Sizes::usual();
@@ -190,7 +145,7 @@ fn read_sizes(alloc: Global, bytes: &[u8]) -> Result<Sizes, BadText>
     rows.next_row()?;
     'rows: while let Some(fields) = rows.next_row()? {
         row += 1;
-        sizes = sizes.set(setting_of(row, &fields)?);
+        sizes = with_setting(sizes, setting_of(row, &fields)?);
     }
     Ok(sizes)
 }

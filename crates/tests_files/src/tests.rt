@@ -50,6 +50,7 @@ fn real_files_hold_what_is_stored(rt: HostRuntime) -> Result<(), Fail> {
 fn real_output_takes_what_is_written(rt: HostRuntime) -> Result<(), Fail> {
     let mut out = StdSink::new(&rt);
     assert_eq!(rt; out.write(b"written\n"), Ok(()));
+    assert_eq!(rt; out.writes, 1);
     assert_eq!(rt; out.faults, 0);
     Ok(())
 }

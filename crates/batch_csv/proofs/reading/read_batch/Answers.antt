@@ -9,7 +9,7 @@ use Rattle.batch_csv.proofs.reading.read_batch.Goals as goal
 pub rows-preserved : goal.rows-preserved
 rows-preserved c =
     let items = c.in_ok-append.ensures.ok in
-    let rest = rw c.in-Some.is at c.in_ok-fields.ensures in
+    let rest = rw c.in-Some.is at c.in_ok-fields.ensures.ok in
     let more = with_front-more item_at c.rows.items.items (c.rows.row + 1) (fields_of c.in-Some.fields) c.next_row-in-rows.new.self c.in_ok-item_of.field-0 (sym c.item_of.ensures.value ∙ c.in_ok-item_of.was) in
     let size : length c.rows.rows ≡ length c.next_row-in-rows.new.self + 1 = rw rest (omega arith) in
     record {

@@ -1,8 +1,8 @@
 use Rattle.std.proofs.Common.{All, take}
 use Rattle.cut_model.specs.Families.{families_of}
 use Rattle.cut_model.specs.Tree.{tree}
-use Rattle.cut_rules.specs.Breaches.{Keeps}
+use Rattle.cut_rules.specs.Breaches.{KeepsCutRule}
 use Rattle.cut_rules.proofs.judge.first_of.Given as goal
 
 abbrev pub invariant-loop-rule : goal.invariant-loop-rule
-invariant-loop-rule l = All (λ rule. All (Keeps l.instance rule) (families_of l.instance.params (tree l.plan))) (take l.rule-index l.rules)
+invariant-loop-rule l = All (λ rule. All (KeepsCutRule l.instance rule) (families_of l.instance (tree l.plan))) (take l.rule-index l.rules)

@@ -7,11 +7,11 @@ use Rattle.cut_rules.proofs.judge.judge_cuts.Goals as goal
 pub returns-in-None-clause-lawful : goal.returns-in-None-clause-lawful
 returns-in-None-clause-lawful c =
     let b = c.args.instance.now in
-    (λ _. pieces_keep b (families_of b.params (tree c.args.plan.now)) c.in-None.ensures, λ _. refl)
+    (λ _. pieces_keep b (families_of b (tree c.args.plan.now)) c.in-None.ensures, λ _. refl)
 
 pub returns-in-Some-clause-lawful : goal.returns-in-Some-clause-lawful
 returns-in-Some-clause-lawful c =
     let b = c.args.instance.now in (
       λ e. cc,
-      λ h. absurd (broken_not_kept b (families_of b.params (tree c.args.plan.now)) c.in-Some.broken c.in-Some.ensures h),
+      λ h. absurd (broken_not_kept b (families_of b (tree c.args.plan.now)) c.in-Some.broken c.in-Some.ensures h),
     )

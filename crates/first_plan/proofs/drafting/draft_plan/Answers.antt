@@ -10,11 +10,11 @@ use Rattle.first_plan.proofs.drafting.draft_plan.Goals as goal
 pub returns-in_ok-plan-in-Ok-clause-fits : goal.returns-in_ok-plan-in-Ok-clause-fits
 returns-in_ok-plan-in-Ok-clause-fits c =
     let drafted : IsDraft c.args.instance.now c.in-Ok.strips.items = rw c.in-Ok.is at c.in_ok-strips.ensures.drafted in
-    let same : tree c.in_ok-plan-in-Ok.plan ≡ plan_with c.args.instance.now.params c.in-Ok.strips.items = c.in_ok-plan-in-Ok.ensures ∙ rw (c.params.ensures.value, c.as_slice.ensures) refl in
-    subst Fits (sym same) (draft_fits c.args.instance.now c.in-Ok.strips.items c.params.ensures.rules drafted)
+    let same : tree c.in_ok-plan-in-Ok.plan ≡ plan_with c.args.instance.now c.in-Ok.strips.items = c.in_ok-plan-in-Ok.ensures ∙ rw c.as_slice.ensures refl in
+    subst Fits (sym same) (draft_fits c.args.instance.now c.in-Ok.strips.items c.draft.ensures.rules drafted)
 
 pub returns-in_ok-plan-in-Ok-clause-lawful : goal.returns-in_ok-plan-in-Ok-clause-lawful
 returns-in_ok-plan-in-Ok-clause-lawful c clear =
     let drafted : IsDraft c.args.instance.now c.in-Ok.strips.items = rw c.in-Ok.is at c.in_ok-strips.ensures.drafted in
-    let same : tree c.in_ok-plan-in-Ok.plan ≡ plan_with c.args.instance.now.params c.in-Ok.strips.items = c.in_ok-plan-in-Ok.ensures ∙ rw (c.params.ensures.value, c.as_slice.ensures) refl in
-    draft_lawful c.args.instance.now (tree c.in_ok-plan-in-Ok.plan) c.params.ensures.rules clear (c.in-Ok.strips.items, drafted, same)
+    let same : tree c.in_ok-plan-in-Ok.plan ≡ plan_with c.args.instance.now c.in-Ok.strips.items = c.in_ok-plan-in-Ok.ensures ∙ rw c.as_slice.ensures refl in
+    draft_lawful c.args.instance.now (tree c.in_ok-plan-in-Ok.plan) c.draft.ensures.rules clear (c.in-Ok.strips.items, drafted, same)

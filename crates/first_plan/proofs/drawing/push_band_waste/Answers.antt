@@ -2,7 +2,7 @@ use Rattle.std.proofs.Common.{◌∙◌, ap, sym, List}
 use Rattle.cut_model.specs.declared.plan.Piece2.{Piece2}
 use Rattle.cut_model.specs.declared.family.Sort.{Sort}
 use Rattle.cut_model.specs.Tree.{Forest, sort2, inner2}
-use Rattle.first_plan.specs.Drawings.{bands_then}
+use Rattle.first_plan.specs.inner.Drawings.{bands_then}
 use Rattle.first_plan.proofs.Following.{followed-push}
 use Rattle.first_plan.proofs.Wholes.{gap_there}
 use Rattle.first_plan.proofs.drawing.push_band_waste.Goals as goal

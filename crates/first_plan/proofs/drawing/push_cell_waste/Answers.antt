@@ -2,7 +2,7 @@ use Rattle.std.proofs.Common.{◌∙◌, ap, sym, List}
 use Rattle.cut_model.specs.declared.plan.Piece3.{Piece3}
 use Rattle.cut_model.specs.declared.family.Sort.{Sort}
 use Rattle.cut_model.specs.Tree.{Forest, sort3, inner3}
-use Rattle.first_plan.specs.Drawings.{cells_then}
+use Rattle.first_plan.specs.inner.Drawings.{cells_then}
 use Rattle.first_plan.proofs.Following.{followed-push}
 use Rattle.first_plan.proofs.Wholes.{gap_there}
 use Rattle.first_plan.proofs.drawing.push_cell_waste.Goals as goal

@@ -1,7 +1,7 @@
 use Rattle.std.proofs.Common.{◌∙◌, ◌-◌, ap, sym, List}
 use Rattle.cut_model.specs.declared.plan.Piece1.{Piece1}
 use Rattle.cut_model.specs.Tree.{Forest, piece, sort1, inner1}
-use Rattle.first_plan.specs.Drawings.{strips_then}
+use Rattle.first_plan.specs.inner.Drawings.{strips_then}
 use Rattle.first_plan.proofs.Following.{followed-push}
 use Rattle.first_plan.proofs.Wholes.{gap_there}
 use Rattle.first_plan.proofs.drawing.push_rest.Goals as goal

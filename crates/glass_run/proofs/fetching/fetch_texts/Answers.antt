@@ -1,13 +1,13 @@
-use Rattle.std.proofs.Common.{arith, length-append, rules}
+use Rattle.std.proofs.Common.{rules}
 use Rattle.std.proofs.lemmas.Result.{err_from_is_err_and}
-use Rattle.glass_run.proofs.FetchFacts.{gathers_more, reaches_fault, reaches_more}
+use Rattle.glass_run.proofs.FetchedTexts.{gathers_more, reaches_fault, reaches_more}
 use Rattle.glass_run.proofs.fetching.fetch_texts.Goals as goal
 
 pub returns-in_err-text-clause-reached : goal.returns-in_err-text-clause-reached
 returns-in_err-text-clause-reached g c =
     let passed = err_from_is_err_and c.from_residual.result c.from_residual.ensures.1 in
     rw (passed.1, passed.2)
-    (reaches_fault _ c.args.wanted.now c.loop-file.file-index _ _ _ c.loop-file-test.true c.in_err-text.ensures.cause c.loop-file.invariant.reached)
+    (reaches_fault _ c.args.wanted.now c.loop-file.file-index _ _ c.loop-file-test.true c.in_err-text.ensures.faults.1 c.loop-file.invariant.reached)
 
 pub loop-file-preserved : goal.loop-file-preserved
 loop-file-preserved g c = record {
@@ -18,7 +18,6 @@ loop-file-preserved g c = record {
   reached =
       reaches_more _ _ c.args.wanted.now c.loop-file.file-index _ _ c.in-Ok.text
       c.loop-file-test.true c.loop-file.invariant.same c.in-Ok.is c.in_ok-text.ensures.fetched c.loop-file.invariant.reached;
-  many = rw c.in_ok-append-in-Ok.ensures.ok (simp length-append (omega (arith, c.loop-file.invariant.many)));
-  counts = search rules;
+  faults = search rules;
   keeps = search rules;
 }

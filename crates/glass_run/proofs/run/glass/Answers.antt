@@ -1,20 +1,23 @@
-use Rattle.std.proofs.Common.{refl, rules, sym, ◌∙◌}
-use Rattle.glass_run.proofs.Faults.{fault_told, fault_untold}
-use Rattle.glass_run.specs.Words.{call_in}
+use Rattle.std.proofs.Common.{sym}
+use Rattle.glass_run.specs.inner.Forms.{answer_in, line_in}
+use Rattle.glass_run.specs.Grammar.{stored_names}
+use Rattle.glass_run.proofs.Endings.{answers_told, delivery_ends, fails_to_read, fault_ends}
 use Rattle.glass_run.proofs.run.glass.Goals as goal
 
-pub returns-in-Err-Failed-tell_fault-clause-runs : goal.returns-in-Err-Failed-tell_fault-clause-runs
-returns-in-Err-Failed-tell_fault-clause-runs g c =
-    fault_untold _ (call_in c.in-Some.command) _ _ _ _ _ c.in-Err-ReadFault.role (sym c.command_named.ensures ∙ rw c.in-Some.is refl)
-    (rw (c.in-Err-ReadFault.is, c.in-Err-ReadFault.field-0-is) at c.reply_of.ensures.reached)
-    (rw (c.in-Err-ReadFault.is, c.in-Err-ReadFault.field-0-is) at c.reply_of.ensures.cause)
-    c.reply_of.ensures.same
-    (search rules)
+pub returns-in-Ok-clause-runs : goal.returns-in-Ok-clause-runs
+returns-in-Ok-clause-runs g c =
+    let line = line_in c.in-Some.line in
+    rw (sym c.line_named.ensures, c.in-Some.is)
+    (delivery_ends line _ _ _ _ _ (answer_in (stored_names line) c.in-Ok.reply) _ c.in-Ok.ensures.same c.in-Ok.ensures.faults
+    (answers_told _ line _ c.in-Ok.ensures.reply) c.in-Ok.reply.answered (rw c.stored.ensures at c.deliver.ensures.delivers))
 
-pub returns-in-Ok-tell_fault-clause-runs : goal.returns-in-Ok-tell_fault-clause-runs
-returns-in-Ok-tell_fault-clause-runs g c =
-    fault_told _ (call_in c.in-Some.command) _ _ _ _ _ c.in-Err-ReadFault.role (sym c.command_named.ensures ∙ rw c.in-Some.is refl)
-    (rw (c.in-Err-ReadFault.is, c.in-Err-ReadFault.field-0-is) at c.reply_of.ensures.reached)
-    (rw (c.in-Err-ReadFault.is, c.in-Err-ReadFault.field-0-is) at c.reply_of.ensures.cause)
-    c.reply_of.ensures.same
-    (search rules)
+pub returns-in-Err-ReadFault-clause-runs : goal.returns-in-Err-ReadFault-clause-runs
+returns-in-Err-ReadFault-clause-runs g c =
+    let line = line_in c.in-Some.line in
+    rw (sym c.line_named.ensures, c.in-Some.is)
+    (fault_ends line _ _ _ _ c.in-Err-ReadFault.role _
+    (fails_to_read line _ _ _ _ _
+    (rw c.in-Err-ReadFault.field-0-is at c.in-Err-ReadFault.ensures.reached)
+    c.in-Err-ReadFault.ensures.same
+    (rw c.in-Err-ReadFault.field-0-is at c.in-Err-ReadFault.ensures.faults))
+    (rw (c.read_fault_line.ensures, c.in-Err-ReadFault.role-is) at c.print-in-Err-ReadFault.ensures.ends))

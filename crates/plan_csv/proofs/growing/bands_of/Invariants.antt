@@ -1,5 +1,5 @@
 use Rattle.cut_model.specs.Tree.{inner2, sort2}
-use Rattle.plan_csv.specs.ReadNodes.{below}
+use Rattle.plan_csv.specs.inner.ReadNodes.{below}
 use Rattle.plan_csv.proofs.GrownPieces.{Growing}
 use Rattle.plan_csv.proofs.growing.bands_of.Given as goal
 

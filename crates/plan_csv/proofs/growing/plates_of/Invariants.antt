@@ -1,6 +1,6 @@
 use Rattle.cut_model.specs.declared.family.Sort.{Sort}
 use Rattle.cut_model.specs.Tree.{strips}
-use Rattle.plan_csv.specs.ReadNodes.{below}
+use Rattle.plan_csv.specs.inner.ReadNodes.{below}
 use Rattle.plan_csv.proofs.GrownPieces.{Growing}
 use Rattle.plan_csv.proofs.growing.plates_of.Given as goal
 

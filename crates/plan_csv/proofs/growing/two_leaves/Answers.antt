@@ -1,6 +1,6 @@
 use Rattle.std.proofs.Common.{◌≡◌, ◌+◌, ◌∙◌, length, ap, arith, All}
 use Rattle.plan_csv.specs.PlanTexts.{grown}
-use Rattle.plan_csv.specs.ReadNodes.{IsPiece}
+use Rattle.plan_csv.specs.inner.ReadNodes.{IsPiece}
 use Rattle.plan_csv.proofs.GrownRows.{two_children, two_grown}
 use Rattle.plan_csv.proofs.growing.two_leaves.Goals as goal
 

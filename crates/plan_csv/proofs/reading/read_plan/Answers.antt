@@ -8,12 +8,12 @@ use Rattle.plan_csv.proofs.reading.read_plan.Goals as goal
 
 pub returns-clause-fits : goal.returns-clause-fits
 returns-clause-fits c =
-    let said : plan_said c.args.params.now c.args.bytes.now ≡ Ok (tree c.in_ok-plan_of.field-0) =
-    plan_is c.args.params.now c.args.bytes.now c.in_ok-nodes.nodes.rows.items (tree c.in_ok-plan_of.field-0) c.in_ok-nodes.ensures.said.said_is c.in_ok-plan_of.ensures in
-    (read_fits c.args.params.now c.args.bytes.now (tree c.in_ok-plan_of.field-0) said).0
+    let said : plan_said c.args.instance.now c.args.bytes.now ≡ Ok (tree c.in_ok-plan_of.field-0) =
+    plan_is c.args.instance.now c.args.bytes.now c.in_ok-nodes.nodes.rows.items (tree c.in_ok-plan_of.field-0) c.in_ok-nodes.ensures.said.said_is c.in_ok-plan_of.ensures in
+    (read_fits c.args.instance.now c.args.bytes.now (tree c.in_ok-plan_of.field-0) said).0
 
 pub returns-clause-few : goal.returns-clause-few
 returns-clause-few c =
-    let said : plan_said c.args.params.now c.args.bytes.now ≡ Ok (tree c.in_ok-plan_of.field-0) =
-    plan_is c.args.params.now c.args.bytes.now c.in_ok-nodes.nodes.rows.items (tree c.in_ok-plan_of.field-0) c.in_ok-nodes.ensures.said.said_is c.in_ok-plan_of.ensures in
-    (read_fits c.args.params.now c.args.bytes.now (tree c.in_ok-plan_of.field-0) said).1
+    let said : plan_said c.args.instance.now c.args.bytes.now ≡ Ok (tree c.in_ok-plan_of.field-0) =
+    plan_is c.args.instance.now c.args.bytes.now c.in_ok-nodes.nodes.rows.items (tree c.in_ok-plan_of.field-0) c.in_ok-nodes.ensures.said.said_is c.in_ok-plan_of.ensures in
+    (read_fits c.args.instance.now c.args.bytes.now (tree c.in_ok-plan_of.field-0) said).1

@@ -1,7 +1,7 @@
 use Rattle.std.proofs.Common.{◌≡◌, ◌≤◌, ◌+◌, [], drop, length, max}
-use Rattle.csv_table.specs.Rows.{rows_of}
+use Rattle.csv_table.specs.Rows.{table_rows}
 use Rattle.plan_csv.specs.PlanTexts.{rows_behind}
-use Rattle.plan_csv.specs.ReadNodes.{AreNodes}
+use Rattle.plan_csv.specs.inner.ReadNodes.{AreNodes}
 use Rattle.plan_csv.proofs.reading.read_rows.Given as goal
 
 abbrev pub decreases-rows : goal.decreases-rows
@@ -9,7 +9,7 @@ decreases-rows l = length l.rows
 
 abbrev pub invariant-rows : goal.invariant-rows
 invariant-rows l = record {
-  same : rows_behind l.fn.params (l.row + 1) l.nodes.rows.items l.rows ≡ rows_behind l.fn.params 2 [] (drop 1 (rows_of l.fn.bytes));
+  same : rows_behind l.fn.instance (l.row + 1) l.nodes.rows.items l.rows ≡ rows_behind l.fn.instance 2 [] (drop 1 (table_rows l.fn.bytes));
   nodes_are : AreNodes l.nodes;
   few : l.row + length l.rows ≤ max 1 (length l.fn.bytes);
 }

@@ -12,4 +12,4 @@ returns c =
       c.as_slice-7.ensures,
       c.as_slice-8.ensures,
       c.as_slice-9.ensures,
-    ) at c.write_line.ensures
+    ) at c.write_line.ensures.ok

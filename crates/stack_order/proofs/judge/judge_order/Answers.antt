@@ -9,12 +9,12 @@ use Rattle.stack_order.proofs.judge.judge_order.Goals as goal
 pub first_breach-requires : goal.first_breach-requires
 first_breach-requires c =
     let b = c.args.instance.now in
-    subst (AreCuts b.items) (sym (c.as_slice.ensures ∙ c.in_ok-gathered.ensures.cuts)) (are_cuts b.items (rows_of b.params (tree c.args.plan.now)))
+    subst (AreCuts b.items) (sym (c.as_slice.ensures ∙ c.in_ok-gathered.ensures.cuts)) (are_cuts b.items (rows_of b (tree c.args.plan.now)))
 
 pub returns-in-Some-clause-lawful : goal.returns-in-Some-clause-lawful
 returns-in-Some-clause-lawful c =
     let b = c.args.instance.now in
-    let are : AreGathered b (rows_of b.params (tree c.args.plan.now)) c.as_slice.result.now c.as_slice-2.result.now = record {
+    let are : AreGathered b (rows_of b (tree c.args.plan.now)) c.as_slice.result.now c.as_slice-2.result.now = record {
       cuts_are = c.as_slice.ensures ∙ c.in_ok-gathered.ensures.cuts;
       plates_are = c.as_slice-2.ensures ∙ c.in_ok-gathered.ensures.plates;
     } in
@@ -23,7 +23,7 @@ returns-in-Some-clause-lawful c =
 pub returns-clause-lawful : goal.returns-clause-lawful
 returns-clause-lawful c =
     let b = c.args.instance.now in
-    let are : AreGathered b (rows_of b.params (tree c.args.plan.now)) c.as_slice.result.now c.as_slice-2.result.now = record {
+    let are : AreGathered b (rows_of b (tree c.args.plan.now)) c.as_slice.result.now c.as_slice-2.result.now = record {
       cuts_are = c.as_slice.ensures ∙ c.in_ok-gathered.ensures.cuts;
       plates_are = c.as_slice-2.ensures ∙ c.in_ok-gathered.ensures.plates;
     } in

@@ -1,6 +1,7 @@
 use Rattle.std.proofs.Common.{◌≡◌, ◌≤◌, ◌+◌, length, max}
 use Rattle.csv_table.specs.Readings.{each_row}
-use Rattle.stock_csv.specs.Settings.{setting_at, settings_of, usual_sizes}
+use Rattle.glass_base.specs.Sizes.{usual_sizes}
+use Rattle.stock_csv.specs.Settings.{setting_at, settings_of}
 use Rattle.stock_csv.proofs.Sets.{set_by_all}
 use Rattle.stock_csv.proofs.parameters.read_sizes.Given as goal
 

@@ -4,10 +4,10 @@ use Rattle.csv_table.specs.Lines.{text_in}
 use Rattle.csv_table.proofs.Plain.{line-plain}
 use Rattle.csv_table.proofs.lines.Lines.write_line.Goals as goal
 
-pub returns-in-Ok : goal.returns-in-Ok
-returns-in-Ok c =
+pub returns-in-Ok-clause-ok : goal.returns-in-Ok-clause-ok
+returns-in-Ok-clause-ok c =
     let fields : List (List ℕ) = map (λ (f : Bor (List ℕ)). f.now) c.args.fields.now in
     let some : 2 ≤ length fields = omega (arith, c.requires.some, length-map c.args.fields.now (λ (f : Bor (List ℕ)). f.now)) in
     let before : List ℕ = unwrap_or (text_in c.self.inside.writer) [] in
     let wrote = ap (λ (text : Option (List ℕ)). unwrap_or text []) (c.in-Ok.ensures.wrote before refl) in
-    rw (← c.self.view_is, c.if-self.false) (wrote ∙ ap (λ (line : List ℕ). before ++ line) (line-plain fields some c.requires.plain))
+    rw (← c.self.view_is) (wrote ∙ ap (λ (line : List ℕ). before ++ line) (line-plain fields some c.requires.plain))

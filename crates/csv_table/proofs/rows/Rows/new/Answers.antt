@@ -1,7 +1,7 @@
 use Rattle.std.proofs.Common.{◌∙◌, ap, inr, refl}
 use Rattle.csv.specs.Reading.{strip_bom}
 use Rattle.csv.specs.declared.parser.Config.{Config}
-use Rattle.csv_table.proofs.RowFacts.{length-rows_of}
+use Rattle.csv_table.proofs.RowFacts.{length-table_rows}
 use Rattle.csv_table.proofs.rows.Rows.new.Goals as goal
 
 pub invariant_of-result : goal.invariant_of-result
@@ -19,4 +19,4 @@ invariant_of-result c e =
     }
 
 pub returns-clause-few : goal.returns-clause-few
-returns-clause-few c = let fr = c.from_reader.ensures in rw (c.into_byte_records-records.ensures.rdr, fr.state, fr.source) (length-rows_of c.args.bytes.now)
+returns-clause-few c = let fr = c.from_reader.ensures in rw (c.into_byte_records-records.ensures.rdr, fr.state, fr.source) (length-table_rows c.args.bytes.now)

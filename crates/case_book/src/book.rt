@@ -1,0 +1,106 @@
+//! What a book says: cases, and the texts that they speak of.
+
+use glass_run::Status;
+use std::alloc::{AllocError, Global};
+
+/// A number that is another one each time its block stands: `factor` for each time before, and `addend`.
+#[derive(Clone, Copy, Debug)]
+pub struct Number {
+    pub factor: u64,
+    pub addend: u64,
+}
+
+/// Bytes, and a number behind them.
+#[derive(Drop)]
+pub struct Piece {
+    pub bytes: Vec<u8>,
+    pub number: Number,
+}
+
+/// Lines that stand a number of times.
+#[derive(Drop)]
+pub struct Block {
+    pub times: u64,
+    pub pieces: Vec<Piece>,
+    /// The bytes behind the last piece.
+    pub tail: Vec<u8>,
+}
+
+impl Block {
+    pub fn new(alloc: Global, times: u64) -> Block {
+        Block {
+            times,
+            pieces: Vec::new(alloc),
+            tail: Vec::new(alloc),
+        }
+    }
+}
+
+/// A text by its blocks, one behind the other.
+#[derive(Drop)]
+pub struct Text {
+    pub blocks: Vec<Block>,
+}
+
+impl Text {
+    pub fn new(alloc: Global) -> Text {
+        Text {
+            blocks: Vec::new(alloc),
+        }
+    }
+
+    /// Begins a block that stands so often.
+    pub fn begin_block(&mut self, alloc: Global, times: u64) -> Result<(), AllocError> {
+        self.blocks.push(Block::new(alloc, times))?;
+        Ok(())
+    }
+}
+
+/// A file's name and text.
+#[derive(Drop)]
+pub struct NamedText {
+    pub name: String,
+    pub text: Text,
+}
+
+/// A run of `glass`, and what is to come of it.
+#[derive(Drop)]
+pub struct Case {
+    pub name: String,
+    /// The line of the book at which the case begins, counted from 1.
+    pub line: u64,
+    /// Whether the run must differ from what the case says of it.
+    pub wrong: bool,
+    /// The words of the command line.
+    pub words: Vec<String>,
+    /// The files before the run.
+    pub files: Vec<NamedText>,
+    /// The numbers of the fetches and stores that fail, counted together from 0.
+    pub failing_calls: Vec<u64>,
+    /// The numbers of the writes that fail, from 0.
+    pub failing_writes: Vec<u64>,
+    /// How the run ends; none only while the case is read.
+    pub status: Option<Status>,
+    /// What is printed.
+    pub printed: Text,
+    /// The files that the run stores.
+    pub stored: Vec<NamedText>,
+}
+
+impl Case {
+    /// A case of which only the name is said yet.
+    pub fn new(alloc: Global, name: String, line: u64, wrong: bool) -> Case {
+        Case {
+            name,
+            line,
+            wrong,
+            words: Vec::new(alloc),
+            files: Vec::new(alloc),
+            failing_calls: Vec::new(alloc),
+            failing_writes: Vec::new(alloc),
+            status: None,
+            printed: Text::new(alloc),
+            stored: Vec::new(alloc),
+        }
+    }
+}

@@ -1,0 +1,284 @@
+//! Reading a book.
+
+use crate::book::{Block, Case, NamedText, Text};
+use crate::escapes::{put_line, word_of};
+use glass_run::Status;
+use std::alloc::{AllocError, AllocFailed, Global};
+use thiserror::Error;
+
+/// Why a line of a book cannot be read.
+#[derive(Clone, Copy, Debug, Error)]
+pub enum Fault {
+    #[error("out of memory")]
+    Memory,
+    #[error("a line that begins with no word of the book")]
+    Keyword,
+    #[error("no case has begun")]
+    NoCase,
+    #[error("a line of a text where no text stands")]
+    NoText,
+    #[error("a backslash with something else behind it than an escape")]
+    Escape,
+    #[error("braces with something else in them than a number")]
+    Braces,
+    #[error("a word or a name that is empty or no text")]
+    Word,
+    #[error("no number")]
+    Number,
+    #[error("no name of a status")]
+    Status,
+    #[error("a case without a status")]
+    NoStatus,
+}
+
+impl From<AllocError> for Fault {
+    fn from(_refused: AllocError) -> Fault {
+        Fault::Memory
+    }
+}
+
+impl<T: Drop> From<AllocFailed<T>> for Fault {
+    fn from(_refused: AllocFailed<T>) -> Fault {
+        Fault::Memory
+    }
+}
+
+/// A line of a book that cannot be read, counted from 1, and why.
+#[derive(Clone, Copy, Debug, Drop, Error)]
+#[error("line {line} of the book: {fault}")]
+pub struct BadBook {
+    pub line: u64,
+    pub fault: Fault,
+}
+
+/// The text to which the next line of a text belongs.
+#[derive(Clone, Copy)]
+enum Place {
+    Nowhere,
+    /// The last file of the case.
+    File,
+    Printed,
+    /// The last stored file of the case.
+    Stored,
+}
+
+/// A book that is being read.
+#[derive(Drop)]
+struct Reading {
+    alloc: Global,
+    cases: Vec<Case>,
+    place: Place,
+}
+
+/// The status of this name.
+fn status_named(name: &str) -> Result<Status, Fault> {
+    match name {
+        "Optimal" => Ok(Status::Optimal),
+        "Stopped" => Ok(Status::Stopped),
+        "Infeasible" => Ok(Status::Infeasible),
+        "Usage" => Ok(Status::Usage),
+        "ReadFault" => Ok(Status::ReadFault),
+        "Absent" => Ok(Status::Absent),
+        "TooLong" => Ok(Status::TooLong),
+        "BadInput" => Ok(Status::BadInput),
+        "Memory" => Ok(Status::Memory),
+        "Unlawful" => Ok(Status::Unlawful),
+        "Refused" => Ok(Status::Refused),
+        "NoDraft" => Ok(Status::NoDraft),
+        "WriteFault" => Ok(Status::WriteFault),
+        "Done" => Ok(Status::Done),
+        _ => Err(Fault::Status),
+    }
+}
+
+/// The number that is written so.
+fn number_of(written: &str) -> Result<u64, Fault> {
+    written.parse::<u64>().map_err(|_| Fault::Number)
+}
+
+/// The words that are written so, one space between two.
+fn words_of(alloc: Global, written: &str) -> Result<Vec<String>, Fault> {
+    let mut words = Vec::new(alloc);
+    if written.is_empty() {
+        return Ok(words);
+    }
+    for word in written.split(' ') {
+        words.push(word_of(alloc, word)?)?;
+    }
+    Ok(words)
+}
+
+/// The numbers that are written so, one space between two.
+fn numbers_of(alloc: Global, written: &str) -> Result<Vec<u64>, Fault> {
+    let mut numbers = Vec::new(alloc);
+    for number in written.split(' ') {
+        numbers.push(number_of(number)?)?;
+    }
+    Ok(numbers)
+}
+
+/// A text of this name, of which no line has been read.
+fn named(alloc: Global, name: &str) -> Result<NamedText, Fault> {
+    Ok(NamedText {
+        name: word_of(alloc, name)?,
+        text: Text::new(alloc),
+    })
+}
+
+/// Puts a line behind the last block of a text.
+fn put_line_of_text(alloc: Global, text: &mut Text, line: &str) -> Result<(), Fault> {
+    if text.blocks.is_empty() {
+        text.begin_block(alloc, 1)?;
+    }
+    match text.blocks.last_mut() {
+        None => Ok(()),
+        Some(block) => put_line(alloc, block, line),
+    }
+}
+
+/// What a line of the book adds to a text.
+#[derive(Clone, Copy)]
+enum Addition<'a> {
+    Line(&'a str),
+    /// From here on the lines stand so often.
+    Repeat(u64),
+}
+
+impl Addition<'_> {
+    fn put(&self, alloc: Global, text: &mut Text) -> Result<(), Fault> {
+        match self {
+            Addition::Line(line) => put_line_of_text(alloc, text, line),
+            Addition::Repeat(times) => Ok(text.begin_block(alloc, *times)?),
+        }
+    }
+}
+
+/// Adds to the text at this place of a case.
+fn add_to_text(
+    alloc: Global,
+    case: &mut Case,
+    place: Place,
+    addition: Addition,
+) -> Result<(), Fault> {
+    match place {
+        Place::Nowhere => Err(Fault::NoText),
+        Place::Printed => addition.put(alloc, &mut case.printed),
+        Place::File => match case.files.last_mut() {
+            None => Err(Fault::NoText),
+            Some(file) => addition.put(alloc, &mut file.text),
+        },
+        Place::Stored => match case.stored.last_mut() {
+            None => Err(Fault::NoText),
+            Some(file) => addition.put(alloc, &mut file.text),
+        },
+    }
+}
+
+/// Takes which calls fail.
+fn take_fails(alloc: Global, case: &mut Case, rest: &str) -> Result<(), Fault> {
+    match rest.split_once(' ') {
+        Some(("files", numbers)) => case.failing_calls = numbers_of(alloc, numbers)?,
+        Some(("sink", numbers)) => case.failing_writes = numbers_of(alloc, numbers)?,
+        _ => return Err(Fault::Keyword),
+    }
+    Ok(())
+}
+
+/// Takes a line of a case that begins with this word, and says to which text the lines below belong.
+fn take_keyword(alloc: Global, case: &mut Case, keyword: &str, rest: &str) -> Result<Place, Fault> {
+    match keyword {
+        "words" => case.words = words_of(alloc, rest)?,
+        "fails" => take_fails(alloc, case, rest)?,
+        "status" => case.status = Some(status_named(rest)?),
+        "printed" if rest.is_empty() => return Ok(Place::Printed),
+        "file" => {
+            case.files.push(named(alloc, rest)?)?;
+            return Ok(Place::File);
+        }
+        "stored" => {
+            case.stored.push(named(alloc, rest)?)?;
+            return Ok(Place::Stored);
+        }
+        _ => return Err(Fault::Keyword),
+    }
+    Ok(Place::Nowhere)
+}
+
+impl Reading {
+    /// Begins a case.
+    fn begin(&mut self, name: &str, line: u64, wrong: bool) -> Result<(), Fault> {
+        let name = String::from_str(self.alloc, name)?;
+        self.cases.push(Case::new(self.alloc, name, line, wrong))?;
+        self.place = Place::Nowhere;
+        Ok(())
+    }
+
+    /// Adds to the text that stands open.
+    fn add(&mut self, addition: Addition) -> Result<(), Fault> {
+        match self.cases.last_mut() {
+            None => Err(Fault::NoCase),
+            Some(case) => add_to_text(self.alloc, case, self.place, addition),
+        }
+    }
+
+    /// Takes a line that begins with this word.
+    fn take_keyword(&mut self, keyword: &str, rest: &str) -> Result<(), Fault> {
+        match self.cases.last_mut() {
+            None => Err(Fault::NoCase),
+            Some(case) => {
+                self.place = take_keyword(self.alloc, case, keyword, rest)?;
+                Ok(())
+            }
+        }
+    }
+
+    /// Takes the next line, which has this number.
+    fn take(&mut self, number: u64, line: &str) -> Result<(), Fault> {
+        if line.is_empty() || line.starts_with('#') {
+            return Ok(());
+        }
+        let (keyword, rest) = line.split_once(' ').unwrap_or((line, ""));
+        match keyword {
+            "|" => self.add(Addition::Line(rest)),
+            "repeat" => self.add(Addition::Repeat(number_of(rest)?)),
+            "case" => self.begin(rest, number, false),
+            "wrong" => self.begin(rest, number, true),
+            _ => self.take_keyword(keyword, rest),
+        }
+    }
+}
+
+/// The first case without a status is a fault of the line where it begins.
+fn check_statuses(cases: &[Case]) -> Result<(), BadBook> {
+    for case in cases {
+        if case.status.is_none() {
+            return Err(BadBook {
+                line: case.line,
+                fault: Fault::NoStatus,
+            });
+        }
+    }
+    Ok(())
+}
+
+/// The cases of a book.
+pub fn read_book(alloc: Global, text: &str) -> Result<Vec<Case>, BadBook> {
+    let mut reading = Reading {
+        alloc,
+        cases: Vec::new(alloc),
+        place: Place::Nowhere,
+    };
+    let mut number: u64 = 0;
+    for line in text.lines() {
+        number = number.saturating_add(1);
+        if let Err(fault) = reading.take(number, line) {
+            return Err(BadBook {
+                line: number,
+                fault,
+            });
+        }
+    }
+    let Reading { cases, .. } = reading;
+    check_statuses(cases.as_slice())?;
+    Ok(cases)
+}

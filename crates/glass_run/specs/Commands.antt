@@ -1,0 +1,42 @@
+-- What each command answers to what stands under the names of its files.
+use Rattle.std.specs.Prelude.{◌≡◌, ◌⊎◌, ℕ, List, [], slice_index_or, Option, None, Result, Ok, Err}
+use Rattle.glass_base.specs.Problem.{Problem}
+use Rattle.glass_base.specs.declared.role.Role.TheVariants as role
+use Rattle.glass_io.specs.Told.{Contents}
+use Rattle.glass_run.specs.declared.grammar.Verb.{Verb}
+use Rattle.glass_run.specs.declared.grammar.Verb.TheVariants as verb
+use Rattle.glass_run.specs.Answers.{Answer}
+use Rattle.glass_run.specs.Drafts.{Drafts}
+use Rattle.glass_run.specs.Grammar.{Line, files_of, stored_names}
+use Rattle.glass_run.specs.Instances.{InstanceRefused, IsInstanceOf}
+use Rattle.glass_run.specs.Judgements.{JudgesText}
+use Rattle.glass_run.specs.Texts.{Texts, text_for, text_or_empty, texts_of}
+
+-- the first name under which a line stores
+abbrev pub out_of : Line → List ℕ
+out_of line = slice_index_or (stored_names line) 0 []
+
+-- the answer of each command to the instance that its texts say
+abbrev pub AnswersInstance : Verb → Line → Texts → Problem → Answer → Type 0
+AnswersInstance verb.Draft line texts b answer = Drafts b (out_of line) answer
+AnswersInstance verb.Judge line texts b answer = JudgesText b (text_or_empty texts role.Plan) answer
+
+-- the text of the defects that each command plans with; a draft is made on plates without defects
+abbrev pub flaws_of : Verb → Texts → Option (List ℕ)
+flaws_of verb.Draft texts = None
+flaws_of verb.Judge texts = text_for texts role.Defects
+
+-- the answer of a command to its texts
+abbrev pub AnswersTexts : Line → Texts → Answer → Type 0
+AnswersTexts line texts answer =
+    ((b : Problem) × IsInstanceOf texts (flaws_of line.verb texts) b × AnswersInstance line.verb line texts b answer)
+    ⊎ InstanceRefused texts (flaws_of line.verb texts) answer
+
+-- the answer of a command to its texts, or to the first file that gives none
+abbrev pub AnswersFetched : Line → Result Texts Answer → Answer → Type 0
+AnswersFetched line (Ok texts) answer = AnswersTexts line texts answer
+AnswersFetched line (Err refusal) answer = answer ≡ refusal
+
+-- the answer of a command to what stands under the names: all files are fetched, in their order, before one is read
+abbrev pub Answers : Contents → Line → Answer → Type 0
+Answers contents line answer = AnswersFetched line (texts_of contents (files_of line)) answer

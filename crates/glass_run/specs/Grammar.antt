@@ -1,0 +1,148 @@
+-- The command lines: each command is a row of the table `pattern_of`.
+use Rattle.std.specs.Prelude.{◌==◌, ◌&&◌, ◌+◌, ◌++◌, ℕ, List, [], ◌∷◌, length, take, drop, find, position, slice_get, count_by, nat_le, Bool, false, not, is_some, if◌then◌else◌, Option, Some, None, codes, option_map, option_and_then}
+use Rattle.std.specs.List.{filter_map, list_all, list_any}
+use Rattle.std.specs.Option.{option_map_or, option_or}
+use Rattle.std.specs.Str.{bytes_eq}
+use Rattle.glass_base.specs.Roles.{is_role}
+use Rattle.glass_base.specs.declared.role.Role.{Role}
+use Rattle.glass_base.specs.declared.role.Role.TheVariants as role
+use Rattle.glass_run.specs.declared.grammar.Verb.{Verb}
+use Rattle.glass_run.specs.declared.grammar.Verb.TheVariants as verb
+
+-- what the words of a command are: its own word, a name for each file that it reads and for each that it stores, in this order,
+-- and then options, which name further files that it reads
+pub record Pattern : Type 0 where
+  pub word : List ℕ
+  pub reads : List Role
+  pub stores : List Role
+  pub options : List Role
+
+abbrev pub pattern_of : Verb → Pattern
+pattern_of verb.Draft = record {
+  word = codes "draft";
+  reads = role.Batch ∷ [];
+  stores = role.Plan ∷ [];
+  options = role.Params ∷ role.Plates ∷ [];
+}
+pattern_of verb.Judge = record {
+  word = codes "judge";
+  reads = role.Batch ∷ role.Defects ∷ role.Plan ∷ [];
+  stores = [];
+  options = role.Params ∷ role.Plates ∷ [];
+}
+
+-- all commands
+abbrev pub verbs : List Verb
+verbs = verb.Draft ∷ verb.Judge ∷ []
+
+-- the order in which the files of a command line are fetched and read
+abbrev pub fetch_order : List Role
+fetch_order = role.Batch ∷ role.Defects ∷ role.Params ∷ role.Plates ∷ role.Plan ∷ role.Cert ∷ []
+
+-- the word by which lines name a file
+abbrev pub role_word : Role → List ℕ
+role_word role.Batch = codes "batch"
+role_word role.Defects = codes "defects"
+role_word role.Params = codes "params"
+role_word role.Plan = codes "plan"
+role_word role.Cert = codes "cert"
+role_word role.Plates = codes "plates"
+
+-- a file name is not empty, is not a dash alone, and does not begin with two dashes
+abbrev pub is_name : List ℕ → Bool
+is_name [] = false
+is_name (a ∷ []) = not (a == 45)
+is_name (a ∷ b ∷ rest) = not ((a == 45) && (b == 45))
+
+-- what stands before the file name in an option
+abbrev pub option_front : Role → List ℕ
+option_front of = codes "--" ++ role_word of ++ codes "="
+
+-- the file that a word names as an option of this role
+abbrev pub option_name : Role → List ℕ → Option (List ℕ)
+option_name of word =
+    let front = option_front of in
+    if bytes_eq (take (length front) word) front && is_name (drop (length front) word) then Some (drop (length front) word) else None
+
+abbrev pub is_option : Role → List ℕ → Bool
+is_option of word = is_some (option_name of word)
+
+-- a word is an option of one of these roles
+abbrev pub is_some_option : List Role → List ℕ → Bool
+is_some_option roles word = list_any (λ of. is_option of word) roles
+
+-- one of these words at the most is an option of this role
+abbrev pub is_once : List (List ℕ) → Role → Bool
+is_once words of = nat_le (count_by (is_option of) words) 1
+
+-- the words are options of these roles, of each role once at the most
+abbrev pub are_options : List Role → List (List ℕ) → Bool
+are_options roles words = list_all (is_some_option roles) words && list_all (is_once words) roles
+
+-- a command line: its command, the names of files behind it, and its options
+pub record Line : Type 0 where
+  pub verb : Verb
+  pub names : List (List ℕ)
+  pub options : List (List ℕ)
+
+-- the names under which a line stores
+abbrev pub stored_names : Line → List (List ℕ)
+stored_names line = drop (length (pattern_of line.verb).reads) line.names
+
+-- whether a word is an option of this role that names this file
+abbrev pub is_option_for : Role → List ℕ → List ℕ → Bool
+is_option_for of name word = option_map_or (λ n. bytes_eq n name) (option_name of word) false
+
+-- whether an option of one of these roles names this file
+abbrev pub option_names : List Role → List ℕ → List ℕ → Bool
+option_names roles name word = list_any (λ of. is_option_for of name word) roles
+
+-- whether a line names a file once
+abbrev pub is_named_once : Line → List ℕ → Bool
+is_named_once line name =
+    (count_by (λ n. bytes_eq n name) line.names + count_by (option_names (pattern_of line.verb).options name) line.options) == 1
+
+-- whether the names and options are those of the line's command; a name that is stored differs from all other names
+abbrev pub is_line : Line → Bool
+is_line line =
+    let pattern = pattern_of line.verb in
+    (length line.names == length pattern.reads + length pattern.stores) && list_all is_name line.names && are_options pattern.options line.options
+    && list_all (is_named_once line) (stored_names line)
+
+-- the words behind a command's own as its names and its options
+abbrev pub line_with : Verb → List (List ℕ) → Line
+line_with of words =
+    let many = length (pattern_of of).reads + length (pattern_of of).stores in
+    record { verb = of; names = take many words; options = drop many words }
+
+abbrev pub line_if : Line → Option Line
+line_if line = if is_line line then Some line else None
+
+-- the command of this word
+abbrev pub verb_of : List ℕ → Option Verb
+verb_of word = find (λ of. bytes_eq word (pattern_of of).word) verbs
+
+-- the command line that words are, if they are one
+abbrev pub line_of : List (List ℕ) → Option Line
+line_of [] = None
+line_of (word ∷ words) = option_and_then (λ of. line_if (line_with of words)) (verb_of word)
+
+-- the name of the file of this role, where it is one of the names of a line
+abbrev pub name_at : Line → Role → Option (List ℕ)
+name_at line of = option_and_then (λ place. slice_get line.names place) (position (λ other. is_role of other) (pattern_of line.verb).reads)
+
+-- the name of the file of this role, where an option names it
+abbrev pub name_by_option : Line → Role → Option (List ℕ)
+name_by_option line of = option_and_then (option_name of) (find (is_option of) line.options)
+
+-- the name of the file of this role, if the line names it
+abbrev pub name_of : Line → Role → Option (List ℕ)
+name_of line of = option_or (name_at line of) (name_by_option line of)
+
+-- the file of this role with its name, if the line names it
+abbrev pub file_of : Line → Role → Option (Role × List ℕ)
+file_of line of = option_map (λ name. (of, name)) (name_of line of)
+
+-- the files that a line reads, each by its role and its name, in the order in which they are fetched
+abbrev pub files_of : Line → List (Role × List ℕ)
+files_of line = filter_map (file_of line) fetch_order

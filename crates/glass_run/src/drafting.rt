@@ -1,0 +1,62 @@
+//! What `draft` answers to an instance.
+
+ghost use Rattle.std.specs.Prelude.{◌≡◌, [], ◌∷◌, ℕ, List, IfOk, slice_index_or};
+ghost use Rattle.cut_model.specs.Fits.{Fits};
+ghost use Rattle.cut_model.specs.Tree.{tree};
+ghost use Rattle.glass_run.specs.Drafts.{Drafts, drafted, no_draft as no_draft_of};
+ghost use Rattle.glass_run.specs.inner.Forms.{answer_in, notice_in};
+
+use crate::lines::{no_draft_line, summary_lines};
+use crate::notices::reply_with;
+use crate::reply::{Notice, Output, Reply};
+use crate::status::Status;
+use cut_model::{Plan, plates_used};
+use first_plan::draft_plan;
+use glass_base::{Instance, Memory, Run, append};
+use loss_area::loss;
+use plan_csv::write_plan;
+use std::alloc::Global;
+
+/// The notice of an item that has no place.
+fn no_draft(alloc: Global, number: u32) -> Result<Notice, Memory>
+    ensures { IfOk result (λ n. notice_in n ≡ no_draft_of number) }
+{
+    Ok(Notice {
+        status: Status::NoDraft,
+        lines: no_draft_line(alloc, number)?,
+    })
+}
+
+/// The outputs that are this one.
+fn one_output(alloc: Global, bytes: Run<u8>) -> Result<Run<Output>, Memory>
+    ensures { IfOk result (λ outputs. outputs.items ≡ record { place = 0; bytes = bytes } ∷ []) }
+{
+    let mut outputs = Run::new(alloc);
+    append(&mut outputs, Output { place: 0, bytes })?;
+    Ok(outputs)
+}
+
+/// The reply that stores a plan.
+fn reply_with_plan(alloc: Global, instance: &Instance, plan: &Plan) -> Result<Reply, Memory>
+    requires { Fits (tree plan.now) }
+    ensures { IfOk result (λ r. (names : List (List ℕ)) → answer_in names r ≡ drafted instance.now (slice_index_or names 0 []) (tree plan.now)) }
+{
+    let lines = summary_lines(alloc, loss(instance, plan), plates_used(plan))?;
+    let text = write_plan(alloc, instance, plan)?;
+    Ok(Reply {
+        status: Status::Done,
+        outputs: one_output(alloc, text)?,
+        lines,
+    })
+}
+
+/// The reply to an instance without defects: the plan of its draft, which is lawful, or the first item without a place.
+pub(crate) fn draft_instance(alloc: Global, instance: &Instance) -> Result<Reply, Memory>
+    requires { instance.now.defects ≡ [] }
+    ensures { IfOk result (λ r. (names : List (List ℕ)) → Drafts instance.now (slice_index_or names 0 []) (answer_in names r)) }
+{
+    match draft_plan(alloc, instance)? {
+        Ok(plan) => reply_with_plan(alloc, instance, &plan),
+        Err(number) => Ok(reply_with(alloc, no_draft(alloc, number)?)),
+    }
+}

@@ -1,0 +1,53 @@
+//! What the program does behind its runtime.
+
+ghost use Rattle.std.specs.Prelude.{[], IfErr, IfOk, map};
+ghost use Rattle.std.specs.String.{string_bytes};
+ghost use Rattle.glass_run.specs.Exits.{Exits};
+ghost use Rattle.glass_run.specs.Grammar.{line_of};
+ghost use Rattle.glass_run.specs.Runs.{world};
+
+use crate::gate::OpenGate;
+use crate::run::glass;
+use crate::status::Status;
+use glass_io::{Files, Sink, StdFiles, StdSink};
+use std::alloc::Global;
+use std::env::Env;
+use std::io::ErrorKind;
+use std::{env, io, rt};
+
+/// The code that a program ends with that was given these words: that of the status of their run. Words of which one is not text
+/// are taken as none, which are as wrong.
+pub fn exit_code<R, F: Files, S: Sink>(
+    rt: &R,
+    alloc: Global,
+    words: io::Result<Vec<String>>,
+    files: &mut F,
+    out: &mut S,
+) -> u8
+    ensures given { IfOk words (λ given. Exits (line_of (map string_bytes given.items)) (world (F.shelf files.old) (S.paper out.old)) (world (F.shelf files.new) (S.paper out.new)) result) }
+    ensures wrong { IfErr words (λ _. Exits (line_of []) (world (F.shelf files.old) (S.paper out.old)) (world (F.shelf files.new) (S.paper out.new)) result) }
+{
+    let status = match words {
+        Ok(words) => glass(rt, alloc, words.as_slice(), files, out, &OpenGate),
+        Err(e) => match e.kind() {
+            ErrorKind::OutOfMemory => Status::Memory,
+            _ => glass(rt, alloc, &[], files, out, &OpenGate),
+        },
+    };
+    status.code()
+}
+
+/// The words after the program's name. A word that is not text is an error.
+fn words(rt: &(impl Env + AllocGlobal)) -> io::Result<Vec<String>> {
+    let mut words = env::args(rt)?;
+    let _ = words.next();
+    Ok(words.collect(rt.alloc())?)
+}
+
+/// Runs the words of the program over the files of the system and standard output, and gives the code that the program ends with.
+pub fn run_program<R: Env + Print + rt::Files + AllocGlobal>(rt: &R) -> u8 {
+    let alloc = rt.alloc();
+    let mut files = StdFiles::new(rt, alloc);
+    let mut out = StdSink::new(rt);
+    exit_code(rt, alloc, words(rt), &mut files, &mut out)
+}

@@ -1,5 +1,0 @@
-//! Tests of lists, parameters and instances.
-#![tactic(auto)]
-
-#[cfg(test)]
-mod tests;

@@ -1,0 +1,5 @@
+//! Tests of calls of the libraries that no command makes, or whose answers no command shows.
+#![tactic(auto)]
+
+#[cfg(test)]
+mod tests;

@@ -1,5 +1,0 @@
-//! Tests of whole runs over files in memory.
-#![tactic(auto)]
-
-#[cfg(test)]
-mod tests;
