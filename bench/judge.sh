@@ -39,7 +39,38 @@ awk -v header="$header" 'BEGIN {
     print k ";" n ";0;0;6000;3210;-2;0;"; print k ";" n + 1 ";0;0;9;3210;-2;1;" n; print k ";" n + 2 ";0;0;9;9;-2;2;" n + 1; print k ";" n + 3 ";0;0;9;9;-1;3;" n + 2
   }
 }' > "$work/deep.csv"
+# ten plates of small wastes that keep all rules on cuts, and 20,000 defects of 1 by 1 inside the wastes of the last of them, or of all
+awk -v header="$header" '
+  function row(x, y, w, h, type, cut, parent) { print plate ";" node ";" x ";" y ";" w ";" h ";" type ";" cut ";" parent; return node++ }
+  BEGIN {
+    print header
+    node = 0
+    for (plate = 0; plate < 10; plate++) {
+      top = row(0, 0, 6000, 3210, -2, 0, "")
+      for (s = 0; s < 60; s++) {
+        strip = row(100 * s, 0, 100, 3210, -2, 1, top)
+        for (b = 0; b < 32; b++) {
+          high = b < 31 ? 100 : 110
+          band = row(100 * s, 100 * b, 100, high, -2, 2, strip)
+          for (c = 0; c < 5; c++) row(100 * s + 20 * c, 100 * b, 20, high, -1, 3, band)
+        }
+      }
+    }
+  }' > "$work/crowded.csv"
+for plates in 1 10; do
+  awk -v plates="$plates" 'BEGIN {
+    print "DEFECT_ID;PLATE_ID;X;Y;WIDTH;HEIGHT"
+    for (k = 0; k < 20000; k++) {
+      c = int(k / plates)
+      print k ";" 9 - k % plates ";" 20 * (c % 300) + 3 ";" 100 * (int(c / 300) % 32) + 3 + 2 * int(c / 9600) ";1;1"
+    }
+  }' > "$work/crowd-$plates.csv"
+done
 TIMEFORMAT='%R s'
+echo "crowded: $(wc -c < "$work/crowded.csv") bytes, 20000 defects on one plate, and on ten"
+for plates in 1 10; do
+  time taskset -c 0 "$top/glass" judge "$work/batch.csv" "$work/crowd-$plates.csv" "$work/crowded.csv" --params="$work/params.csv" || true
+done
 echo "800 items, 20000 defects"
 time taskset -c 0 "$top/glass" judge "$work/batch.csv" "$work/defects.csv" "$work/plan.csv" --params="$work/params.csv" || true
 for file in flat plates items late deep; do
