@@ -7,7 +7,7 @@ use Rattle.glass_run.specs.Codes.{IsAnswered}
 use Rattle.glass_run.specs.Commands.{Answers}
 use Rattle.glass_run.specs.inner.Deliveries.{Delivers, Ends, HasStored}
 use Rattle.glass_run.specs.Grammar.{Line, files_of}
-use Rattle.glass_run.specs.Runs.{AnswersTold, Completes, CutShort, FailsToRead, IsUnprinted, IsUntouched, LineRun, ReachesTold, Stands, StandsInPart, UsageRun, World, read_fault_line, usage_line, world}
+use Rattle.glass_run.specs.Runs.{AnswersTold, Completes, CutShort, FailsToRead, IsUntouched, LineRun, ReachesTold, Stands, StandsInPart, UsageRun, World, read_fault_line, usage_line, world}
 use Rattle.glass_run.specs.Texts.{Reaches}
 use Rattle.glass_run.specs.declared.status.Status.{Status}
 use Rattle.glass_run.specs.declared.status.Status.TheVariants as status
@@ -15,9 +15,6 @@ use Rattle.glass_run.proofs.Stores.{all_in_part, failed_then, same_faults_then}
 
 untouched : (shelf : Shelf) → IsUntouched shelf shelf
 untouched shelf = record { contents = refl; faults = record { reads = λ of. refl; writes = refl } }
-
-unprinted : (paper : Paper) → IsUnprinted paper paper
-unprinted paper = record { printed = refl; writes = inl refl; sound = refl }
 
 -- the words were no command line
 pub usage_ends : (shelf : Shelf) (p q : Paper) (result : Status) → Ends usage_line status.Usage p q result → UsageRun (world shelf p) (world shelf q) result
@@ -27,13 +24,13 @@ usage_ends shelf p q result h =
       | inl told ↦ subst P (sym told.0) (untouched shelf, told.1)
       | inr later ↦ elim later [
         | inl front ↦ subst P (sym front.0) (untouched shelf, front.1)
-        | inr none ↦ subst P (sym none.0) (untouched shelf, none.1)
+        | inr none ↦ subst P (sym none.0) (untouched shelf, inr none.1)
       ]
     ]
 
 -- memory ran out before there was a reply
 pub stops_early : (line : Line) (a b : Shelf) (p : Paper) → SameContents a.contents b.contents → SameFaults a b → LineRun line (world a p) (world b p) status.Memory
-stops_early line a b p same faults = inl (inl (record { contents = same; faults = faults }), unprinted p)
+stops_early line a b p same faults = inl (inl (record { contents = same; faults = faults }, refl))
 
 -- a read failed
 pub fault_ends : (line : Line) (a b : Shelf) (p q : Paper) (of : Role) (result : Status) → FailsToRead line (world a p) (world b q) of → Ends (read_fault_line of) status.ReadFault p q result →
@@ -44,7 +41,7 @@ fault_ends line a b p q of result fails h =
       | inl told ↦ subst P (sym told.0) (of, fails, told.1)
       | inr later ↦ elim later [
         | inl front ↦ subst P (sym front.0) (inr (inr (of, fails, front.1)))
-        | inr none ↦ subst P (sym none.0) (inl (inr (of, fails), none.1))
+        | inr none ↦ subst P (sym none.0) (inl (inr (of, fails, none.1)))
       ]
     ]
 
@@ -101,7 +98,7 @@ delivery_ends line a b c p q answer result same faults answers is h =
             answers = answers;
             stored = all_in_part answer.stores a.contents c.contents (all done.0);
             faults = sound done.0.faults;
-            unprinted = none.1;
+            unprinted = inr none.1;
           }))
         ]
       ]
@@ -118,7 +115,7 @@ delivery_ends line a b c p q answer result same faults answers is h =
           answers = answers;
           stored = subst (λ (o : Option Contents). StandsInPart answer.stores o c.contents) same part.1.stored;
           faults = sound part.1.faults;
-          unprinted = subst (λ (r : Paper). IsUnprinted p r) (sym part.1.silent) (unprinted p);
+          unprinted = inl part.1.silent;
         }))
       ]
     ]

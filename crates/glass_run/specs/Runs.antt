@@ -61,11 +61,15 @@ pub record PrintsFront (lines : List ℕ) (old new : Paper) : Type 0 where
   pub once : Counted old.writes new.writes
   pub failed : Counted old.faults new.faults
 
--- nothing was printed; one write was asked for at the most, which found no memory
-pub record IsUnprinted (old new : Paper) : Type 0 where
+-- one write was asked for, which found no memory; nothing was printed
+pub record PrintsInVain (old new : Paper) : Type 0 where
   pub printed : SameBytes old.printed new.printed
-  pub writes : (new.writes ≡ old.writes) ⊎ Counted old.writes new.writes
+  pub once : Counted old.writes new.writes
   pub sound : new.faults ≡ old.faults
+
+-- nothing was printed: no write was asked for, or one that found no memory
+abbrev pub IsUnprinted : Paper → Paper → Type 0
+IsUnprinted old new = (new ≡ old) ⊎ PrintsInVain old new
 
 abbrev pub usage_line : List ℕ
 usage_line = codes "usage\n"
@@ -121,9 +125,10 @@ pub record FailsToPrint (line : Line) (old new : World) : Type 0 where
   pub faults : SameFaults old.shelf new.shelf
   pub prints : PrintsFront answer.lines old.paper new.paper
 
--- memory ran out before anything was stored; a fault of a read may have been counted that could not be told
+-- memory ran out before there was an answer; or a read failed, which was counted, and the write that was to tell it found no memory
 abbrev pub StopsEarly : Line → World → World → Type 0
-StopsEarly line old new = (IsUntouched old.shelf new.shelf ⊎ ((of : Role) × FailsToRead line old new of)) × IsUnprinted old.paper new.paper
+StopsEarly line old new =
+    (IsUntouched old.shelf new.shelf × (new.paper ≡ old.paper)) ⊎ ((of : Role) × FailsToRead line old new of × PrintsInVain old.paper new.paper)
 
 -- memory ran out while the answer was stored or printed: some files are stored, and the others are as before
 pub record StopsLate (line : Line) (old new : World) : Type 0 where

@@ -2,7 +2,7 @@
 use Rattle.std.specs.Prelude.{◌≡◌, ◌⊎◌, ℕ, List}
 use Rattle.glass_io.specs.Told.{Paper, SameFaults, Shelf, WriteFailed}
 use Rattle.glass_run.specs.Answers.{Answer}
-use Rattle.glass_run.specs.Runs.{CutShort, IsUnprinted, Prints, PrintsFront, Stands, StandsInPart, World}
+use Rattle.glass_run.specs.Runs.{CutShort, Prints, PrintsFront, PrintsInVain, Stands, StandsInPart, World}
 use Rattle.glass_run.specs.declared.status.Status.{Status}
 use Rattle.glass_run.specs.declared.status.Status.TheVariants as status
 
@@ -11,7 +11,7 @@ abbrev pub Ends : List ℕ → Status → Paper → Paper → Status → Type 0
 Ends lines wanted old new result =
     ((result ≡ wanted) × Prints lines old new)
     ⊎ ((result ≡ status.WriteFault) × PrintsFront lines old new)
-    ⊎ ((result ≡ status.Memory) × IsUnprinted old new)
+    ⊎ ((result ≡ status.Memory) × PrintsInVain old new)
 
 -- all that the answer stores was stored
 pub record HasStored (answer : Answer) (old new : World) : Type 0 where
