@@ -1,9 +1,9 @@
 //! The items that a batch file says.
 
-ghost use Rattle.std.specs.Prelude.{◌≡◌, All, IfOk};
+ghost use Rattle.std.specs.Prelude.{◌≡◌, ◌<◌, ◌^◌, length, All, IfOk};
 ghost use Rattle.csv.specs.Records.{fields_of};
 ghost use Rattle.glass_base.specs.Items.{IsItemInRange};
-ghost use Rattle.csv_table.specs.Readings.{Gives};
+ghost use Rattle.csv_table.specs.Readings.{Gives, each_row};
 ghost use Rattle.batch_csv.specs.Batches.{item_at, items_of};
 
 use csv::ByteRecord;
@@ -40,6 +40,21 @@ fn item_of(row: u64, fields: &ByteRecord) -> Result<Item, BadText>
     })
 }
 
+/// The items of the rows that are left below the header, or the first refusal.
+fn items_below(alloc: Global, rows: &mut Rows<'_>) -> Result<Run<Item>, BadText>
+    requires few { length rows.old < 2 ^ 63 }
+    ensures items { Gives (λ run. run.items) result (each_row item_at 2 rows.old) }
+    ensures ranges { IfOk result (λ run. All IsItemInRange run.items) }
+{
+    let mut items = Run::new(alloc);
+    let mut row = 1u64;
+    'rows: while let Some(fields) = rows.next_row()? {
+        row += 1;
+        append(&mut items, item_of(row, &fields)?)?;
+    }
+    Ok(items)
+}
+
 /// The items of a batch file in the order of its rows, or the first refusal.
 ///
 /// The first row is the header and is skipped, whatever it says. Every other row has the five fields ITEM_ID, LENGTH_ITEM,
@@ -50,12 +65,6 @@ pub fn read_batch(alloc: Global, bytes: &[u8]) -> Result<Run<Item>, BadText>
     ensures ranges { IfOk result (λ run. All IsItemInRange run.items) }
 {
     let mut rows = Rows::new(alloc, bytes);
-    let mut items = Run::new(alloc);
-    let mut row = 1u64;
     rows.next_row()?;
-    'rows: while let Some(fields) = rows.next_row()? {
-        row += 1;
-        append(&mut items, item_of(row, &fields)?)?;
-    }
-    Ok(items)
+    items_below(alloc, &mut rows)
 }

@@ -150,6 +150,22 @@ fn note_unexpected(
     Ok(())
 }
 
+/// Notes in what the end of a run differs from a case: its status, what it printed and the files that it left.
+fn compare_run(
+    alloc: Global,
+    case: &Case,
+    status: Status,
+    files: &MemFiles,
+    sink: &MemSink,
+    differences: &mut Vec<Difference>,
+) -> Result<(), AllocError> {
+    compare_statuses(case, status, differences)?;
+    compare_printed(alloc, case, sink, differences)?;
+    let wanted = files_after(alloc, case)?;
+    compare_files(alloc, &wanted, &files.files, differences)?;
+    note_unexpected(&wanted, &files.files, differences)
+}
+
 /// Runs a case, and says in what its run differs from it.
 pub fn differences_of<R>(
     rt: &R,
@@ -161,10 +177,6 @@ pub fn differences_of<R>(
     let words = case.words.as_slice();
     let status = glass(rt, alloc, words, &mut files, &mut sink, &OpenGate);
     let mut differences = Vec::new(alloc);
-    compare_statuses(case, status, &mut differences)?;
-    compare_printed(alloc, case, &sink, &mut differences)?;
-    let wanted = files_after(alloc, case)?;
-    compare_files(alloc, &wanted, &files.files, &mut differences)?;
-    note_unexpected(&wanted, &files.files, &mut differences)?;
+    compare_run(alloc, case, status, &files, &sink, &mut differences)?;
     Ok(differences)
 }

@@ -62,7 +62,8 @@ pub record IsInside (told : List Row) (number : ℕ) (whole : Row) (at : Area) :
   pub cut : at.cut ≡ whole.cut + 1
   pub corner : GoesOn at.along whole (rows_in number told) at
 
-get_kept : (told more : List Row) (n : ℕ) (r : Row) → slice_get told n ≡ Some r → slice_get (told ++ more) n ≡ Some r
+-- a row keeps its place when more are told
+pub get_kept : (told more : List Row) (n : ℕ) (r : Row) → slice_get told n ≡ Some r → slice_get (told ++ more) n ≡ Some r
 get_kept [] more n r is = cc
 get_kept (s ∷ told) more zero r is = is
 get_kept (s ∷ told) more (suc n) r is = get_kept told more n r is

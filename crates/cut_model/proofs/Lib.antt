@@ -14,3 +14,8 @@ pub mod Examples
 pub mod Cutting
 pub mod RuleExamples
 pub mod Firsts
+pub mod StepRows
+pub mod StepKinds
+pub mod StepSides
+pub mod StepLifts
+pub mod TracesTold

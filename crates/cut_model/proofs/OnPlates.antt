@@ -10,14 +10,14 @@ use Rattle.cut_model.specs.declared.family.Sort.{Sort}
 use Rattle.cut_model.specs.declared.plan.Plate.{Plate}
 use Rattle.cut_model.proofs.Neighbours.{next, none_left, is_last}
 
-count-sized : (b : Problem) (plate : ℕ) (plan : Forest) → count (sized b plate plan) ≡ count plan
+pub count-sized : (b : Problem) (plate : ℕ) (plan : Forest) → count (sized b plate plan) ≡ count plan
 count-sized b plate nothing = refl
 count-sized b plate (piece size sort inner later) = ap (λ n. 1 + count inner + n) (count-sized b (plate + 1) later)
 
 pub count-on_plates : (b : Problem) (plan : Forest) → count (on_plates b plan) ≡ count plan
 count-on_plates b plan = count-sized b 0 plan
 
-neighbour_count-sized : (b : Problem) (plate : ℕ) (plan : Forest) → neighbour_count (sized b plate plan) ≡ neighbour_count plan
+pub neighbour_count-sized : (b : Problem) (plate : ℕ) (plan : Forest) → neighbour_count (sized b plate plan) ≡ neighbour_count plan
 neighbour_count-sized b plate nothing = refl
 neighbour_count-sized b plate (piece size sort inner later) = ap (λ n. 1 + n) (neighbour_count-sized b (plate + 1) later)
 
@@ -39,7 +39,7 @@ next_plate b plates i p d lt is = ap (sized b i) (next _ _ _ plates i p d lt is)
 pub no_plate_left : (b : Problem) (plates : List Plate) (i : ℕ) → length plates ≤ i → sized b i (plates_of (drop i plates)) ≡ nothing
 no_plate_left b plates i le = ap (sized b i) (none_left _ _ _ plates i le)
 
-nothing-sized : (b : Problem) (plate : ℕ) (plan : Forest) → is_nothing (sized b plate plan) ≡ is_nothing plan
+pub nothing-sized : (b : Problem) (plate : ℕ) (plan : Forest) → is_nothing (sized b plate plan) ≡ is_nothing plan
 nothing-sized b plate nothing = refl
 nothing-sized b plate (piece size sort inner later) = refl
 

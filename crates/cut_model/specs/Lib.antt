@@ -15,3 +15,4 @@ pub mod Loss
 pub mod Steps
 pub mod Traces
 pub mod inner
+pub mod ItemSteps

@@ -5,6 +5,7 @@ ghost use Rattle.glass_base.specs.Problem.{Problem};
 ghost use Rattle.cut_model.specs.Families.{families_of, rows_of};
 ghost use Rattle.cut_model.specs.Neighbourhood.{KnowsIfFirst, KnowsIfItEnds, LiesByItsCut, StandsInItsParent};
 ghost use Rattle.cut_model.specs.declared.family.Family.{Family};
+ghost use Rattle.cut_model.specs.ItemSteps.{TracesTellOfRows};
 ghost use Rattle.cut_model.specs.Shape.{IsPlanShaped};
 ghost use Rattle.cut_model.specs.Tree.{Forest, count, neighbour_count, tree};
 ghost use Rattle.cut_model.specs.Numbers.{numbers_from};
@@ -46,4 +47,10 @@ pub fn strips_know_if_they_end()
 /// The pieces of odd cuts lie side by side, those of even cuts one over the other.
 pub fn families_lie_by_their_cuts()
     ensures { (b : Problem) → (plan : Forest) → All LiesByItsCut (families_of b plan) }
+{}
+
+/// Each step of a plan's trace tells of the row of its item: the sides of the strip, the band and the cell in which the item lies,
+/// the outermost level at which its piece is not that of the item before, and whether waste lies under it in its cell.
+pub fn traces_tell_of_their_rows()
+    ensures { TracesTellOfRows }
 {}

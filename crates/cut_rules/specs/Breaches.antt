@@ -1,5 +1,5 @@
 -- Which rule on cuts a plan breaks first, and where.
-use Rattle.std.specs.Prelude.{◌≡◌, ℕ, ◌+◌, List, [], ◌∷◌, Bool, false, min, nat_lt, if◌then◌else◌, position, Option, Some, None, All, MatchOption}
+use Rattle.std.specs.Prelude.{◌≡◌, ℕ, ◌+◌, List, [], ◌∷◌, Bool, false, min, nat_lt, if◌then◌else◌, position, Option, Some, None, All}
 use Rattle.glass_base.specs.declared.item.Defect.{Defect}
 use Rattle.glass_base.specs.Defects.{hits, crosses_x, crosses_y}
 use Rattle.glass_base.specs.Problem.{Problem}

@@ -22,3 +22,4 @@ pub use plates::same_widths;
 pub use role::Role;
 pub use run::{Run, append};
 pub use sizes::Sizes;
+pub use stacks::stack_numbers;

@@ -5,8 +5,7 @@ use Rattle.glass_base.specs.Problem.{Problem}
 use Rattle.cut_model.specs.Lawful.{IsLawful}
 use Rattle.cut_model.specs.Loss.{loss_of}
 use Rattle.cut_model.specs.Tree.{Forest, neighbour_count}
-use Rattle.first_plan.specs.Drafts.{IsDraftPlan}
-use Rattle.first_plan.specs.Strips.{HasNoDraft}
+use Rattle.plan_draft.specs.Drafts.{HasNoDraft, IsDraftPlan}
 use Rattle.plan_csv.specs.Solutions.{solution_text}
 use Rattle.glass_run.specs.declared.status.Status.TheVariants as status
 use Rattle.glass_run.specs.Answers.{Answer, only_lines}

@@ -7,7 +7,7 @@ use Rattle.cut_model.specs.declared.broken.Broken.{Broken}
 use Rattle.cut_model.specs.Lawful.{IsLawful}
 use Rattle.cut_model.specs.Loss.{loss_of}
 use Rattle.cut_model.specs.Tree.{Forest, neighbour_count}
-use Rattle.first_plan.specs.Strips.{HasNoDraft}
+use Rattle.plan_draft.specs.Drafts.{HasNoDraft}
 use Rattle.plan_csv.specs.PlanTexts.{plan_said}
 use Rattle.plan_csv.specs.Solutions.{solution_text}
 use Rattle.glass_run.specs.Commands.{flaws_of, out_of}

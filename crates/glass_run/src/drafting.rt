@@ -1,8 +1,10 @@
 //! What `draft` answers to an instance.
 
-ghost use Rattle.std.specs.Prelude.{◌≡◌, [], ◌∷◌, ℕ, List, IfOk, slice_index_or};
+ghost use Rattle.std.specs.Prelude.{◌≡◌, [], ◌∷◌, ℕ, List, IfOk, MatchResult, slice_index_or};
 ghost use Rattle.cut_model.specs.Fits.{Fits};
 ghost use Rattle.cut_model.specs.Tree.{tree};
+ghost use Rattle.plan_draft.specs.Drafts.{HasNoDraft, IsDraftPlan};
+ghost use Rattle.plan_trace.specs.Claims.{IsGoodPlan};
 ghost use Rattle.glass_run.specs.Drafts.{Drafts, drafted, no_draft as no_draft_of};
 ghost use Rattle.glass_run.specs.inner.Forms.{answer_in, notice_in};
 
@@ -11,10 +13,12 @@ use crate::notices::reply_with;
 use crate::reply::{Notice, Output, Reply};
 use crate::status::Status;
 use cut_model::{Plan, plates_used};
-use first_plan::draft_plan;
+use defect_map::DefectMap;
 use glass_base::{Instance, Memory, Run, append};
 use loss_area::loss;
 use plan_csv::write_plan;
+use plan_draft::draft;
+use plan_trace::plan_of;
 use std::alloc::Global;
 
 /// The notice of an item that has no place.
@@ -50,9 +54,23 @@ fn reply_with_plan(alloc: Global, instance: &Instance, plan: &Plan) -> Result<Re
     })
 }
 
-/// The reply to an instance without defects: the plan of its draft, which is lawful, or the first item without a place.
+/// The plan of the draft, or the number of the first item without a place.
+fn draft_plan(alloc: Global, instance: &Instance) -> Result<Result<Plan, u32>, Memory>
+    ensures drafted { IfOk result (λ drafted. MatchResult drafted (λ plan. IsDraftPlan instance.now (tree plan)) (HasNoDraft instance.now)) }
+    ensures good { IfOk result (λ drafted. IfOk drafted (λ plan. IsGoodPlan instance.now (tree plan))) }
+{
+    let map = DefectMap::new(alloc, instance)?;
+    match draft(alloc, instance, &map)? {
+        Ok(trace) => {
+            let plan = plan_of(alloc, instance, &trace)?;
+            Ok(Ok(plan))
+        }
+        Err(number) => Ok(Err(number)),
+    }
+}
+
+/// The reply to an instance: the plan of its draft, which is lawful, or the first item without a place.
 pub(crate) fn draft_instance(alloc: Global, instance: &Instance) -> Result<Reply, Memory>
-    requires { instance.now.defects ≡ [] }
     ensures { IfOk result (λ r. (names : List (List ℕ)) → Drafts instance.now (slice_index_or names 0 []) (answer_in names r)) }
 {
     match draft_plan(alloc, instance)? {

@@ -1,6 +1,7 @@
-mod Wasting
-mod Areas
-mod Conserved
-mod Plates
-mod Served
-mod Balance
+pub mod Wasting
+pub mod Areas
+pub mod Conserved
+pub mod Plates
+pub mod Served
+pub mod Balance
+mod TraceEnds

@@ -24,7 +24,7 @@ abbrev pub KeepsPlace : Family → Type 0
 KeepsPlace f = IsInPlace f f.sort
 
 -- behind a piece the neighbours lie the same way
-moved_along : (along : Along) (at : Area) (size : ℕ) → (moved along at size).along ≡ at.along
+pub moved_along : (along : Along) (at : Area) (size : ℕ) → (moved along at size).along ≡ at.along
 moved_along Along.Plates at size = refl
 moved_along Along.X at size = refl
 moved_along Along.Y at size = refl
@@ -47,14 +47,14 @@ residual_passed : (at : Area) (first : Bool) (node size : ℕ) (sort : Sort) (in
 residual_passed at first node size sort inner later isnt = ap first_residual (rows_piece at first node size sort inner later) ∙ rw isnt refl
 
 -- so are the rows inside a piece where none of them is a residual
-residual_later : (at : Area) (first : Bool) (node size : ℕ) (sort : Sort) (inner later : Forest) → names_residual (type_number sort) ≡ false →
+pub residual_later : (at : Area) (first : Bool) (node size : ℕ) (sort : Sort) (inner later : Forest) → names_residual (type_number sort) ≡ false →
     first_residual (rows_below at first node size sort inner later) ≡ None →
     first_residual (rows_at at first node (piece size sort inner later)) ≡ first_residual (rows_after at node size inner later)
 residual_later at first node size sort inner later isnt none =
     residual_passed at first node size sort inner later isnt ∙ residual_behind (rows_below at first node size sort inner later) (rows_after at node size inner later) none
 
 -- no piece inside a strip is a residual
-no_residual : (at : Area) (first : Bool) (node level : ℕ) (forest : Forest) → 2 ≤ level → IsShaped level forest → first_residual (rows_at at first node forest) ≡ None
+pub no_residual : (at : Area) (first : Bool) (node level : ℕ) (forest : Forest) → 2 ≤ level → IsShaped level forest → first_residual (rows_at at first node forest) ≡ None
 no_residual at first node level nothing deep shape = ap first_residual (rows_nothing at first node nothing refl)
 no_residual at first node level (piece size sort inner later) deep shape =
     let below = no_residual (inside (family_at at first node size sort inner later)) true (node + 1) (level + 1) inner (omega (arith, deep)) shape.2 in
@@ -71,7 +71,7 @@ not_before last ends Sort.Residual f is e h =
     cc
 
 -- no strip is a residual on a plate before the last one
-none_before_last : (at : Area) (first : Bool) (node : ℕ) (forest : Forest) → at.last ≡ false → IsShaped 1 forest → All KeepsPlace (families at first node forest) → first_residual (rows_at at first node forest) ≡ None
+pub none_before_last : (at : Area) (first : Bool) (node : ℕ) (forest : Forest) → at.last ≡ false → IsShaped 1 forest → All KeepsPlace (families at first node forest) → first_residual (rows_at at first node forest) ≡ None
 none_before_last at first node nothing last shape places = ap first_residual (rows_nothing at first node nothing refl)
 none_before_last at first node (piece size sort inner later) last shape places =
     let h = hold_of KeepsPlace at first node size sort inner later places in
@@ -119,7 +119,7 @@ residual_strip at first node size inner later lies none last =
     )
 
 -- behind a piece that ends a plan there is nothing
-ends_there : (last : Bool) (later : Forest) → (last && is_nothing later) ≡ true → later ≡ nothing
+pub ends_there : (last : Bool) (later : Forest) → (last && is_nothing later) ≡ true → later ≡ nothing
 ends_there last nothing h = refl
 ends_there true (piece size sort inner later) h = cc
 ends_there false (piece size sort inner later) h = cc
@@ -151,7 +151,7 @@ and_false true = refl
 and_false false = refl
 
 -- of a plate and those behind it only the last one has a residual
-plate_residual : (at : Area) (first : Bool) (node size : ℕ) (inner later : Forest) → IsShaped 1 inner → All KeepsPlace (families_below at first node size Sort.Branch inner later) →
+pub plate_residual : (at : Area) (first : Bool) (node size : ℕ) (inner later : Forest) → IsShaped 1 inner → All KeepsPlace (families_below at first node size Sort.Branch inner later) →
     residual_in (rows_at at first node (piece size Sort.Branch inner later)) ≡ residual_in (rows_below at first node size Sort.Branch inner later) + residual_in (rows_after at node size inner later)
 plate_residual at first node size inner nothing shape places =
     let below : List Row = rows_below at first node size Sort.Branch inner nothing in

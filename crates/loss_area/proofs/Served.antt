@@ -28,7 +28,7 @@ use Rattle.cut_model.proofs.Cutting.{items_in, rows_cut, sized_cut}
 use Rattle.loss_area.proofs.Areas.{All-both, area_cut, cut_of, cut_of-append, family_at, hold_of, rows_at, rows_below, rows_after, rows_nothing, rows_piece}
 
 -- different numbers, each among the others, have no greater sum
-sum_within : (f : ℕ → ℕ) (xs ys : List ℕ) → Distinct xs → All (Contains ys) xs → sum_by f xs ≤ sum_by f ys
+pub sum_within : (f : ℕ → ℕ) (xs ys : List ℕ) → Distinct xs → All (Contains ys) xs → sum_by f xs ≤ sum_by f ys
 sum_within f [] ys apart within = omega arith
 sum_within f (x ∷ xs) ys apart within =
     let has = All-head (Contains ys) x xs within in
@@ -64,7 +64,7 @@ ids_area items (item ∷ xs) apart h =
     )
 
 -- numbers of the batch's items, each once, have the area of its items
-order_area : (items : List Item) (order : List ℕ) → AllPairs DifferentIds items → CutsEachOnce items order → sum_by (area_with items) order ≡ area_of items
+pub order_area : (items : List Item) (order : List ℕ) → AllPairs DifferentIds items → CutsEachOnce items order → sum_by (area_with items) order ≡ area_of items
 order_area items order apart h =
     let distinct : Distinct (ids_of items) = pairs_map (λ a b. a ≢ b) (λ (item : Item). item.id) items apart in
     omega (

@@ -97,6 +97,13 @@ fn type_at(row: u64, fields: &ByteRecord) -> Result<i64, BadPlan>
     }
 }
 
+/// The level of the cut that made the piece of a row.
+fn level_at(row: u64, fields: &ByteRecord) -> Result<u32, BadPlan>
+    ensures { result ≡ number_in row 8 4 (field_at (fields_of fields.now) 7) }
+{
+    number_at(row, 8, LEVEL_LIMIT, fields)
+}
+
 /// The node number of a row's parent, if its field has a byte.
 fn parent_at(row: u64, fields: &ByteRecord) -> Result<Option<u64>, BadPlan>
     ensures { result ≡ parent_in row (field_at (fields_of fields.now) 8) }
@@ -124,7 +131,7 @@ pub fn row_of(row: u64, fields: &ByteRecord) -> Result<Row, BadPlan>
     let width = number_at(row, 5, SIDE_LIMIT, fields)?;
     let height = number_at(row, 6, SIDE_LIMIT, fields)?;
     let kind = type_at(row, fields)?;
-    let cut = number_at(row, 8, LEVEL_LIMIT, fields)?;
+    let cut = level_at(row, fields)?;
     let parent = parent_at(row, fields)?;
     Ok(Row {
         plate,

@@ -1,6 +1,6 @@
 //! The plan of a solution text.
 
-ghost use Rattle.std.specs.Prelude.{◌≡◌, ◌≤◌, ◌==◌, ◌&&◌, ◌||◌, not, [], drop, length, IfOk, MatchResult};
+ghost use Rattle.std.specs.Prelude.{◌≡◌, ◌<◌, ◌≤◌, ◌^◌, ◌==◌, ◌&&◌, ◌||◌, not, [], drop, length, IfOk, MatchResult};
 ghost use Rattle.csv.specs.Records.{fields_of};
 ghost use Rattle.csv_table.specs.Rows.{table_rows};
 ghost use Rattle.cut_model.specs.Fits.{Fits};
@@ -41,11 +41,11 @@ fn read_row(
     }
 }
 
-/// Reads all rows.
-fn read_rows(alloc: Global, instance: &Instance, bytes: &[u8]) -> Result<Nodes, BadPlan>
-    ensures { MatchResult result (HasRead (rows_behind instance.now 2 [] (drop 1 (table_rows bytes.now)))) (λ e. Refused e (rows_behind instance.now 2 [] (drop 1 (table_rows bytes.now)))) }
+/// Reads all rows of a table. The first one is the header.
+fn nodes_in(alloc: Global, instance: &Instance, rows: &mut Rows<'_>) -> Result<Nodes, BadPlan>
+    requires few { length rows.old < 2 ^ 63 }
+    ensures { MatchResult result (HasRead (rows_behind instance.now 2 [] (drop 1 rows.old))) (λ e. Refused e (rows_behind instance.now 2 [] (drop 1 rows.old))) }
 {
-    let mut rows = Rows::new(alloc, bytes);
     let mut nodes = Nodes::new(alloc);
     let mut row = 1u64;
     rows.next_row()?;
@@ -54,6 +54,14 @@ fn read_rows(alloc: Global, instance: &Instance, bytes: &[u8]) -> Result<Nodes, 
         read_row(alloc, instance, &mut nodes, row, &fields)?;
     }
     Ok(nodes)
+}
+
+/// Reads all rows of a text.
+fn read_rows(alloc: Global, instance: &Instance, bytes: &[u8]) -> Result<Nodes, BadPlan>
+    ensures { MatchResult result (HasRead (rows_behind instance.now 2 [] (drop 1 (table_rows bytes.now)))) (λ e. Refused e (rows_behind instance.now 2 [] (drop 1 (table_rows bytes.now)))) }
+{
+    let mut rows = Rows::new(alloc, bytes);
+    nodes_in(alloc, instance, &mut rows)
 }
 
 /// How many children a row has.

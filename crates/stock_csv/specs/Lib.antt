@@ -1,3 +1,4 @@
 pub mod DefectRows
 pub mod Settings
 pub mod PlateRows
+pub mod inner

@@ -1,9 +1,9 @@
 //! The defects that a defects file says.
 
-ghost use Rattle.std.specs.Prelude.{◌≡◌, All, IfOk};
+ghost use Rattle.std.specs.Prelude.{◌≡◌, ◌<◌, ◌^◌, drop, length, All, IfOk};
 ghost use Rattle.csv.specs.Records.{fields_of};
 ghost use Rattle.glass_base.specs.Items.{IsDefectInRange};
-ghost use Rattle.csv_table.specs.Readings.{Gives};
+ghost use Rattle.csv_table.specs.Readings.{Gives, each_row};
 ghost use Rattle.stock_csv.specs.DefectRows.{defect_at, defects_of};
 
 use crate::widening::widened;
@@ -36,6 +36,22 @@ fn defect_of(row: u64, fields: &ByteRecord) -> Result<Defect, BadText>
     widened(row, plate, x, y, width, height)
 }
 
+/// The defects of a table in the order of its rows, or the first refusal. The first row is the header.
+fn defects_in(alloc: Global, rows: &mut Rows<'_>) -> Result<Run<Defect>, BadText>
+    requires few { length rows.old < 2 ^ 63 }
+    ensures defects { Gives (λ run. run.items) result (each_row defect_at 2 (drop 1 rows.old)) }
+    ensures ranges { IfOk result (λ run. All IsDefectInRange run.items) }
+{
+    let mut defects = Run::new(alloc);
+    let mut row = 1u64;
+    rows.next_row()?;
+    'rows: while let Some(fields) = rows.next_row()? {
+        row += 1;
+        append(&mut defects, defect_of(row, &fields)?)?;
+    }
+    Ok(defects)
+}
+
 /// The defects of a defects file in the order of its rows, or the first refusal.
 ///
 /// The first row is the header and is skipped, whatever it says. Every other row has the six fields DEFECT_ID, PLATE_ID, X, Y,
@@ -46,12 +62,5 @@ pub fn read_defects(alloc: Global, bytes: &[u8]) -> Result<Run<Defect>, BadText>
     ensures ranges { IfOk result (λ run. All IsDefectInRange run.items) }
 {
     let mut rows = Rows::new(alloc, bytes);
-    let mut defects = Run::new(alloc);
-    let mut row = 1u64;
-    rows.next_row()?;
-    'rows: while let Some(fields) = rows.next_row()? {
-        row += 1;
-        append(&mut defects, defect_of(row, &fields)?)?;
-    }
-    Ok(defects)
+    defects_in(alloc, &mut rows)
 }

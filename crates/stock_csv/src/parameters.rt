@@ -1,8 +1,9 @@
 //! The parameters that a parameters file says.
 
-ghost use Rattle.std.specs.Prelude.{◌≡◌, IfOk, IfErr};
+ghost use Rattle.std.specs.Prelude.{◌≡◌, ◌<◌, ◌^◌, drop, length, IfOk, IfErr};
 ghost use Rattle.std.specs.Str.{bytes_eq};
 ghost use Rattle.csv.specs.Records.{field_at, fields_of};
+ghost use Rattle.csv_table.specs.Readings.{each_row};
 ghost use Rattle.stock_csv.specs.Settings.{ReadAs, GivesSizes, RefusesSettings, parameter_in, parameter_named, set_by, set_to, setting_at, settings_of};
 
 use csv::ByteRecord;
@@ -135,11 +136,11 @@ fn setting_of(row: u64, fields: &ByteRecord) -> Result<Option<Setting>, BadText>
     }
 }
 
-/// The usual sizes with those that a file sets, or its first refusal.
-fn read_sizes(alloc: Global, bytes: &[u8]) -> Result<Sizes, BadText>
-    ensures { GivesSizes result (settings_of bytes.now) }
+/// The usual sizes with those that the rows of a table set, or its first refusal. The first row is the header.
+fn sizes_in(rows: &mut Rows<'_>) -> Result<Sizes, BadText>
+    requires few { length rows.old < 2 ^ 63 }
+    ensures { GivesSizes result (each_row setting_at 2 (drop 1 rows.old)) }
 {
-    let mut rows = Rows::new(alloc, bytes);
     let mut sizes = Sizes::usual();
     let mut row = 1u64;
     rows.next_row()?;
@@ -148,6 +149,14 @@ fn read_sizes(alloc: Global, bytes: &[u8]) -> Result<Sizes, BadText>
         sizes = with_setting(sizes, setting_of(row, &fields)?);
     }
     Ok(sizes)
+}
+
+/// The usual sizes with those that a file sets, or its first refusal.
+fn read_sizes(alloc: Global, bytes: &[u8]) -> Result<Sizes, BadText>
+    ensures { GivesSizes result (settings_of bytes.now) }
+{
+    let mut rows = Rows::new(alloc, bytes);
+    sizes_in(&mut rows)
 }
 
 /// The parameters of a parameters file, or the first refusal.

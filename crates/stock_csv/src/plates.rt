@@ -1,10 +1,11 @@
 //! The widths of plates that a plates file says.
 
-ghost use Rattle.std.specs.Prelude.{◌≡◌, IfOk};
+ghost use Rattle.std.specs.Prelude.{◌≡◌, ◌<◌, ◌^◌, drop, length, IfOk};
 ghost use Rattle.csv.specs.Records.{fields_of};
 ghost use Rattle.glass_base.specs.Widths.{AreWidths, IsWidth};
-ghost use Rattle.csv_table.specs.Readings.{Gives};
+ghost use Rattle.csv_table.specs.Readings.{Gives, each_row};
 ghost use Rattle.stock_csv.specs.PlateRows.{plate_at, widths_said, with_width};
+ghost use Rattle.stock_csv.specs.inner.WidthRows.{widths_by};
 
 use csv::ByteRecord;
 use csv_table::{Rows, whole_at};
@@ -52,6 +53,22 @@ fn set_width(widths: &mut Run<u32>, plate: PlateWidth)
     }
 }
 
+/// The widths of all plates by the rows of a table, or the first refusal. The first row is the header.
+fn widths_in(alloc: Global, params: &Params, rows: &mut Rows<'_>) -> Result<Run<u32>, BadText>
+    requires few { length rows.old < 2 ^ 63 }
+    ensures widths { Gives (λ run. run.items) result (widths_by params.now (each_row plate_at 2 (drop 1 rows.old))) }
+    ensures ranges { IfOk result (λ run. AreWidths params.now run.items) }
+{
+    let mut widths = same_widths(alloc, params)?;
+    let mut row = 1u64;
+    rows.next_row()?;
+    'rows: while let Some(fields) = rows.next_row()? {
+        row += 1;
+        set_width(&mut widths, plate_of(row, &fields)?);
+    }
+    Ok(widths)
+}
+
 /// The widths of all plates by a plates file, or the first refusal.
 ///
 /// The first row is the header and is skipped, whatever it says. Every other row has two fields, the number of a plate and its
@@ -63,12 +80,5 @@ pub fn read_plates(alloc: Global, params: &Params, bytes: &[u8]) -> Result<Run<u
     ensures ranges { IfOk result (λ run. AreWidths params.now run.items) }
 {
     let mut rows = Rows::new(alloc, bytes);
-    let mut widths = same_widths(alloc, params)?;
-    let mut row = 1u64;
-    rows.next_row()?;
-    'rows: while let Some(fields) = rows.next_row()? {
-        row += 1;
-        set_width(&mut widths, plate_of(row, &fields)?);
-    }
-    Ok(widths)
+    widths_in(alloc, params, &mut rows)
 }

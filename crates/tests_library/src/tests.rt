@@ -1,4 +1,6 @@
 ghost use Rattle.std.specs.Prelude.{◌≡◌, [], ◌∷◌, IfOk, All};
+ghost use Rattle.cut_model.specs.Fits.{Fits};
+ghost use Rattle.cut_model.specs.Tree.{tree};
 ghost use Rattle.glass_base.specs.Items.{IsDefectInRange, IsItemInRange};
 
 use cut_model::{Body1, Piece1, Plan, Plate, fits, rows};
@@ -8,6 +10,7 @@ use glass_base::{Defect, Instance, Item, Memory, Params, Run, append};
 use loss_area::loss;
 use stack_order::judge_order;
 use std::alloc::Global;
+use std::process::Abort;
 use std::test::Fail;
 
 fn one<T: Drop>(alloc: Global, value: T) -> Result<Run<T>, Memory>
@@ -81,9 +84,7 @@ fn runs_keep_their_room(rt: HostRuntime) -> Result<(), Fail> {
     Ok(())
 }
 
-#[test]
-fn an_instance_has_its_lists(rt: HostRuntime) -> Result<(), Fail> {
-    let instance = flawed(rt.alloc())?;
+fn has_its_lists(rt: &impl Abort, instance: &Instance) {
     assert_eq!(rt; (instance.area(), instance.stacks()), (3_210_000, 1));
     assert_eq!(rt; instance.stack(0), [0].as_slice());
     assert_eq!(rt; (instance.items().len(), instance.defects().len()), (1, 1));
@@ -95,12 +96,16 @@ fn an_instance_has_its_lists(rt: HostRuntime) -> Result<(), Fail> {
         ),
         (3210, 6000, 12_000)
     );
-    Ok(())
 }
 
 #[test]
-fn defects_stand_in_the_way(rt: HostRuntime) -> Result<(), Fail> {
-    let map = DefectMap::new(rt.alloc(), &flawed(rt.alloc())?)?;
+fn an_instance_has_its_lists(rt: HostRuntime) -> Result<(), Fail> {
+    let instance = flawed(rt.alloc())?;
+    has_its_lists(&rt, &instance);
+    Ok(())
+}
+
+fn stands_in_the_way(rt: &impl Abort, map: &DefectMap) {
     let hits = (
         map.hits(0, 1050, 90, 1061, 96),
         map.hits_all(0, (1010, 1065), 60, (50, 100), 50),
@@ -119,25 +124,60 @@ fn defects_stand_in_the_way(rt: HostRuntime) -> Result<(), Fail> {
         map.crosses_y_all(0, (96, 105), 0, 6000),
     );
     assert_eq!(rt; crosses_y, (true, true, false));
+}
+
+#[test]
+fn defects_stand_in_the_way(rt: HostRuntime) -> Result<(), Fail> {
+    let map = DefectMap::new(rt.alloc(), &flawed(rt.alloc())?)?;
+    stands_in_the_way(&rt, &map);
     Ok(())
+}
+
+fn row_count(alloc: Global, instance: &Instance, plan: &Plan) -> Result<usize, Fail>
+    requires { Fits (tree plan.now) }
+{
+    Ok(rows(alloc, instance, plan)?.len())
+}
+
+fn keeps_cut_rules(alloc: Global, instance: &Instance, plan: &Plan) -> Result<bool, Fail>
+    requires { Fits (tree plan.now) }
+{
+    let map = DefectMap::new(alloc, instance)?;
+    Ok(judge_cuts(instance, &map, plan).is_ok())
+}
+
+fn keeps_order(alloc: Global, instance: &Instance, plan: &Plan) -> Result<bool, Fail>
+    requires { Fits (tree plan.now) }
+{
+    Ok(judge_order(alloc, instance, plan)?.is_ok())
+}
+
+/// The number of rows of a plan, whether the judges find it lawful, and its loss.
+fn judged(alloc: Global, instance: &Instance, plan: &Plan) -> Result<(usize, bool, bool, u64), Fail>
+    requires { Fits (tree plan.now) }
+{
+    Ok((
+        row_count(alloc, instance, plan)?,
+        keeps_cut_rules(alloc, instance, plan)?,
+        keeps_order(alloc, instance, plan)?,
+        loss(instance, plan),
+    ))
+}
+
+fn plan_judged(
+    rt: &impl Abort,
+    alloc: Global,
+    instance: &Instance,
+) -> Result<(usize, bool, bool, u64), Fail> {
+    let plan = plan(alloc)?;
+    assert!(rt; fits(&plan));
+    judged(alloc, instance, &plan)
 }
 
 #[test]
 fn a_plan_is_judged(rt: HostRuntime) -> Result<(), Fail> {
     let instance = flawed(rt.alloc())?;
-    let map = DefectMap::new(rt.alloc(), &instance)?;
-    let plan = plan(rt.alloc())?;
-    assert!(rt; fits(&plan));
-    let rows = rows(rt.alloc(), &instance, &plan)?;
-    let order = judge_order(rt.alloc(), &instance, &plan)?;
-    assert_eq!(rt;
-        (
-            rows.len(),
-            judge_cuts(&instance, &map, &plan).is_ok(),
-            order.is_ok(),
-            loss(&instance, &plan)
-        ),
-        (3, true, true, 0)
-    );
+    let answers = plan_judged(&rt, rt.alloc(), &instance)?;
+    assert_eq!(rt; answers, (3, true, true, 0));
     Ok(())
 }

@@ -1,6 +1,6 @@
 -- The last steps of a run.
 use Rattle.std.specs.Prelude.{◌≡◌, ◌⊎◌, ℕ, List}
-use Rattle.glass_io.specs.Told.{Paper, SameFaults, Shelf, WriteFailed}
+use Rattle.glass_io.specs.Told.{Paper, SameFaults, WriteFailed}
 use Rattle.glass_run.specs.Answers.{Answer}
 use Rattle.glass_run.specs.Runs.{CutShort, Prints, PrintsFront, PrintsInVain, Stands, StandsInPart, World}
 use Rattle.glass_run.specs.declared.status.Status.{Status}

@@ -1,19 +1,10 @@
-use Rattle.std.proofs.Common.{◌≡◌, ◌+◌, ◌∙◌, length, sym, arith}
-use Rattle.std.proofs.lemmas.List.Elements.{All-push}
-use Rattle.csv.specs.Records.{fields_of}
-use Rattle.batch_csv.specs.Batches.{item_at}
-use Rattle.glass_base.specs.Items.{IsItemInRange}
-use Rattle.csv_table.proofs.Tables.{with_front-more}
+use Rattle.std.proofs.Common.{◌≡◌, ◌∙◌, drop, ap}
+use Rattle.csv_table.specs.Rows.{table_rows}
+use Rattle.batch_csv.proofs.ItemRows.{begun}
 use Rattle.batch_csv.proofs.reading.read_batch.Goals as goal
 
-pub rows-preserved : goal.rows-preserved
-rows-preserved c =
-    let items = c.in_ok-append.ensures.ok in
-    let rest = rw c.in-Some.is at c.in_ok-fields.ensures.ok in
-    let more = with_front-more item_at c.rows.items.items (c.rows.row + 1) (fields_of c.in-Some.fields) c.next_row-in-rows.new.self c.in_ok-item_of.field-0 (sym c.item_of.ensures.value ∙ c.in_ok-item_of.was) in
-    let size : length c.rows.rows ≡ length c.next_row-in-rows.new.self + 1 = rw rest (omega arith) in
-    record {
-      same = rw items more ∙ rw rest at c.rows.invariant.same;
-      in_range = rw items (All-push IsItemInRange c.rows.items.items c.in_ok-item_of.field-0 c.rows.invariant.in_range c.in_ok-item_of.ensures.range);
-      few = omega (arith, c.rows.invariant.few, size);
-    }
+pub returns-clause-items : goal.returns-clause-items
+returns-clause-items c =
+    let left : c.next_row.new.self ≡ drop 1 (table_rows c.args.bytes.now) =
+    begun _ _ c.in_ok-next_row.field-0 c.in_ok-next_row.ensures.ok ∙ ap (drop 1) c.new-rows.ensures.value in
+    rw left at c.items_below.ensures.items

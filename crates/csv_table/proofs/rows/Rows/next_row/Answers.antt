@@ -1,4 +1,4 @@
-use Rattle.std.proofs.Common.{refl}
+use Rattle.std.proofs.Common.{refl, rules}
 use Rattle.csv_table.proofs.RowFacts.{open-next, open-none}
 use Rattle.csv_table.proofs.rows.Rows.next_row.Goals as goal
 
@@ -23,3 +23,6 @@ returns-in-Some-Ok-clause-ok c =
     let s = rw (c.in-Some-Ok.is, c.in-Some-Ok.field-0-is) at (steps.0 ready_now.ready) in
     let f = rw (c.in-Some-Ok.is, c.in-Some-Ok.field-0-is) at steps.3 in
     rw (← c.self.view_is, c.if-self.false) (open-next c.self.inside.records c.next.new.self c.in-Some-Ok.row ready_now s f).1
+
+pub invariant_of-self-in-Some-Err : goal.invariant_of-self-in-Some-Err
+invariant_of-self-in-Some-Err c = search rules

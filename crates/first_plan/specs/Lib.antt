@@ -1,3 +1,0 @@
-pub mod Strips
-pub mod Drafts
-pub mod inner

@@ -1,3 +1,0 @@
-pub mod Drawings
-pub mod Choices
-pub mod Extents

@@ -1,0 +1,17 @@
+pub mod Skips
+pub mod Truth
+pub mod Tops
+pub mod Bottoms
+pub mod Ranks
+pub mod Standing
+pub mod Beginnings
+pub mod StepRanks
+pub mod Appending
+pub mod Placing
+pub mod Following
+pub mod Taking
+pub mod Stacking
+pub mod Drawing
+pub mod Gathered
+pub mod Ones
+pub mod Complete

@@ -1,0 +1,137 @@
+//! The sides of a band in which an item stands alone.
+
+ghost use Rattle.std.specs.Prelude.{◌≡◌, ◌↔◌, ◌+◌, ◌<◌, ◌≤◌, ◌^◌, IsTrue, MatchOption};
+ghost use Rattle.plan_draft.specs.inner.Least.{HasNone, IsLeast, IsSkip};
+ghost use Rattle.plan_draft.specs.inner.Places.{HasBand, IsBeside, IsBottomOf, IsLeastBand, IsOver, IsTop, IsTopOf};
+
+use crate::lines::{blocked_item, blocked_level, is_clear_x, is_clear_y, level_from};
+use crate::place::{Band, Sides};
+use crate::site::Site;
+
+/// The least upper side of a band from `least` on, in a strip from `left` to `right`.
+fn top_from(site: Site, left: u32, right: u32, least: u32) -> Option<u32>
+    requires { left < right }
+    ensures { let b = site.entry.instance.now in MatchOption result (HasNone (IsTop b site.entry.plate left right) least) (IsLeast (IsTop b site.entry.plate left right) least) }
+{
+    let params = site.instance.params();
+    let top = level_from(site, least, left, right);
+    if u64::from(top) + u64::from(params.waste) <= u64::from(params.height) {
+        return Some(top);
+    }
+    if least <= params.height {
+        Some(params.height)
+    } else {
+        None
+    }
+}
+
+/// Whether the upper side of a band may stand here, in a strip from `left` to `right`.
+fn is_top(site: Site, left: u32, right: u32, top: u32) -> bool
+    requires { left < right }
+    ensures { IsTrue result ↔ IsTop site.entry.instance.now site.entry.plate left right top }
+{
+    let params = site.instance.params();
+    top == params.height
+        || u64::from(top) + u64::from(params.waste) <= u64::from(params.height)
+            && is_clear_y(site, top, left, right)
+}
+
+/// Whether the line beside an item at `left`, from c to d, runs through no defect, where the strip goes on behind the item.
+fn is_beside(site: Site, left: u32, right: u32, item: Sides, c: u32, d: u32) -> bool
+    requires left { left ≤ 40000 }
+    requires band { c < d }
+    ensures { IsTrue result ↔ IsBeside site.entry.instance.now site.entry.plate left right item.w c d }
+{
+    left + item.w == right || is_clear_x(site, left + item.w, c, d)
+}
+
+/// Whether a band from c on that the item fills may stand, in a strip from `left` to `right`.
+fn fills(site: Site, left: u32, right: u32, item: Sides, c: u32) -> bool
+    requires strip { left < right }
+    requires left { left ≤ 40000 }
+    requires low { c ≤ 40000 }
+    ensures { IsTrue result ↔ IsTopOf site.entry.instance.now site.entry.plate left right item.w item.h c (c + item.h) }
+{
+    let top = c + item.h;
+    site.instance.params().min2 <= item.h
+        && is_top(site, left, right, top)
+        && is_beside(site, left, right, item, c, top)
+}
+
+/// The least upper side of a band from c on that leaves a waste over the item.
+fn top_over(site: Site, left: u32, right: u32, item: Sides, c: u32) -> Option<u32>
+    requires strip { left < right }
+    requires left { left ≤ 40000 }
+    requires low { c ≤ 40000 }
+    ensures { let b = site.entry.instance.now in MatchOption result (HasNone (IsOver b site.entry.plate left right item.w item.h c) 0) (IsLeast (IsOver b site.entry.plate left right item.w item.h c) 0) }
+{
+    let params = site.instance.params();
+    if item.w < params.waste || !is_clear_y(site, c + item.h, left, left + item.w) {
+        return None;
+    }
+    let least = c + params.min2.max(item.h + params.waste);
+    match top_from(site, left, right, least) {
+        None => None,
+        Some(top) => {
+            if is_beside(site, left, right, item, c, top) {
+                Some(top)
+            } else {
+                None
+            }
+        }
+    }
+}
+
+/// The least upper side of the band of an item that stands at (left, c), in a strip from `left` to `right`.
+fn top_of(site: Site, left: u32, right: u32, item: Sides, c: u32) -> Option<u32>
+    requires strip { left < right }
+    requires left { left ≤ 40000 }
+    requires low { c ≤ 40000 }
+    ensures { let b = site.entry.instance.now in MatchOption result (HasNone (IsTopOf b site.entry.plate left right item.w item.h c) 0) (IsLeast (IsTopOf b site.entry.plate left right item.w item.h c) 0) }
+{
+    if fills(site, left, right, item, c) {
+        Some(c + item.h)
+    } else {
+        top_over(site, left, right, item, c)
+    }
+}
+
+/// The next place above c where the lower side of the item's band may stand, if it may not stand at c.
+fn blocked_bottom(site: Site, left: u32, right: u32, item: Sides, c: u32) -> Option<u32>
+    requires strip { left < right }
+    requires left { left ≤ 40000 }
+    requires low { c ≤ 40000 }
+    ensures { let b = site.entry.instance.now in MatchOption result (IsBottomOf b site.entry.plate left right item.w item.h c) (IsSkip (IsBottomOf b site.entry.plate left right item.w item.h) c) }
+{
+    if c == 0 {
+        return blocked_item(site, left, 0, item);
+    }
+    let waste = site.instance.params().waste;
+    if c < waste {
+        return Some(waste);
+    }
+    match blocked_level(site, c, left, right) {
+        Some(next) => Some(next),
+        None => blocked_item(site, left, c, item),
+    }
+}
+
+/// The least band of an item that stands at the left side of a strip from `left` to `right`, from this lower side on.
+pub fn band_from(site: Site, left: u32, right: u32, item: Sides) -> Option<Band>
+    requires strip { left < right }
+    requires left { left ≤ 40000 }
+    ensures { let b = site.entry.instance.now in MatchOption result (HasNone (HasBand b site.entry.plate left right item.w item.h) 0) (IsLeastBand b site.entry.plate left right item.w item.h 0) }
+{
+    let height = site.instance.params().height;
+    let mut c = 0;
+    while c + item.h <= height {
+        match blocked_bottom(site, left, right, item, c) {
+            Some(next) => c = next,
+            None => match top_of(site, left, right, item, c) {
+                Some(d) => return Some(Band { c, d }),
+                None => c += 1,
+            },
+        }
+    }
+    None
+}

@@ -1,0 +1,4 @@
+pub mod Laid
+pub mod Piles
+pub mod Shape
+pub mod Tellings

@@ -1,0 +1,17 @@
+//! Traces: their rules, the canonical plan of a trace that meets them, and the trace of a lawful plan.
+#![tactic(auto)]
+
+mod growing;
+mod here;
+mod laid;
+pub mod laws;
+pub mod level;
+mod lines;
+pub mod meeting;
+pub mod planning;
+mod rules;
+pub mod tracing;
+
+pub use meeting::{TraceBroken, meets};
+pub use planning::plan_of;
+pub use tracing::trace_of;

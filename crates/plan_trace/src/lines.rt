@@ -1,0 +1,172 @@
+//! The rules of a trace on defects, each as a test of one step that is in its place.
+
+ghost use Rattle.std.specs.Prelude.{◌≡◌, ◌↔◌, ◌+◌, ◌-◌, ◌<◌, ◌≤◌, IsTrue};
+ghost use Rattle.plan_trace.specs.inner.Laid.{BandClear, CellClear, cut_of, IsFitted, LowerClear, StripClear, UpperClear};
+ghost use Rattle.plan_trace.specs.TraceRules.{CrossesNoneX, CrossesNoneY, HitsNone, LiftLine, TR8, TR9, bottom as bottom_of};
+
+use crate::laid::Laid;
+use crate::level::Level;
+use defect_map::DefectMap;
+use glass_base::{Instance, Params};
+
+/// Whether an upright line runs through no defect of the plate.
+#[tactic(auto, using(crate::proofs::LaidLemmas::none_passes))]
+fn is_clear_x(map: &DefectMap, plate: u32, x: u32, y0: u32, y1: u32) -> bool
+    requires { y0 < y1 }
+    ensures { IsTrue result ↔ CrossesNoneX map.now plate x y0 y1 }
+{
+    !map.crosses_x(plate, x, y0, y1)
+}
+
+/// Whether a level line runs through no defect of the plate.
+#[tactic(auto, using(crate::proofs::LaidLemmas::none_passes))]
+fn is_clear_y(map: &DefectMap, plate: u32, y: u32, x0: u32, x1: u32) -> bool
+    requires { x0 < x1 }
+    ensures { IsTrue result ↔ CrossesNoneY map.now plate y x0 x1 }
+{
+    !map.crosses_y(plate, y, x0, x1)
+}
+
+/// Whether the inside of a rectangle meets no defect of the plate.
+#[tactic(auto, using(crate::proofs::LaidLemmas::none_passes))]
+fn is_clear(map: &DefectMap, plate: u32, x0: u32, y0: u32, x1: u32, y1: u32) -> bool
+    requires wide { x0 < x1 }
+    requires high { y0 < y1 }
+    ensures { IsTrue result ↔ HitsNone map.now plate x0 y0 x1 y1 }
+{
+    !map.hits(plate, x0, y0, x1, y1)
+}
+
+/// The lower side of a step's item.
+fn bottom(s: &Laid) -> u32
+    requires { s.now.h ≤ s.now.step.d }
+    ensures { result ≡ bottom_of s.now.level s.now.step.lift s.now.step.c s.now.step.d s.now.h }
+{
+    let high = s.step.d - s.h;
+    let low = if s.step.lift == 0 { s.step.c } else { high };
+    match s.level {
+        Level::NewPlate => low,
+        Level::NewStrip => low,
+        Level::NewBand => low,
+        Level::NewCell => low,
+        Level::Over => high,
+    }
+}
+
+/// Whether the inside of the item meets no defect.
+pub fn keeps8(map: &DefectMap, s: &Laid) -> bool
+    requires { IsFitted s.now }
+    ensures { IsTrue result ↔ TR8 map.now s.now.level (cut_of s.now) }
+{
+    let y = bottom(s);
+    is_clear(
+        map,
+        s.plates.saturating_sub(1),
+        s.step.e,
+        y,
+        s.step.e + s.w,
+        y + s.h,
+    )
+}
+
+/// Whether the sides of the strip run through no defect.
+fn strip_clear(instance: &Instance, map: &DefectMap, s: &Laid) -> bool
+    ensures { IsTrue result ↔ StripClear instance.now map.now (cut_of s.now) }
+{
+    let height = instance.params().height;
+    let plate = s.plates.saturating_sub(1);
+    (s.step.a == 0 || is_clear_x(map, plate, s.step.a, 0, height))
+        && (s.step.b >= instance.width(plate) || is_clear_x(map, plate, s.step.b, 0, height))
+}
+
+/// Whether the sides of the band run through no defect.
+fn band_clear(params: &Params, map: &DefectMap, s: &Laid) -> bool
+    requires { IsFitted s.now }
+    ensures { IsTrue result ↔ BandClear params.now map.now (cut_of s.now) }
+{
+    let plate = s.plates.saturating_sub(1);
+    (s.step.c == 0 || is_clear_y(map, plate, s.step.c, s.step.a, s.step.b))
+        && (s.step.d >= params.height || is_clear_y(map, plate, s.step.d, s.step.a, s.step.b))
+}
+
+/// Whether the sides of the item's cell run through no defect.
+fn cell_clear(map: &DefectMap, s: &Laid) -> bool
+    requires { IsFitted s.now }
+    ensures { IsTrue result ↔ CellClear map.now (cut_of s.now) }
+{
+    let plate = s.plates.saturating_sub(1);
+    let end = s.step.e + s.w;
+    (s.step.e <= s.step.a || is_clear_x(map, plate, s.step.e, s.step.c, s.step.d))
+        && (end >= s.step.b || is_clear_x(map, plate, end, s.step.c, s.step.d))
+}
+
+/// Whether the line above an item that does not fill its cell runs through no defect.
+fn upper_clear(map: &DefectMap, s: &Laid) -> bool
+    requires { IsFitted s.now }
+    ensures { IsTrue result ↔ UpperClear map.now (cut_of s.now) }
+{
+    let top = s.step.c + s.h;
+    top >= s.step.d
+        || is_clear_y(
+            map,
+            s.plates.saturating_sub(1),
+            top,
+            s.step.e,
+            s.step.e + s.w,
+        )
+}
+
+/// Whether the line below a lifted item runs through no defect.
+fn lower_clear(map: &DefectMap, s: &Laid) -> bool
+    requires { IsFitted s.now }
+    ensures { IsTrue result ↔ LowerClear map.now (cut_of s.now) }
+{
+    is_clear_y(
+        map,
+        s.plates.saturating_sub(1),
+        s.step.d - s.h,
+        s.step.e,
+        s.step.e + s.w,
+    )
+}
+
+/// Whether the line between the item and the waste of its cell runs through no defect.
+fn lift_clear(map: &DefectMap, s: &Laid) -> bool
+    requires { IsFitted s.now }
+    ensures { IsTrue result ↔ LiftLine map.now s.now.level s.now.step.lift (cut_of s.now) }
+{
+    if s.step.lift != 0 {
+        return lower_clear(map, s);
+    }
+    match s.level {
+        Level::NewPlate => upper_clear(map, s),
+        Level::NewStrip => upper_clear(map, s),
+        Level::NewBand => upper_clear(map, s),
+        Level::NewCell => upper_clear(map, s),
+        Level::Over => true,
+    }
+}
+
+/// Whether the sides of strip and band run through no defect.
+fn outer_clear(instance: &Instance, map: &DefectMap, s: &Laid) -> bool
+    requires { IsFitted s.now }
+    ensures { IsTrue result ↔ (StripClear instance.now map.now (cut_of s.now) × BandClear instance.now.params map.now (cut_of s.now)) }
+{
+    strip_clear(instance, map, s) && band_clear(instance.params(), map, s)
+}
+
+/// Whether the lines in the band run through no defect.
+fn inner_clear(map: &DefectMap, s: &Laid) -> bool
+    requires { IsFitted s.now }
+    ensures { IsTrue result ↔ (CellClear map.now (cut_of s.now) × LiftLine map.now s.now.level s.now.step.lift (cut_of s.now)) }
+{
+    cell_clear(map, s) && lift_clear(map, s)
+}
+
+/// Whether the lines of the step's cuts run through no defect.
+pub fn keeps9(instance: &Instance, map: &DefectMap, s: &Laid) -> bool
+    requires { IsFitted s.now }
+    ensures { IsTrue result ↔ TR9 instance.now map.now s.now.level (cut_of s.now) }
+{
+    outer_clear(instance, map, s) && inner_clear(map, s)
+}

@@ -1,0 +1,101 @@
+//! Whether a trace meets the rules.
+
+ghost use Rattle.std.specs.Prelude.{◌≡◌, ◌↔◌, ◌<◌, ◌≤◌, ◌^◌, ℕ, IsTrue, length, MatchOption, MatchResult};
+ghost use Rattle.plan_trace.specs.Broken.{BreaksFirst, IsFirstBroken, RuleHolds};
+ghost use Rattle.plan_trace.specs.inner.Laid.{ahead, cut_of, IsFitted};
+ghost use Rattle.plan_trace.specs.TraceRules.{Meets, RuleOf};
+
+use crate::laid::Laid;
+use crate::lines::{keeps8, keeps9};
+use crate::rules::{keeps1, keeps2, keeps3, keeps4, keeps5, keeps6, keeps7};
+use cut_model::{Step, Trace};
+use defect_map::DefectMap;
+use glass_base::Instance;
+use thiserror::Error;
+
+/// The first rule that a trace breaks, by its number from 1 on, and the first step that breaks it, from 0 on.
+#[derive(Clone, Copy, Debug, Error)]
+#[error("step {step} breaks rule {rule}")]
+pub struct TraceBroken {
+    pub rule: u32,
+    pub step: u32,
+}
+
+/// Whether a step keeps the rule of this number.
+fn keeps(
+    instance: &Instance,
+    map: &DefectMap,
+    rule: u32,
+    last: &Laid,
+    here: &Laid,
+    later: &[Step],
+) -> bool
+    requires some { 1 ≤ rule }
+    requires in_rules { rule ≤ 9 }
+    requires map { map.now ≡ instance.now.defects }
+    requires fitted { 8 ≤ rule → IsFitted here.now }
+    ensures { IsTrue result ↔ RuleOf instance.now rule last.now.level (cut_of last.now) here.now.level (cut_of here.now) (ahead later.now) }
+{
+    let params = instance.params();
+    match rule {
+        1 => keeps1(params, here),
+        2 => keeps2(here),
+        3 => keeps3(last, here),
+        4 => keeps4(instance, last, here, later),
+        5 => keeps5(params, last, here, later),
+        6 => keeps6(params, last, here, later),
+        7 => keeps7(params, last, here, later),
+        8 => keeps8(map, here),
+        _ => keeps9(instance, map, here),
+    }
+}
+
+/// The first step that breaks a rule, where no lesser rule is broken.
+fn first_step(instance: &Instance, map: &DefectMap, steps: &[Step], rule: u32) -> Option<u32>
+    requires few { length steps.now < 2 ^ 32 }
+    requires some { 1 ≤ rule }
+    requires in_rules { rule ≤ 9 }
+    requires map { map.now ≡ instance.now.defects }
+    requires before { (n : ℕ) → n < rule → RuleHolds instance.now steps.now n }
+    ensures { MatchOption result (RuleHolds instance.now steps.now rule) (BreaksFirst instance.now steps.now rule) }
+{
+    let mut last = Laid::none();
+    for (i, step) in steps.iter().enumerate() {
+        let here = last.next(instance, &steps[..i], *step);
+        if !keeps(instance, map, rule, &last, &here, &steps[i + 1..]) {
+            return Some(i as u32);
+        }
+        last = here;
+    }
+    None
+}
+
+/// The first rule that a trace breaks.
+fn first_broken(instance: &Instance, map: &DefectMap, steps: &[Step]) -> Option<TraceBroken>
+    requires few { length steps.now < 2 ^ 32 }
+    requires map { map.now ≡ instance.now.defects }
+    ensures { MatchOption result (Meets instance.now steps.now) (λ broken. IsFirstBroken instance.now steps.now broken.rule broken.step) }
+{
+    for rule in 1..10 {
+        if let Some(step) = first_step(instance, map, steps, rule) {
+            return Some(TraceBroken { rule, step });
+        }
+    }
+    None
+}
+
+/// Whether a trace meets the nine rules, for a list of any number of steps. Else the least rule that it breaks, and the least
+/// step that breaks it: a rule on two steps is broken at the later one, a rule on a strip, a band or a cell at the step that
+/// begins it.
+///
+/// It takes no memory.
+pub fn meets(instance: &Instance, map: &DefectMap, trace: &Trace) -> Result<(), TraceBroken>
+    requires few { length trace.now.steps.items < 2 ^ 32 }
+    requires map { map.now ≡ instance.now.defects }
+    ensures { let steps = trace.now.steps.items in MatchResult result (λ _. Meets instance.now steps) (λ broken. IsFirstBroken instance.now steps broken.rule broken.step) }
+{
+    match first_broken(instance, map, trace.steps.as_slice()) {
+        Some(broken) => Err(broken),
+        None => Ok(()),
+    }
+}

@@ -1,0 +1,141 @@
+//! What a paragraph of the book says.
+
+use crate::steps::step_of;
+use anyhow::bail;
+use cut_model::Trace;
+use glass_base::{Run, append};
+use std::alloc::{AllocError, Global};
+
+/// A case: the texts that it gives, and what it says of them.
+#[derive(Drop)]
+pub struct Case {
+    /// The text of a batch.
+    pub items: String,
+    /// The text of a parameters file.
+    pub params: String,
+    /// The text of a plates file.
+    pub plates: String,
+    /// The text of a defects file.
+    pub defects: String,
+    /// The text of a solution, and whether the case gives one.
+    pub plan: String,
+    pub has_plan: bool,
+    /// The steps that it gives, where it gives no plan and asks for no draft.
+    pub trace: Trace,
+    /// Whether it asks for the draft.
+    pub has_draft: bool,
+    /// The lines that say what is to be found.
+    said: String,
+}
+
+/// The first word of a line, and what stands behind it.
+fn first_word(line: &str) -> (&str, &str) {
+    line.split_once(' ').unwrap_or((line, ""))
+}
+
+/// Whether a line says something: empty lines and comments do not.
+fn is_spoken(line: &str) -> bool {
+    !line.is_empty() && !line.starts_with('#')
+}
+
+/// The line with which a case begins; a paragraph of comments has none.
+pub fn heading(paragraph: &str) -> Option<&str> {
+    paragraph.lines().find(|line| is_spoken(line))
+}
+
+/// Whether the heading is that of a case that is wrong on purpose.
+pub fn is_wrong(heading: &str) -> anyhow::Result<bool> {
+    match first_word(heading).0 {
+        "case" => Ok(false),
+        "wrong" => Ok(true),
+        _ => bail!("it begins with another word than case or wrong"),
+    }
+}
+
+/// Adds a line to a text.
+fn add_line(text: &mut String, line: &str) -> Result<(), AllocError> {
+    text.push_str(line)?;
+    text.push('\n')?;
+    Ok(())
+}
+
+impl Case {
+    /// A case of which no line is read.
+    fn new(alloc: Global) -> Result<Case, AllocError> {
+        Ok(Case {
+            items: String::from_str(alloc, "ITEM_ID;LENGTH_ITEM;WIDTH_ITEM;STACK;SEQUENCE\n")?,
+            params: String::from_str(alloc, "NAME;VALUE\n")?,
+            plates: String::from_str(alloc, "PLATE_ID;WIDTH\n")?,
+            defects: String::from_str(alloc, "DEFECT_ID;PLATE_ID;X;Y;WIDTH;HEIGHT\n")?,
+            plan: String::from_str(alloc, "PLATE_ID;NODE_ID;X;Y;WIDTH;HEIGHT;TYPE;CUT;PARENT\n")?,
+            has_plan: false,
+            trace: Trace {
+                steps: Run::new(alloc),
+            },
+            has_draft: false,
+            said: String::new(alloc),
+        })
+    }
+
+    /// Whether the case says a line with this first word.
+    fn says(&self, word: &str) -> bool {
+        self.said
+            .as_str()
+            .lines()
+            .any(|line| first_word(line).0 == word)
+    }
+
+    /// Takes the next line.
+    fn take(&mut self, alloc: Global, line: &str) -> anyhow::Result<()> {
+        let (word, rest) = first_word(line);
+        match word {
+            "item" => add_line(&mut self.items, rest)?,
+            "param" => add_line(&mut self.params, rest)?,
+            "plate" => add_line(&mut self.plates, rest)?,
+            "defect" => add_line(&mut self.defects, rest)?,
+            "row" if !self.says("plan") => {
+                self.has_plan = true;
+                add_line(&mut self.plan, rest)?;
+            }
+            "draft" => {
+                self.has_draft = true;
+                add_line(&mut self.said, line)?;
+            }
+            "step" if !self.has_plan && !self.has_draft => append(
+                &mut self.trace.steps,
+                step_of(alloc, rest)?,
+            )?,
+            "step" | "none" | "row" | "meets" | "breaks" | "length" | "loss" | "lost" | "plan" => {
+                add_line(&mut self.said, line)?;
+            }
+            _ => bail!("{word} is no word of the book"),
+        }
+        Ok(())
+    }
+
+    /// Whether a line that was found is compared: where the case says something of its kind, or must.
+    fn compares(&self, line: &str) -> bool {
+        let word = first_word(line).0;
+        match word {
+            "meets" | "breaks" => !self.has_plan || self.says("meets") || self.says("breaks"),
+            "length" | "loss" | "lost" => self.says(word),
+            "plan" | "row" => self.says("plan"),
+            _ => true,
+        }
+    }
+
+    /// Whether what was found is what the case says.
+    pub fn is_as_said(&self, found: &str) -> bool {
+        let compared = found.lines().filter(|line| self.compares(line));
+        compared.eq(self.said.as_str().lines())
+    }
+}
+
+/// The case of a paragraph, whose first line is its heading.
+pub fn read_case(alloc: Global, paragraph: &str) -> anyhow::Result<Case> {
+    let mut case = Case::new(alloc)?;
+    for line in paragraph.lines().filter(|line| is_spoken(line)).skip(1) {
+        case.take(alloc, line)?;
+    }
+    Ok(case)
+}

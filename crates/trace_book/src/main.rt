@@ -1,0 +1,62 @@
+//! Runs a book of traces, which comes on standard input, and prints the cases that do not go as the book says. The head of
+//! `stdin` explains what stands in a book.
+#![tactic(auto)]
+
+mod answering;
+mod book;
+mod steps;
+mod telling;
+
+use crate::answering::answer;
+use crate::book::{heading, is_wrong, read_case};
+use std::alloc::Global;
+use std::io;
+use std::process::ExitCode;
+
+/// What is to be printed of a case that can be run, if it is not as it should be.
+fn difference(alloc: Global, heading: &str, paragraph: &str) -> anyhow::Result<Option<String>> {
+    let wrong = is_wrong(heading)?;
+    let case = read_case(alloc, paragraph)?;
+    let found = answer(alloc, &case)?;
+    if case.is_as_said(found.as_str()) != wrong {
+        Ok(None)
+    } else if wrong {
+        Ok(Some(String::from_str(alloc, "nothing differs\n")?))
+    } else {
+        Ok(Some(found))
+    }
+}
+
+/// What is to be printed of a case, if it is not as it should be. A case that cannot be run never is.
+fn complaint(alloc: Global, heading: &str, paragraph: &str) -> anyhow::Result<Option<String>> {
+    match difference(alloc, heading, paragraph) {
+        Ok(difference) => Ok(difference),
+        Err(error) => Ok(Some(format!(in alloc; "it cannot be run: {error}\n")?)),
+    }
+}
+
+/// Runs the cases one after another, and prints those that are not as they should be. Whether all are.
+fn run_cases(rt: &(impl Print + AllocGlobal), book: &str) -> anyhow::Result<bool> {
+    let mut cases: usize = 0;
+    let mut good: usize = 0;
+    for paragraph in book.split("\n\n") {
+        if let Some(heading) = heading(paragraph) {
+            cases = cases.saturating_add(1);
+            match complaint(rt.alloc(), heading, paragraph)? {
+                None => good = good.saturating_add(1),
+                Some(found) => println!(rt; "{heading}\n{found}")?,
+            }
+        }
+    }
+    println!(rt; "{cases} cases, {good} as they should be")?;
+    Ok(good == cases)
+}
+
+fn main(rt: HostRuntime) -> anyhow::Result<ExitCode> {
+    let book = io::read_to_string(rt.alloc(), rt.reader())?;
+    if run_cases(&rt, book.as_str())? {
+        Ok(ExitCode::SUCCESS)
+    } else {
+        Ok(ExitCode::FAILURE)
+    }
+}
