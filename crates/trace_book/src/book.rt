@@ -40,7 +40,12 @@ fn is_spoken(line: &str) -> bool {
 
 /// The line with which a case begins; a paragraph of comments has none.
 pub fn heading(paragraph: &str) -> Option<&str> {
-    paragraph.lines().find(|line| is_spoken(line))
+    for line in paragraph.lines() {
+        if is_spoken(line) {
+            return Some(line);
+        }
+    }
+    None
 }
 
 /// Whether the heading is that of a case that is wrong on purpose.
@@ -79,10 +84,12 @@ impl Case {
 
     /// Whether the case says a line with this first word.
     fn says(&self, word: &str) -> bool {
-        self.said
-            .as_str()
-            .lines()
-            .any(|line| first_word(line).0 == word)
+        for line in self.said.as_str().lines() {
+            if first_word(line).0 == word {
+                return true;
+            }
+        }
+        false
     }
 
     /// Takes the next line.
@@ -126,16 +133,23 @@ impl Case {
 
     /// Whether what was found is what the case says.
     pub fn is_as_said(&self, found: &str) -> bool {
-        let compared = found.lines().filter(|line| self.compares(line));
-        compared.eq(self.said.as_str().lines())
+        let mut said = self.said.as_str().lines();
+        for line in found.lines() {
+            if self.compares(line) && said.next() != Some(line) {
+                return false;
+            }
+        }
+        said.next().is_none()
     }
 }
 
-/// The case of a paragraph, whose first line is its heading.
-pub fn read_case(alloc: Global, paragraph: &str) -> anyhow::Result<Case> {
+/// The case of a paragraph with this heading.
+pub fn read_case(alloc: Global, heading: &str, paragraph: &str) -> anyhow::Result<Case> {
     let mut case = Case::new(alloc)?;
-    for line in paragraph.lines().filter(|line| is_spoken(line)).skip(1) {
-        case.take(alloc, line)?;
+    for line in paragraph.lines() {
+        if is_spoken(line) && line != heading {
+            case.take(alloc, line)?;
+        }
     }
     Ok(case)
 }

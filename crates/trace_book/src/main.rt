@@ -16,7 +16,7 @@ use std::process::ExitCode;
 /// What is to be printed of a case that can be run, if it is not as it should be.
 fn difference(alloc: Global, heading: &str, paragraph: &str) -> anyhow::Result<Option<String>> {
     let wrong = is_wrong(heading)?;
-    let case = read_case(alloc, paragraph)?;
+    let case = read_case(alloc, heading, paragraph)?;
     let found = answer(alloc, &case)?;
     if case.is_as_said(found.as_str()) != wrong {
         Ok(None)
@@ -35,26 +35,29 @@ fn complaint(alloc: Global, heading: &str, paragraph: &str) -> anyhow::Result<Op
     }
 }
 
-/// Runs the cases one after another, and prints those that are not as they should be. Whether all are.
-fn run_cases(rt: &(impl Print + AllocGlobal), book: &str) -> anyhow::Result<bool> {
+/// Runs the cases one after another, and adds those that are not as they should be to the report. Whether all are.
+fn run_cases(alloc: Global, report: &mut String, book: &str) -> anyhow::Result<bool> {
     let mut cases: usize = 0;
     let mut good: usize = 0;
     for paragraph in book.split("\n\n") {
         if let Some(heading) = heading(paragraph) {
             cases = cases.saturating_add(1);
-            match complaint(rt.alloc(), heading, paragraph)? {
+            match complaint(alloc, heading, paragraph)? {
                 None => good = good.saturating_add(1),
-                Some(found) => println!(rt; "{heading}\n{found}")?,
+                Some(found) => writeln!(report, "{heading}\n{found}")?,
             }
         }
     }
-    println!(rt; "{cases} cases, {good} as they should be")?;
+    writeln!(report, "{cases} cases, {good} as they should be")?;
     Ok(good == cases)
 }
 
 fn main(rt: HostRuntime) -> anyhow::Result<ExitCode> {
     let book = io::read_to_string(rt.alloc(), rt.reader())?;
-    if run_cases(&rt, book.as_str())? {
+    let mut report = String::new(rt.alloc());
+    let good = run_cases(rt.alloc(), &mut report, book.as_str())?;
+    rt.print(report)?;
+    if good {
         Ok(ExitCode::SUCCESS)
     } else {
         Ok(ExitCode::FAILURE)

@@ -36,6 +36,7 @@ fn loss_of(instance: &Instance, length: u64) -> Option<u64> {
 
 /// Adds the rows of a plan, without the names of the columns.
 fn tell_rows(found: &mut String, text: &str) -> anyhow::Result<()> {
+    found.push_str("plan\n")?;
     for row in text.lines().skip(1) {
         writeln!(found, "row {row}")?;
     }
@@ -76,13 +77,12 @@ fn tell_complete(
     let wasted = loss_of(instance, length).context("the items are larger than the glass")?;
     writeln!(found, "loss {wasted}")?;
     let plan = plan_of(alloc, instance, trace)?;
+    tell_other(alloc, found, instance, trace, wasted, &plan)?;
     let text = write_plan(alloc, instance, &plan)?;
-    writeln!(found, "plan")?;
-    tell_rows(found, str::from_utf8(text.as_slice())?)?;
-    tell_other(alloc, found, instance, trace, wasted, &plan)
+    tell_rows(found, str::from_utf8(text.as_slice())?)
 }
 
-/// Adds what is found of a trace that has a step and meets the rules.
+/// Adds what is found of a trace that meets the rules.
 fn tell_kept(
     alloc: Global,
     found: &mut String,
