@@ -1,11 +1,14 @@
 //! What is found where a case is run.
 
-use crate::book::Case;
+use crate::book::{Case, Draw, Subject};
 use crate::steps::tell_steps;
 use crate::telling::tell_trace;
+use anyhow::ensure;
 use batch_csv::read_batch;
 use defect_map::DefectMap;
+use first_plan::first_plan;
 use glass_base::Instance;
+use glass_gen::generate;
 use loss_area::loss;
 use plan_csv::read_plan;
 use plan_draft::draft;
@@ -13,8 +16,21 @@ use plan_trace::trace_of;
 use std::alloc::Global;
 use stock_csv::{read_defects, read_params, read_plates};
 
+/// The instance that is drawn.
+fn drawn_instance(alloc: Global, draw: Draw) -> anyhow::Result<Instance> {
+    ensure!(
+        1 <= draw.items && draw.items <= 800,
+        "1 to 800 items are drawn"
+    );
+    ensure!(draw.defects <= 20_000, "at most 20,000 defects are drawn");
+    Ok(generate(alloc, draw.start, draw.items, draw.defects)?)
+}
+
 /// The instance that a case gives.
 fn instance_of(alloc: Global, case: &Case) -> anyhow::Result<Instance> {
+    if let Some(draw) = case.drawn {
+        return drawn_instance(alloc, draw);
+    }
     let params = read_params(alloc, case.params.as_bytes())?;
     let widths = read_plates(alloc, &params, case.plates.as_bytes())?;
     let items = read_batch(alloc, case.items.as_bytes())?;
@@ -47,16 +63,28 @@ fn tell_draft(alloc: Global, found: &mut String, instance: &Instance) -> anyhow:
     Ok(())
 }
 
+/// Adds the first plan.
+fn tell_first(alloc: Global, found: &mut String, instance: &Instance) -> anyhow::Result<()> {
+    let map = DefectMap::new(alloc, instance)?;
+    writeln!(found, "first")?;
+    match first_plan(alloc, instance, &map)? {
+        Some(trace) => {
+            tell_steps(found, trace.steps.as_slice())?;
+            tell_trace(alloc, found, instance, &trace)
+        }
+        None => Ok(writeln!(found, "none")?),
+    }
+}
+
 /// All that is found of a case, in the book's words.
 pub fn answer(alloc: Global, case: &Case) -> anyhow::Result<String> {
     let instance = instance_of(alloc, case)?;
     let mut found = String::new(alloc);
-    if case.has_draft {
-        tell_draft(alloc, &mut found, &instance)?;
-    } else if case.has_plan {
-        tell_plan(alloc, &mut found, &instance, case.plan.as_bytes())?;
-    } else {
-        tell_trace(alloc, &mut found, &instance, &case.trace)?;
+    match case.subject {
+        Subject::Trace => tell_trace(alloc, &mut found, &instance, &case.trace)?,
+        Subject::Plan => tell_plan(alloc, &mut found, &instance, case.plan.as_bytes())?,
+        Subject::Draft => tell_draft(alloc, &mut found, &instance)?,
+        Subject::FirstPlan => tell_first(alloc, &mut found, &instance)?,
     }
     Ok(found)
 }

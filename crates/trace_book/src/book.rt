@@ -1,10 +1,29 @@
 //! What a paragraph of the book says.
 
-use crate::steps::step_of;
+use crate::steps::{numbers_of, step_of};
 use anyhow::bail;
 use cut_model::Trace;
 use glass_base::{Run, append};
 use std::alloc::{AllocError, Global};
+
+/// What a case tells of.
+#[derive(Clone, Copy, PartialEq, Eq)]
+pub enum Subject {
+    /// A trace that it gives.
+    Trace,
+    /// A plan that it gives.
+    Plan,
+    Draft,
+    FirstPlan,
+}
+
+/// What is drawn.
+#[derive(Clone, Copy)]
+pub struct Draw {
+    pub start: u32,
+    pub items: u32,
+    pub defects: u32,
+}
 
 /// A case: the texts that it gives, and what it says of them.
 #[derive(Drop)]
@@ -17,13 +36,13 @@ pub struct Case {
     pub plates: String,
     /// The text of a defects file.
     pub defects: String,
-    /// The text of a solution, and whether the case gives one.
+    /// The items and defects that are drawn in place of these: the start, and how many of each.
+    pub drawn: Option<Draw>,
+    pub subject: Subject,
+    /// The text of a solution, where the case gives a plan.
     pub plan: String,
-    pub has_plan: bool,
-    /// The steps that it gives, where it gives no plan and asks for no draft.
+    /// The steps that it gives, where it tells of a trace.
     pub trace: Trace,
-    /// Whether it asks for the draft.
-    pub has_draft: bool,
     /// The lines that say what is to be found.
     said: String,
 }
@@ -64,6 +83,19 @@ fn add_line(text: &mut String, line: &str) -> Result<(), AllocError> {
     Ok(())
 }
 
+/// What is drawn where this is written, one space between two numbers.
+fn draw_of(alloc: Global, written: &str) -> anyhow::Result<Draw> {
+    let numbers = numbers_of(alloc, written)?;
+    match numbers.as_slice() {
+        [start, items, defects] => Ok(Draw {
+            start: *start,
+            items: *items,
+            defects: *defects,
+        }),
+        _ => bail!("what is drawn has three numbers"),
+    }
+}
+
 impl Case {
     /// A case of which no line is read.
     fn new(alloc: Global) -> Result<Case, AllocError> {
@@ -73,11 +105,11 @@ impl Case {
             plates: String::from_str(alloc, "PLATE_ID;WIDTH\n")?,
             defects: String::from_str(alloc, "DEFECT_ID;PLATE_ID;X;Y;WIDTH;HEIGHT\n")?,
             plan: String::from_str(alloc, "PLATE_ID;NODE_ID;X;Y;WIDTH;HEIGHT;TYPE;CUT;PARENT\n")?,
-            has_plan: false,
+            drawn: None,
+            subject: Subject::Trace,
             trace: Trace {
                 steps: Run::new(alloc),
             },
-            has_draft: false,
             said: String::new(alloc),
         })
     }
@@ -92,23 +124,28 @@ impl Case {
         false
     }
 
+    /// Takes a line that asks for something.
+    fn ask(&mut self, subject: Subject, line: &str) -> Result<(), AllocError> {
+        self.subject = subject;
+        add_line(&mut self.said, line)
+    }
+
     /// Takes the next line.
     fn take(&mut self, alloc: Global, line: &str) -> anyhow::Result<()> {
         let (word, rest) = first_word(line);
         match word {
+            "drawn" => self.drawn = Some(draw_of(alloc, rest)?),
             "item" => add_line(&mut self.items, rest)?,
             "param" => add_line(&mut self.params, rest)?,
             "plate" => add_line(&mut self.plates, rest)?,
             "defect" => add_line(&mut self.defects, rest)?,
             "row" if !self.says("plan") => {
-                self.has_plan = true;
+                self.subject = Subject::Plan;
                 add_line(&mut self.plan, rest)?;
             }
-            "draft" => {
-                self.has_draft = true;
-                add_line(&mut self.said, line)?;
-            }
-            "step" if !self.has_plan && !self.has_draft => append(
+            "draft" => self.ask(Subject::Draft, line)?,
+            "first" => self.ask(Subject::FirstPlan, line)?,
+            "step" if self.subject == Subject::Trace => append(
                 &mut self.trace.steps,
                 step_of(alloc, rest)?,
             )?,
@@ -124,7 +161,10 @@ impl Case {
     fn compares(&self, line: &str) -> bool {
         let word = first_word(line).0;
         match word {
-            "meets" | "breaks" => !self.has_plan || self.says("meets") || self.says("breaks"),
+            "meets" | "breaks" => {
+                self.subject == Subject::Trace || self.says("meets") || self.says("breaks")
+            }
+            "step" => self.subject != Subject::FirstPlan || self.says("step"),
             "length" | "loss" | "lost" => self.says(word),
             "plan" | "row" => self.says("plan"),
             _ => true,

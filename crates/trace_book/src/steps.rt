@@ -5,7 +5,7 @@ use cut_model::Step;
 use std::alloc::{AllocError, Global};
 
 /// The numbers that are written so, one space between two.
-fn numbers_of(alloc: Global, written: &str) -> anyhow::Result<Vec<u32>> {
+pub fn numbers_of(alloc: Global, written: &str) -> anyhow::Result<Vec<u32>> {
     let mut numbers = Vec::new(alloc);
     for number in written.split(' ') {
         numbers.push(number.parse::<u32>()?)?;

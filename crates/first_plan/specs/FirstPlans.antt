@@ -1,0 +1,16 @@
+-- What is promised of a first plan: it can be cut, and takes no more glass than the draft. How good it is beyond that is not promised.
+use Rattle.std.specs.Prelude.{◌≤◌, List}
+use Rattle.glass_base.specs.Problem.{Problem}
+use Rattle.cut_model.specs.declared.steps.Step.{Step}
+use Rattle.cut_model.specs.Steps.{length_of}
+use Rattle.plan_draft.specs.Drafts.{IsDraft}
+use Rattle.plan_trace.specs.Claims.{IsComplete}
+
+-- where there is a draft, the steps take no more glass than it does
+abbrev pub IsNoLongerThanDraft : Problem → List Step → Type 0
+IsNoLongerThanDraft b steps = (drafted : List Step) → IsDraft b drafted → length_of b steps ≤ length_of b drafted
+
+-- a trace with a step for each item that meets the rules and is no longer than the draft
+pub record IsFirstPlan (b : Problem) (steps : List Step) : Type 0 where
+  pub complete : IsComplete b steps
+  pub no_longer : IsNoLongerThanDraft b steps

@@ -1,0 +1,6 @@
+//! A first plan: that of two beams, or the draft where that is shorter.
+#![tactic(auto)]
+
+mod choosing;
+
+pub use choosing::first_plan;

@@ -1,0 +1,299 @@
+//! The children of a node.
+
+use crate::form::{Base, Form, Forms};
+use crate::measure::Length;
+use crate::node::{Begins, Candidate, Node};
+use crate::placing::{left_of, place, waste_of};
+use crate::scene::{Reach, Scene};
+use crate::strip::{OpenStrip, closed};
+use crate::task::{Ledger, Task};
+use glass_base::Memory;
+use std::alloc::Global;
+
+/// What the children of one node are made with. It is kept from node to node for its memory.
+#[derive(Drop)]
+pub struct Bench {
+    forms: Forms,
+    strip: OpenStrip,
+    attempt: Attempt,
+}
+
+/// How the attempts of a node went.
+#[derive(Drop)]
+struct Attempt {
+    tries: Vec<Length>,
+    /// Whether the plate takes a child.
+    any: bool,
+    /// Whether no child was passed over for its waste.
+    hope: bool,
+}
+
+/// An empty strip from `x` on, on this plate, if there is such a plate.
+fn strip_from<'b>(
+    task: &Task,
+    parent: Option<u32>,
+    base: &'b Candidate,
+    plate: u16,
+    x: Length,
+) -> Option<Scene<'b>> {
+    match task.sheet.plates.get(usize::from(plate)) {
+        Some(sheet) => Some(Scene {
+            parent,
+            base,
+            begins: Begins::Strip,
+            plate,
+            wide: sheet.wide,
+            before: sheet.before,
+            a: x,
+            b: x,
+            c: Length::ZERO,
+            d: Length::ZERO,
+            defects: &[],
+            bands: &[],
+            cells: &[],
+        }),
+        None => None,
+    }
+}
+
+/// The furthest right side of a strip.
+fn furthest(task: &Task, scene: &Scene) -> Length {
+    scene.wide.min(scene.a + task.sheet.max1)
+}
+
+/// Puts a form into the open band, behind its last cell.
+fn put_cell(
+    task: &Task,
+    ledger: &mut Ledger,
+    scene: &Scene,
+    form: &mut Form,
+    attempt: &mut Attempt,
+) -> Result<(), Memory> {
+    let right = scene.base.node.right();
+    let least = Reach {
+        b: scene.b.max(right + form.width),
+        d: scene.d.max(scene.c + form.height),
+    };
+    if least.b > furthest(task, scene) || least.d > task.sheet.high {
+        return Ok(());
+    }
+    if waste_of(task, scene, form, right, least) >= form.limit {
+        attempt.hope = false;
+        return Ok(());
+    }
+    let found = place(task, ledger, scene, form, right, &mut attempt.tries)?;
+    if let Some(reach) = found {
+        attempt.any = true;
+        form.done = reach.b == scene.b && reach.d == scene.d;
+    }
+    Ok(())
+}
+
+/// Puts a form into a new band over the open one.
+fn put_band(
+    task: &Task,
+    ledger: &mut Ledger,
+    scene: &Scene,
+    form: &mut Form,
+    attempt: &mut Attempt,
+) -> Result<(), Memory> {
+    let least = scene.b.max(scene.a + form.width);
+    let top = scene.c + form.height.max(task.sheet.min2);
+    if form.done || least > furthest(task, scene) || top > task.sheet.high {
+        return Ok(());
+    }
+    if left_of(task, scene) + (least - scene.a) * scene.c - scene.base.area >= form.limit {
+        attempt.hope = false;
+        return Ok(());
+    }
+    let found = place(task, ledger, scene, form, scene.a, &mut attempt.tries)?;
+    if let Some(reach) = found {
+        attempt.any = true;
+        form.done = reach.b == scene.b;
+    }
+    Ok(())
+}
+
+/// Whether a new strip is wide enough for a form that is not done.
+fn has_strip(task: &Task, scene: &Scene, form: &Form) -> bool {
+    !form.done && scene.a + form.width.max(task.sheet.min1) <= scene.wide
+}
+
+/// Whether the glass left of a new strip is so much waste that a form is of no use there.
+fn is_strip_late(task: &Task, scene: &Scene, form: &Form) -> bool {
+    left_of(task, scene) - scene.base.area >= form.limit
+}
+
+/// Puts a form into a new strip.
+fn put_strip(
+    task: &Task,
+    ledger: &mut Ledger,
+    scene: &Scene,
+    form: &Form,
+    attempt: &mut Attempt,
+) -> Result<(), Memory> {
+    if !has_strip(task, scene, form) {
+        return Ok(());
+    }
+    if is_strip_late(task, scene, form) {
+        attempt.hope = false;
+        return Ok(());
+    }
+    let found = place(task, ledger, scene, form, scene.a, &mut attempt.tries)?;
+    if found.is_some() {
+        attempt.any = true;
+    }
+    Ok(())
+}
+
+impl Bench {
+    pub fn new(alloc: Global, widest: Length) -> Result<Bench, Memory> {
+        Ok(Bench {
+            forms: Forms::new(alloc, widest)?,
+            strip: OpenStrip::new(alloc),
+            attempt: Attempt {
+                tries: Vec::new(alloc),
+                any: false,
+                hope: true,
+            },
+        })
+    }
+
+    /// Offers the children of a node: cells in its band, bands in its strip, strips on its plate, and where none of these finds
+    /// a place and none was passed over, strips on the next plate.
+    pub fn expand(
+        &mut self,
+        task: &Task,
+        ledger: &mut Ledger,
+        arena: &[Node],
+        parent: Option<u32>,
+        base: &Base,
+    ) -> Result<(), Memory> {
+        self.forms.note(task, ledger, base)?;
+        let forms = self.forms.list.len() as u64;
+        ledger
+            .ticks
+            .spend((forms.wrapping_mul(3) / 2).wrapping_add(40));
+        self.attempt.any = false;
+        self.attempt.hope = true;
+        let mut next = 0;
+        if parent.is_some() {
+            let node = &base.candidate.node;
+            if let Some(open) = strip_from(
+                task,
+                parent,
+                base.candidate,
+                node.plate,
+                node.b.into(),
+            ) {
+                self.stay(task, ledger, arena, &open)?;
+            }
+            next = node.plate.saturating_add(1);
+        }
+        if self.attempt.any || !self.attempt.hope {
+            return Ok(());
+        }
+        match strip_from(task, parent, base.candidate, next, Length::ZERO) {
+            Some(strip) => {
+                let begun = Scene {
+                    begins: Begins::Plate,
+                    ..strip
+                };
+                self.put_strips(task, ledger, &begun)
+            }
+            None => Ok(()),
+        }
+    }
+
+    /// Offers the children on a node's own plate; `next` is the strip beside its own.
+    fn stay(
+        &mut self,
+        task: &Task,
+        ledger: &mut Ledger,
+        arena: &[Node],
+        next: &Scene,
+    ) -> Result<(), Memory> {
+        let node = &next.base.node;
+        let left = Length::from(node.a);
+        let right = left + task.sheet.max1;
+        self.strip.note(arena, node)?;
+        self.strip
+            .note_defects(task.sheet, node.plate, left, right, &mut ledger.ticks)?;
+        self.put_cells(task, ledger, next)?;
+        self.put_bands(task, ledger, next)?;
+        self.put_strips(task, ledger, next)
+    }
+
+    /// Offers cells in the open band.
+    fn put_cells(&mut self, task: &Task, ledger: &mut Ledger, next: &Scene) -> Result<(), Memory> {
+        let node = &next.base.node;
+        let scene = Scene {
+            begins: Begins::Cell,
+            a: node.a.into(),
+            c: node.c.into(),
+            d: node.d.into(),
+            defects: self.strip.defects.as_slice(),
+            bands: closed(self.strip.bands.as_slice()),
+            cells: self.strip.cells.as_slice(),
+            ..*next
+        };
+        for form in self.forms.list.iter_mut() {
+            put_cell(task, ledger, &scene, form, &mut self.attempt)?;
+        }
+        Ok(())
+    }
+
+    /// Offers bands in the open strip.
+    fn put_bands(&mut self, task: &Task, ledger: &mut Ledger, next: &Scene) -> Result<(), Memory> {
+        let node = &next.base.node;
+        let scene = Scene {
+            begins: Begins::Band,
+            a: node.a.into(),
+            c: node.d.into(),
+            d: node.d.into(),
+            defects: self.strip.defects.as_slice(),
+            bands: self.strip.bands.as_slice(),
+            ..*next
+        };
+        for form in self.forms.list.iter_mut() {
+            put_band(task, ledger, &scene, form, &mut self.attempt)?;
+        }
+        Ok(())
+    }
+
+    /// Whether some form is to be tried in a new strip.
+    fn wants_strip(&self, task: &Task, strip: &Scene) -> bool {
+        for form in &self.forms.list {
+            if has_strip(task, strip, form) && !is_strip_late(task, strip, form) {
+                return true;
+            }
+        }
+        false
+    }
+
+    /// Offers the first cells of a new strip.
+    fn put_strips(
+        &mut self,
+        task: &Task,
+        ledger: &mut Ledger,
+        strip: &Scene,
+    ) -> Result<(), Memory> {
+        if self.wants_strip(task, strip) {
+            self.strip.note_defects(
+                task.sheet,
+                strip.plate,
+                strip.a,
+                strip.wide,
+                &mut ledger.ticks,
+            )?;
+        }
+        let scene = Scene {
+            defects: self.strip.defects.as_slice(),
+            ..*strip
+        };
+        for form in &self.forms.list {
+            put_strip(task, ledger, &scene, form, &mut self.attempt)?;
+        }
+        Ok(())
+    }
+}

@@ -1,0 +1,248 @@
+//! The cells that may come next.
+
+use crate::chains::Chains;
+use crate::measure::{Amount, Length};
+use crate::node::{Candidate, Part};
+use crate::stock::Piece;
+use crate::task::{Ledger, Task};
+use glass_base::Memory;
+use std::alloc::Global;
+
+/// At most so many partners of one form in pairs.
+const MOST_PARTNERS: u32 = 6;
+
+/// One next item as a cell, or two of the same width one over the other. All lengths are in mm.
+#[derive(Clone, Copy)]
+pub struct Form {
+    pub part: Part,
+    pub above: Option<Part>,
+    pub width: Length,
+    pub height: Length,
+    pub area: Amount,
+    pub value: Amount,
+    pub mix: u64,
+    /// A child is of use with less waste than this.
+    pub limit: Amount,
+    /// Whether no looser place is to be tried.
+    pub done: bool,
+}
+
+/// The forms of a node.
+#[derive(Drop)]
+pub struct Forms {
+    pub list: Vec<Form>,
+    /// The forms of one item, by their widths.
+    widths: Chains,
+}
+
+/// The node that is expanded: its sums, and how many items of each stack are cut.
+#[derive(Clone, Copy)]
+pub struct Base<'b> {
+    pub candidate: &'b Candidate,
+    pub places: &'b [u16],
+}
+
+impl Base<'_> {
+    /// The limit of a form of so many items and this value.
+    fn limit(&self, task: &Task, ledger: &Ledger, items: usize, value: Amount) -> Amount {
+        let held = usize::from(self.candidate.node.items);
+        ledger.limit(
+            task,
+            held.saturating_add(items),
+            self.candidate.value + value,
+        )
+    }
+}
+
+/// The form `under` with the item of the form `over` above its own.
+fn stacked(task: &Task, ledger: &Ledger, base: &Base, under: &Form, over: &Form) -> Form {
+    let value = under.value + over.value;
+    Form {
+        above: Some(over.part),
+        height: under.height + over.height,
+        area: under.area + over.area,
+        value,
+        mix: under.mix.wrapping_add(over.mix),
+        limit: base.limit(task, ledger, 2, value),
+        ..*under
+    }
+}
+
+/// The form of an item that lies over that of `under`, which is of the same stack.
+fn upper(under: &Form, piece: Piece, turned: bool) -> Form {
+    let (width, height) = piece.sides(turned);
+    Form {
+        part: Part {
+            stack: under.part.stack,
+            turned,
+        },
+        width,
+        height,
+        area: piece.area,
+        value: piece.value,
+        ..*under
+    }
+}
+
+impl Forms {
+    /// No forms; there will be none wider than `most`.
+    pub fn new(alloc: Global, most: Length) -> Result<Forms, Memory> {
+        Ok(Forms {
+            list: Vec::new(alloc),
+            widths: Chains::new(alloc, (most.0 as usize).saturating_add(1))?,
+        })
+    }
+
+    /// Notes all cells that may come next: the next item of each stack, then pairs from one stack, then pairs from two.
+    pub fn note(&mut self, task: &Task, ledger: &Ledger, base: &Base) -> Result<(), Memory> {
+        self.list.clear();
+        self.note_singles(task, ledger, base)?;
+        let singles = self.list.len();
+        self.note_pairs_of_stacks(task, ledger, base, singles)?;
+        self.widths.clear();
+        self.note_pairs(task, ledger, base, singles)
+    }
+
+    /// Notes the next item of each stack, in both turns.
+    fn note_singles(&mut self, task: &Task, ledger: &Ledger, base: &Base) -> Result<(), Memory> {
+        for (number, stack) in task.stock.stacks.iter().enumerate() {
+            if let Some(piece) = task.stock.piece(number, base.places, 0) {
+                let limit = base.limit(task, ledger, 1, piece.value);
+                let stack_number = number.min(65_535) as u16;
+                let form = Form {
+                    part: Part {
+                        stack: stack_number,
+                        turned: false,
+                    },
+                    above: None,
+                    width: piece.length,
+                    height: piece.width,
+                    area: piece.area,
+                    value: piece.value,
+                    mix: stack.mix,
+                    limit,
+                    done: false,
+                };
+                self.note_turns(task, &form)?;
+            }
+        }
+        Ok(())
+    }
+
+    /// Notes the form of an item, and where it is no square turned too.
+    fn note_turns(&mut self, task: &Task, form: &Form) -> Result<(), Memory> {
+        self.note_single(task, form)?;
+        if form.width == form.height {
+            return Ok(());
+        }
+        let turned = Form {
+            part: Part {
+                stack: form.part.stack,
+                turned: true,
+            },
+            width: form.height,
+            height: form.width,
+            ..*form
+        };
+        self.note_single(task, &turned)
+    }
+
+    fn note_single(&mut self, task: &Task, form: &Form) -> Result<(), Memory> {
+        if form.width <= task.sheet.max1 && form.height <= task.sheet.high {
+            self.list.push(*form)?;
+        }
+        Ok(())
+    }
+
+    /// Notes pairs of the next two items of a stack.
+    fn note_pairs_of_stacks(
+        &mut self,
+        task: &Task,
+        ledger: &Ledger,
+        base: &Base,
+        singles: usize,
+    ) -> Result<(), Memory> {
+        for place in 0..singles {
+            if let Some(under) = self.list.get(place).copied() {
+                let stack = usize::from(under.part.stack);
+                if let Some(piece) = task.stock.piece(stack, base.places, 1) {
+                    self.note_pair_of_stack(task, ledger, base, &under, piece)?;
+                }
+            }
+        }
+        Ok(())
+    }
+
+    /// Notes an item over the one before it in its stack, in both turns.
+    fn note_pair_of_stack(
+        &mut self,
+        task: &Task,
+        ledger: &Ledger,
+        base: &Base,
+        under: &Form,
+        piece: Piece,
+    ) -> Result<(), Memory> {
+        let over = upper(under, piece, false);
+        self.note_pair(task, ledger, base, under, &over)?;
+        if piece.length == piece.width {
+            return Ok(());
+        }
+        let turned = upper(under, piece, true);
+        self.note_pair(task, ledger, base, under, &turned)
+    }
+
+    /// Notes one item over another, where they have one width and are not too high.
+    fn note_pair(
+        &mut self,
+        task: &Task,
+        ledger: &Ledger,
+        base: &Base,
+        under: &Form,
+        over: &Form,
+    ) -> Result<(), Memory> {
+        if over.width == under.width && under.height + over.height <= task.sheet.high {
+            self.list.push(stacked(task, ledger, base, under, over))?;
+        }
+        Ok(())
+    }
+
+    /// Notes pairs from two stacks.
+    fn note_pairs(
+        &mut self,
+        task: &Task,
+        ledger: &Ledger,
+        base: &Base,
+        singles: usize,
+    ) -> Result<(), Memory> {
+        for place in 0..singles {
+            if let Some(over) = self.list.get(place).copied() {
+                self.note_partners(task, ledger, base, &over)?;
+                self.widths.push(over.width.0 as usize)?;
+            }
+        }
+        Ok(())
+    }
+
+    /// Notes a form over each of the last forms before it that have its width and are of other stacks.
+    fn note_partners(
+        &mut self,
+        task: &Task,
+        ledger: &Ledger,
+        base: &Base,
+        over: &Form,
+    ) -> Result<(), Memory> {
+        let mut partner = self.widths.last(over.width.0 as usize);
+        for _ in 0..MOST_PARTNERS {
+            let Some(place) = partner else {
+                return Ok(());
+            };
+            if let Some(under) = self.list.get(place as usize).copied() {
+                if under.part.stack != over.part.stack {
+                    self.note_pair(task, ledger, base, &under, over)?;
+                }
+            }
+            partner = self.widths.before(place);
+        }
+        Ok(())
+    }
+}

@@ -1,0 +1,151 @@
+//! The items to be cut, stack by stack, and what each is worth.
+
+ghost use Rattle.std.specs.Prelude.{◌<◌, length};
+
+use crate::measure::{Amount, Length};
+use glass_base::{Instance, Memory};
+use std::alloc::Global;
+
+/// An item. All lengths are in mm.
+#[derive(Clone, Copy)]
+pub struct Piece {
+    pub length: Length,
+    pub width: Length,
+    pub area: Amount,
+    /// What it is worth when it is cut, in 1/1024 mm² of waste: more where much stands behind it in its stack, so that the
+    /// stacks are kept even.
+    pub value: Amount,
+}
+
+impl Piece {
+    /// The sides along x and y.
+    pub fn sides(&self, turned: bool) -> (Length, Length) {
+        if turned {
+            (self.width, self.length)
+        } else {
+            (self.length, self.width)
+        }
+    }
+}
+
+/// A stack.
+#[derive(Drop)]
+pub struct Stack {
+    /// Its items, in the order in which they are cut.
+    pub pieces: Vec<Piece>,
+    /// A number below 2^48. Sets of items are told apart by the sums of these.
+    pub mix: u64,
+}
+
+/// The items of an instance.
+#[derive(Drop)]
+pub struct Stock {
+    pub stacks: Vec<Stack>,
+    /// How many items there are.
+    pub items: usize,
+    /// The value of all items.
+    pub value: Amount,
+}
+
+/// The next state of the generator of mixes.
+fn next_state(state: u64) -> u64 {
+    1_664_525u64.wrapping_mul(state).wrapping_add(1_013_904_223) % (1 << 32)
+}
+
+/// Draws a mix of three numbers below 2^16.
+fn draw_mix(state: &mut u64) -> u64 {
+    let first = next_state(*state);
+    let second = next_state(first);
+    let third = next_state(second);
+    *state = third;
+    let high = (first / 65_536).wrapping_mul(1 << 32);
+    let middle = (second / 65_536).wrapping_mul(1 << 16);
+    high.wrapping_add(middle).wrapping_add(third / 65_536)
+}
+
+/// What an item of this area is worth that so much area stands behind. `rate` is the loss that is expected of an area in
+/// 1/1024, `mean` the mean area of a stack.
+fn value_of(area: u64, behind: u64, rate: u64, mean: u64) -> u64 {
+    let rest = behind.wrapping_mul(2).wrapping_add(area).wrapping_mul(1024);
+    let share = rest.checked_div(mean.wrapping_mul(2)).unwrap_or(0);
+    let loss = rate.wrapping_mul(area) / 1024;
+    loss.wrapping_mul(share.wrapping_add(512))
+}
+
+/// The items at these positions of the batch, from the last to the first.
+fn pieces_of(
+    alloc: Global,
+    instance: &Instance,
+    positions: &[u32],
+    rate: u64,
+    mean: u64,
+) -> Result<Vec<Piece>, Memory> {
+    let items = instance.items();
+    let mut pieces = Vec::new(alloc);
+    let mut behind = 0u64;
+    for position in positions.iter().rev() {
+        if let Some(item) = items.get(*position as usize) {
+            let area = u64::from(item.length).wrapping_mul(u64::from(item.width));
+            pieces.push(Piece {
+                length: Length(item.length),
+                width: Length(item.width),
+                area: Amount(area),
+                value: Amount(value_of(area, behind, rate, mean)),
+            })?;
+            behind = behind.wrapping_add(area);
+        }
+    }
+    pieces.reverse();
+    Ok(pieces)
+}
+
+fn total_value(stacks: &[Stack]) -> Amount {
+    let mut total = Amount::ZERO;
+    for stack in stacks {
+        for piece in &stack.pieces {
+            total = total + piece.value;
+        }
+    }
+    total
+}
+
+fn stacks_of(alloc: Global, instance: &Instance, rate: u64) -> Result<Vec<Stack>, Memory> {
+    let count = instance.stacks();
+    let mean = instance
+        .area()
+        .checked_div(u64::from(count))
+        .unwrap_or(1)
+        .max(1);
+    let mut state = 12_345;
+    let mut stacks = Vec::new(alloc);
+    for number in 0..count {
+        let pieces = pieces_of(alloc, instance, instance.stack(number), rate, mean)?;
+        let mix = draw_mix(&mut state);
+        stacks.push(Stack { pieces, mix })?;
+    }
+    Ok(stacks)
+}
+
+impl Stock {
+    /// The items of an instance, where `rate` is the loss that is expected of an area, in 1/1024.
+    pub fn new(alloc: Global, instance: &Instance, rate: u64) -> Result<Stock, Memory> {
+        let stacks = stacks_of(alloc, instance, rate)?;
+        let value = total_value(stacks.as_slice());
+        Ok(Stock {
+            stacks,
+            items: instance.items().len(),
+            value,
+        })
+    }
+
+    /// The item of this stack that is cut next but `behind`, where so many are cut already.
+    pub fn piece(&self, stack: usize, places: &[u16], behind: usize) -> Option<Piece> {
+        match (self.stacks.get(stack), places.get(stack)) {
+            (Some(held), Some(place)) => {
+                let next = usize::from(*place).saturating_add(behind);
+                held.pieces.get(next).copied()
+            }
+            _ => None,
+        }
+    }
+}

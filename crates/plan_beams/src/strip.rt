@@ -1,0 +1,93 @@
+//! The strip that a node leaves open.
+
+use crate::measure::Length;
+use crate::node::{Begins, Node};
+use crate::scene::{Band, Cell, Rectangle};
+use crate::sheet::Sheet;
+use crate::ticks::Ticks;
+use glass_base::Memory;
+use std::alloc::Global;
+
+/// The open strip of a node.
+#[derive(Drop)]
+pub struct OpenStrip {
+    /// The open band and the closed ones, from the last on.
+    pub bands: Vec<Band>,
+    /// The cells of the open band, from the last on.
+    pub cells: Vec<Cell>,
+    /// The defects that may stand in the way, from left to right.
+    pub defects: Vec<Rectangle>,
+}
+
+/// The node before this one.
+pub fn parent_of(arena: &[Node], node: &Node) -> Option<Node> {
+    arena.get(node.parent? as usize).copied()
+}
+
+/// The bands behind the first, which is the open one.
+pub fn closed(bands: &[Band]) -> &[Band] {
+    match bands.split_first() {
+        Some((_, closed)) => closed,
+        None => &[],
+    }
+}
+
+impl OpenStrip {
+    pub fn new(alloc: Global) -> OpenStrip {
+        OpenStrip {
+            bands: Vec::new(alloc),
+            cells: Vec::new(alloc),
+            defects: Vec::new(alloc),
+        }
+    }
+
+    /// Notes the bands of the strip in which a node's cell lies, and the cells of the open one.
+    pub fn note(&mut self, arena: &[Node], node: &Node) -> Result<(), Memory> {
+        self.bands.clear();
+        self.cells.clear();
+        self.bands.push(node.band())?;
+        let mut current = *node;
+        let mut is_open = true;
+        for _ in 0..node.items {
+            if is_open {
+                self.cells.push(current.cell())?;
+            }
+            if current.begins.is_strip() {
+                return Ok(());
+            }
+            let Some(parent) = parent_of(arena, &current) else {
+                return Ok(());
+            };
+            if let Begins::Band = current.begins {
+                is_open = false;
+                self.bands.push(parent.band())?;
+            }
+            current = parent;
+        }
+        Ok(())
+    }
+
+    /// Notes the defects of a plate that reach right of `left` and begin left of `right`.
+    pub fn note_defects(
+        &mut self,
+        sheet: &Sheet,
+        plate: u16,
+        left: Length,
+        right: Length,
+        ticks: &mut Ticks,
+    ) -> Result<(), Memory> {
+        self.defects.clear();
+        if let Some(on) = sheet.plates.get(usize::from(plate)) {
+            for defect in &on.defects {
+                if right <= defect.x0 {
+                    break;
+                }
+                if left < defect.x1 {
+                    self.defects.push(*defect)?;
+                }
+            }
+            ticks.spend_quarter(on.defects.len());
+        }
+        Ok(())
+    }
+}
