@@ -1,10 +1,10 @@
 -- What follows of the widths of plates.
-use Rattle.std.proofs.Common.{◌≡◌, ℕ, zero, suc, ◌+◌, ◌*◌, ◌<◌, ◌≤◌, ◌⊎◌, inl, inr, List, length, take, get_or, refl, sym, ap, subst, ◌∙◌, arith, add-one, add-zero, add-suc, ◌-◌}
+use Rattle.std.proofs.Common.{◌≡◌, ℕ, zero, suc, ◌+◌, ◌*◌, ◌<◌, ◌≤◌, ◌⊎◌, inl, inr, List, [], ◌∷◌, All, fold, length, max, take, get_or, refl, sym, ap, subst, ◌∙◌, arith, add-one, add-zero, add-suc, ◌-◌}
 use Rattle.std.specs.Prelude.{min, sum, slice_index}
 use Rattle.std.proofs.Math.ListN.{get_or-eq_default}
-use Rattle.std.proofs.lemmas.List.Elements.{All-get_or}
+use Rattle.std.proofs.lemmas.List.Elements.{All-cons, All-get_or, All-head, All-nil, All-tail, All-weaker}
 use Rattle.std.proofs.lemmas.List.Sums.{sum_by_more}
-use Rattle.glass_base.specs.Plates.{Width, Before}
+use Rattle.glass_base.specs.Plates.{Width, Widest, Before}
 use Rattle.glass_base.specs.Problem.{Problem, IsProblem}
 use Rattle.glass_base.specs.Widths.{IsWidth}
 use Rattle.glass_base.specs.inner.Starts.{AreStarts}
@@ -29,6 +29,36 @@ width_within b plate h =
       | inl lt ↦ All-get_or IsWidth b.widths plate b.params.width lt h.widths.each
       | inr le ↦ subst IsWidth (sym (get_or-eq_default b.widths b.params.width le)) (b.params.accepted.wide, b.params.accepted.width_limit)
     ]
+
+-- the greatest of a number and a list is at least this number
+fold_max_first : (xs : List ℕ) (n : ℕ) → n ≤ fold max n xs
+fold_max_first [] n = omega arith
+fold_max_first (x ∷ xs) n = omega (arith, fold_max_first xs (max n x))
+
+-- and at least each of the list
+fold_max_each : (xs : List ℕ) (n : ℕ) → All (λ x. x ≤ fold max n xs) xs
+fold_max_each [] n = All-nil (λ x. x ≤ n)
+fold_max_each (x ∷ xs) n = All-cons (λ y. y ≤ fold max (max n x) xs) x xs (omega (arith, fold_max_first xs (max n x))) (fold_max_each xs (max n x))
+
+-- it is no more than what all of them are no more than
+fold_max_most : (xs : List ℕ) (n most : ℕ) → n ≤ most → All (λ x. x ≤ most) xs → fold max n xs ≤ most
+fold_max_most [] n most first each = first
+fold_max_most (x ∷ xs) n most first each = fold_max_most xs (max n x) most (omega (arith, first, All-head (λ y. y ≤ most) x xs each)) (All-tail (λ y. y ≤ most) x xs each)
+
+-- no plate is wider than the widest
+pub width_most : (b : Problem) (plate : ℕ) → Width b plate ≤ Widest b
+unfolding Width Widest
+width_most b plate =
+    elim (below_or_not plate (length b.widths)) [
+      | inl lt ↦ All-get_or (λ x. x ≤ fold max b.params.width b.widths) b.widths plate b.params.width lt (fold_max_each b.widths b.params.width)
+      | inr le ↦ subst (λ x. x ≤ fold max b.params.width b.widths) (sym (get_or-eq_default b.widths b.params.width le)) (fold_max_first b.widths b.params.width)
+    ]
+
+-- the widest plate is at most 20,000 mm wide
+pub widest_within : (b : Problem) → IsProblem b → Widest b ≤ 20000
+unfolding Widest
+widest_within b h =
+    fold_max_most b.widths b.params.width 20000 b.params.accepted.width_limit (All-weaker IsWidth (λ x. x ≤ 20000) (λ x w. w.1) b.widths h.widths.each)
 
 pub before_within : (b : Problem) (plate : ℕ) → IsProblem b → Before b plate ≤ 20000 * plate
 unfolding Before

@@ -1,5 +1,6 @@
 //! What is found where a case is run.
 
+use crate::boxes::tell_box;
 use crate::book::{Case, Draw, Subject};
 use crate::steps::tell_steps;
 use crate::telling::tell_trace;
@@ -85,6 +86,7 @@ pub fn answer(alloc: Global, case: &Case) -> anyhow::Result<String> {
         Subject::Plan => tell_plan(alloc, &mut found, &instance, case.plan.as_bytes())?,
         Subject::Draft => tell_draft(alloc, &mut found, &instance)?,
         Subject::FirstPlan => tell_first(alloc, &mut found, &instance)?,
+        Subject::Box => tell_box(alloc, &mut found, &instance, case.halves.as_slice())?,
     }
     Ok(found)
 }

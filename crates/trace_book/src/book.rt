@@ -1,9 +1,11 @@
 //! What a paragraph of the book says.
 
+use crate::boxes::var_of;
 use crate::steps::{numbers_of, step_of};
 use anyhow::bail;
 use cut_model::Trace;
 use glass_base::{Run, append};
+use plan_box::Var;
 use std::alloc::{AllocError, Global};
 
 /// What a case tells of.
@@ -15,6 +17,7 @@ pub enum Subject {
     Plan,
     Draft,
     FirstPlan,
+    Box,
 }
 
 /// What is drawn.
@@ -23,6 +26,14 @@ pub struct Draw {
     pub start: u32,
     pub items: u32,
     pub defects: u32,
+}
+
+/// A half of a box at a variable.
+#[derive(Clone, Copy)]
+pub struct Half {
+    pub step: u32,
+    pub var: Var,
+    pub is_upper: bool,
 }
 
 /// A case: the texts that it gives, and what it says of them.
@@ -43,6 +54,8 @@ pub struct Case {
     pub plan: String,
     /// The steps that it gives, where it tells of a trace.
     pub trace: Trace,
+    /// The halves that are taken, one after another, where it tells of a box.
+    pub halves: Run<Half>,
     /// The lines that say what is to be found.
     said: String,
 }
@@ -96,6 +109,25 @@ fn draw_of(alloc: Global, written: &str) -> anyhow::Result<Draw> {
     }
 }
 
+/// The half that is written so.
+fn half_of(written: &str) -> anyhow::Result<Half> {
+    let (step, rest) = first_word(written);
+    let (name, part) = first_word(rest);
+    let Some(var) = var_of(name) else {
+        bail!("{name} is no variable");
+    };
+    let is_upper = match part {
+        "lower" => false,
+        "upper" => true,
+        _ => bail!("a half is lower or upper"),
+    };
+    Ok(Half {
+        step: step.parse::<u32>()?,
+        var,
+        is_upper,
+    })
+}
+
 impl Case {
     /// A case of which no line is read.
     fn new(alloc: Global) -> Result<Case, AllocError> {
@@ -110,6 +142,7 @@ impl Case {
             trace: Trace {
                 steps: Run::new(alloc),
             },
+            halves: Run::new(alloc),
             said: String::new(alloc),
         })
     }
@@ -143,12 +176,15 @@ impl Case {
                 self.subject = Subject::Plan;
                 add_line(&mut self.plan, rest)?;
             }
+            "half" => append(&mut self.halves, half_of(rest)?)?,
+            "box" => self.ask(Subject::Box, line)?,
             "draft" => self.ask(Subject::Draft, line)?,
             "first" => self.ask(Subject::FirstPlan, line)?,
             "step" if self.subject == Subject::Trace => append(
                 &mut self.trace.steps,
                 step_of(alloc, rest)?,
             )?,
+            "decided" | "ranges" | "free" | "point" => add_line(&mut self.said, line)?,
             "step" | "none" | "row" | "meets" | "breaks" | "length" | "loss" | "lost" | "plan" => {
                 add_line(&mut self.said, line)?;
             }
@@ -165,7 +201,7 @@ impl Case {
                 self.subject == Subject::Trace || self.says("meets") || self.says("breaks")
             }
             "step" => self.subject != Subject::FirstPlan || self.says("step"),
-            "length" | "loss" | "lost" => self.says(word),
+            "decided" | "ranges" | "free" | "point" | "length" | "loss" | "lost" => self.says(word),
             "plan" | "row" => self.says("plan"),
             _ => true,
         }

@@ -4,6 +4,7 @@
 
 mod answering;
 mod book;
+mod boxes;
 mod steps;
 mod telling;
 

@@ -1,0 +1,10 @@
+pub mod Frames
+pub mod Ranges
+pub mod Decisions
+pub mod Halves
+pub mod Leasts
+pub mod Bounds
+pub mod Reasons
+pub mod Plans
+pub mod Packed
+pub mod inner
