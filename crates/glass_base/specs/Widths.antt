@@ -1,5 +1,5 @@
 -- Lists of widths, one for each plate.
-use Rattle.std.specs.Prelude.{◌≡◌, ℕ, ◌+◌, ◌≤◌, List, length, replicate, slice_index, sum, take, All}
+use Rattle.std.specs.Prelude.{◌≡◌, ℕ, ◌≤◌, List, length, replicate, All}
 use Rattle.glass_base.specs.declared.params.Params.{Params}
 
 -- a width in mm that a plate may have

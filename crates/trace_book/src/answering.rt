@@ -1,7 +1,7 @@
 //! What is found where a case is run.
 
-use crate::boxes::tell_box;
 use crate::book::{Case, Draw, Subject};
+use crate::boxes::tell_box;
 use crate::steps::tell_steps;
 use crate::telling::tell_trace;
 use anyhow::ensure;

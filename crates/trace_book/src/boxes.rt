@@ -39,12 +39,7 @@ fn halves_of(id: u64) -> (u64, u64) {
 }
 
 /// A half of a box: a lower one by `split`, an upper one by `room` and `split_in`.
-fn half_of(
-    alloc: Global,
-    instance: &Instance,
-    bx: PlanBox,
-    half: &Half,
-) -> anyhow::Result<PlanBox>
+fn half_of(alloc: Global, instance: &Instance, bx: PlanBox, half: &Half) -> anyhow::Result<PlanBox>
     requires { bx.frame ≡ frame_of instance.now }
     ensures { IfOk result (λ bx. bx.frame ≡ frame_of instance.now) }
 {
