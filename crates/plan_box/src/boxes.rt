@@ -135,7 +135,7 @@ fn narrowed(
 
 impl PlanBox {
     ghost use Rattle.std.specs.Prelude.{◌≡◌, ◌<◌, ◌≤◌, ◌↔◌, IfOk, IfErr, IsTrue, map, slice_index_or, length};
-    ghost use Rattle.plan_box.specs.Decisions.{decided as decided_of, is_free, IsPoint};
+    ghost use Rattle.plan_box.specs.Decisions.{all_decided, decided as decided_of, is_free, IsPoint};
     ghost use Rattle.plan_box.specs.inner.Openings.{is_open as is_open_of};
     ghost use Rattle.plan_box.specs.Halves.{lower_half, upper_half, child_of};
     ghost use Rattle.plan_box.specs.inner.Stored.{IsEmptyFor};
@@ -192,6 +192,13 @@ impl PlanBox {
         ensures { result ≡ length (decided_of self.now.ranges) }
     {
         decided_of_stored(self.stored.as_slice()) as u32
+    }
+
+    /// Whether all steps are decided.
+    pub fn is_decided(&self) -> bool
+        ensures { result ≡ all_decided self.now.ranges }
+    {
+        self.decided() == self.frame.items
     }
 
     /// Whether a variable can be split: its range has more than one number, and it is one of those that a decided step opens, or

@@ -67,7 +67,7 @@ fn next_item(instance: &Instance, before: &[Step], stack: u32) -> Option<Item>
 }
 
 /// The side along x of an item in this turn.
-fn width_in(turn: u32, item: Option<Item>) -> u32
+pub fn width_in(turn: u32, item: Option<Item>) -> u32
     ensures { result ≡ item_width turn item }
 {
     match item {
@@ -77,7 +77,7 @@ fn width_in(turn: u32, item: Option<Item>) -> u32
 }
 
 /// The side along y of an item in this turn.
-fn height_in(turn: u32, item: Option<Item>) -> u32
+pub fn height_in(turn: u32, item: Option<Item>) -> u32
     ensures { result ≡ item_height turn item }
 {
     match item {
@@ -112,7 +112,7 @@ fn cell_width_behind(level: Level, before: u32, w: u32) -> u32
 }
 
 /// The plates begun after a step of this kind.
-fn plates_behind(kind: u32, before: u32) -> u32
+pub fn plates_behind(kind: u32, before: u32) -> u32
     requires { before + 1 < 2 ^ 32 }
     ensures { result ≡ plates_after kind before }
 {

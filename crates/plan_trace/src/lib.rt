@@ -3,7 +3,7 @@
 
 mod growing;
 mod here;
-mod laid;
+pub mod laid;
 pub mod laws;
 pub mod level;
 mod lines;
@@ -12,6 +12,6 @@ pub mod planning;
 mod rules;
 pub mod tracing;
 
-pub use meeting::{TraceBroken, meets};
+pub use meeting::{TraceBroken, first_broken, meets};
 pub use planning::plan_of;
 pub use tracing::trace_of;

@@ -70,8 +70,8 @@ fn first_step(instance: &Instance, map: &DefectMap, steps: &[Step], rule: u32) -
     None
 }
 
-/// The first rule that a trace breaks.
-fn first_broken(instance: &Instance, map: &DefectMap, steps: &[Step]) -> Option<TraceBroken>
+/// The first rule that these steps break: `meets` on a list of steps that is no trace of its own.
+pub fn first_broken(instance: &Instance, map: &DefectMap, steps: &[Step]) -> Option<TraceBroken>
     requires few { length steps.now < 2 ^ 32 }
     requires map { map.now ≡ instance.now.defects }
     ensures { MatchOption result (Meets instance.now steps.now) (λ broken. IsFirstBroken instance.now steps.now broken.rule broken.step) }

@@ -184,7 +184,17 @@ impl Case {
                 &mut self.trace.steps,
                 step_of(alloc, rest)?,
             )?,
-            "decided" | "ranges" | "free" | "point" => add_line(&mut self.said, line)?,
+            "decided"
+            | "ranges"
+            | "free"
+            | "point"
+            | "least"
+            | "bound"
+            | "refuted"
+            | "open"
+            | "probe" => {
+                add_line(&mut self.said, line)?;
+            }
             "step" | "none" | "row" | "meets" | "breaks" | "length" | "loss" | "lost" | "plan" => {
                 add_line(&mut self.said, line)?;
             }
@@ -200,8 +210,20 @@ impl Case {
             "meets" | "breaks" => {
                 self.subject == Subject::Trace || self.says("meets") || self.says("breaks")
             }
-            "step" => self.subject != Subject::FirstPlan || self.says("step"),
-            "decided" | "ranges" | "free" | "point" | "length" | "loss" | "lost" => self.says(word),
+            "step" => {
+                !matches!(self.subject, Subject::FirstPlan | Subject::Box) || self.says("step")
+            }
+            "refuted" | "open" => self.says("refuted") || self.says("open"),
+            "decided"
+            | "ranges"
+            | "free"
+            | "point"
+            | "least"
+            | "bound"
+            | "probe"
+            | "length"
+            | "loss"
+            | "lost" => self.says(word),
             "plan" | "row" => self.says("plan"),
             _ => true,
         }

@@ -4,6 +4,7 @@ ghost use Rattle.std.specs.Prelude.{◌≡◌, IfOk};
 ghost use Rattle.plan_box.specs.Frames.{frame_of};
 
 use crate::book::Half;
+use crate::bounds::tell_found;
 use anyhow::{bail, ensure};
 use glass_base::Instance;
 use plan_box::{PlanBox, Var};
@@ -108,5 +109,5 @@ pub fn tell_box(
     if bx.is_point() {
         writeln!(found, "point")?;
     }
-    Ok(())
+    tell_found(alloc, found, instance, &bx)
 }

@@ -4,6 +4,7 @@
 
 mod answering;
 mod book;
+mod bounds;
 mod boxes;
 mod steps;
 mod telling;

@@ -1,0 +1,3 @@
+pub mod Kept
+pub mod Leastings
+pub mod inner

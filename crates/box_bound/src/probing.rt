@@ -1,0 +1,100 @@
+//! The trace at the least values of a box.
+
+ghost use Rattle.std.specs.Prelude.{◌≡◌, ◌≤◌, ◌↔◌, IsTrue, length, slice_set};
+ghost use Rattle.std.specs.Prelude.{map as mapped};
+ghost use Rattle.plan_trace.specs.TraceRules.{Meets};
+ghost use Rattle.plan_box.specs.Decisions.{all_decided};
+ghost use Rattle.plan_box.specs.Frames.{frame_of};
+ghost use Rattle.plan_box.specs.Leasts.{known, least_step as least_step_of, least_steps};
+ghost use Rattle.box_bound.specs.Kept.{late};
+ghost use Rattle.box_bound.specs.Leastings.{IsFor};
+
+use crate::filling::decided_ranges;
+use crate::kept::Kept;
+use crate::leasts::Leasts;
+use crate::walking::seen_in;
+use cut_model::{Step, Trace};
+use defect_map::DefectMap;
+use glass_base::{Instance, Run};
+use plan_box::{Frame, Packed, PlanBox};
+use plan_trace::first_broken;
+
+/// The step that a decided step stands for at its least values.
+pub fn least_step(kept: &Kept) -> Step
+    ensures { result ≡ least_step_of (late kept.now) }
+{
+    let place = &kept.place;
+    let ends = &kept.ends;
+    Step {
+        stack: place.stack,
+        turn: place.turn,
+        kind: place.kind,
+        lift: place.lift,
+        a: ends.least_a,
+        b: ends.least_b,
+        c: ends.least_c,
+        d: ends.least_d,
+        e: ends.least_e,
+    }
+}
+
+/// Writes the least steps of these over a list that has a step for each of them.
+fn write(kept: &[Kept], steps: &mut Run<Step>)
+    requires { length kept.now ≡ length steps.old.items }
+    ensures { steps.new.items ≡ mapped (λ k. least_step_of (late k)) kept.now }
+{
+    for (i, k) in kept.iter().enumerate() {
+        steps.set(i, least_step(k));
+    }
+}
+
+/// Writes these steps over a list of as many.
+fn overwrite(numbers: &[Step], steps: &mut Run<Step>)
+    requires { length numbers.now ≡ length steps.old.items }
+    ensures { steps.new.items ≡ numbers.now }
+{
+    for (i, step) in numbers.iter().enumerate() {
+        steps.set(i, *step);
+    }
+}
+
+/// Fills the trace with the discrete and the least values of a box whose steps are all decided, and tells whether it meets the
+/// rules. The trace has a step for each item. It takes no memory, and computes each step anew.
+pub fn probe(instance: &Instance, map: &DefectMap, bx: &PlanBox, trace: &mut Trace) -> bool
+    requires map { map.now ≡ instance.now.defects }
+    requires instance { bx.now.frame ≡ frame_of instance.now }
+    requires whole { IsTrue (all_decided bx.now.ranges) }
+    requires trace { length trace.old.steps.items ≡ length instance.now.items }
+    ensures trace { trace.new.steps.items ≡ least_steps (known instance.now bx.now.ranges) }
+    ensures meets { IsTrue result ↔ Meets instance.now trace.new.steps.items }
+{
+    let _items = instance.items();
+    let _frame = bx.frame();
+    let mut numbers = [least_step(&Kept::none(Packed::full(Frame::of(instance)))); 800];
+    let ranges = decided_ranges(instance, bx);
+    let _seen = seen_in(instance, map, true, ranges, &mut numbers);
+    overwrite(&numbers[..ranges.len()], &mut trace.steps);
+    first_broken(instance, map, trace.steps.as_slice()).is_none()
+}
+
+/// `probe`, where the leasts are for the box.
+pub fn probe_at(
+    instance: &Instance,
+    map: &DefectMap,
+    leasts: &Leasts,
+    _bx: &PlanBox,
+    trace: &mut Trace,
+) -> bool
+    requires map { map.now ≡ instance.now.defects }
+    requires instance { _bx.now.frame ≡ frame_of instance.now }
+    requires leasts { IsFor instance.now _bx.now leasts.now }
+    requires whole { IsTrue (all_decided _bx.now.ranges) }
+    requires trace { length trace.old.steps.items ≡ length instance.now.items }
+    ensures trace { trace.new.steps.items ≡ least_steps (known instance.now _bx.now.ranges) }
+    ensures meets { IsTrue result ↔ Meets instance.now trace.new.steps.items }
+{
+    let _items = instance.items();
+    let _frame = _bx.frame();
+    write(leasts.kept(), &mut trace.steps);
+    first_broken(instance, map, trace.steps.as_slice()).is_none()
+}

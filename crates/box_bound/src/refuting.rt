@@ -1,0 +1,168 @@
+//! The first reason for which no plan of a box is lawful.
+
+ghost use Rattle.std.specs.Prelude.{◌≡◌, ◌<◌, ◌≤◌, ◌↔◌, IsNone, IsTrue, MatchBool, MatchOption, Some, length, take, true, false};
+ghost use Rattle.std.specs.Prelude.{map as mapped};
+ghost use Rattle.glass_base.specs.Plates.{Before};
+ghost use Rattle.plan_trace.specs.TraceRules.{Meets};
+ghost use Rattle.plan_box.specs.Decisions.{IsPoint, decided};
+ghost use Rattle.plan_box.specs.Frames.{frame_of};
+ghost use Rattle.plan_box.specs.Leasts.{known, least_step as least_step_of, least_steps};
+ghost use Rattle.plan_box.specs.Reasons.{Applies, IsFirstReason, IsRefuted, R7};
+ghost use Rattle.plan_box.specs.declared.reason.Reason.{Reason as ReasonOf};
+ghost use Rattle.box_bound.specs.Kept.{late};
+ghost use Rattle.box_bound.specs.Leastings.{IsFor};
+ghost use Rattle.box_bound.specs.inner.Seen.{AppliesEarly, IsFirstIfAny};
+
+use crate::bounding::{length_at, length_of};
+use crate::filling::decided_ranges;
+use crate::kept::Kept;
+use crate::leasts::Leasts;
+use crate::probing::least_step;
+use crate::walking::seen_in;
+use cut_model::Step;
+use defect_map::DefectMap;
+use glass_base::Instance;
+use plan_box::{Frame, Packed, PlanBox, Reason};
+use plan_trace::first_broken;
+
+/// The first reason that was seen at the decided steps, or that more glass is needed than there is.
+fn with_length(seen: Option<Reason>, too_long: bool) -> Option<Reason>
+    ensures long { too_long ≡ true → result ≡ Some ReasonOf.R1 }
+    ensures short { too_long ≡ false → result ≡ seen }
+{
+    if too_long { Some(Reason::R1) } else { seen }
+}
+
+/// Whether a length is more than there is glass.
+fn is_too_long(instance: &Instance, length: u64) -> bool
+    ensures { IsTrue result ↔ (Before instance.now instance.now.params.plates < length) }
+{
+    instance.before(instance.params().plates) < length
+}
+
+/// Whether these steps break a rule.
+fn breaks(instance: &Instance, map: &DefectMap, steps: &[Step]) -> bool
+    requires map { map.now ≡ instance.now.defects }
+    requires few { length steps.now ≤ 800 }
+    ensures { MatchBool result (¬ Meets instance.now steps.now) (Meets instance.now steps.now) }
+{
+    first_broken(instance, map, steps).is_some()
+}
+
+/// Whether the least steps of these decided steps, of which there are at most 800, break a rule.
+fn is_broken(instance: &Instance, map: &DefectMap, steps: &[Kept]) -> bool
+    requires map { map.now ≡ instance.now.defects }
+    requires few { length steps.now ≤ 800 }
+    ensures { let numbers = mapped (λ k. least_step_of (late k)) steps.now in MatchBool result (¬ Meets instance.now numbers) (Meets instance.now numbers) }
+{
+    let mut numbers = [least_step(&Kept::none(Packed::full(Frame::of(instance)))); 800];
+    for (i, step) in steps.iter().enumerate() {
+        numbers[i] = least_step(step);
+    }
+    breaks(instance, map, &numbers[..steps.len()])
+}
+
+/// Whether the box is a point whose numbers break a rule.
+fn is_broken_point_at(instance: &Instance, map: &DefectMap, leasts: &Leasts, bx: &PlanBox) -> bool
+    requires map { map.now ≡ instance.now.defects }
+    requires leasts { IsFor instance.now bx.now leasts.now }
+    requires possible { ¬ Applies ReasonOf.R1 instance.now bx.now.ranges }
+    ensures broken { IsTrue result ↔ R7 instance.now bx.now.ranges }
+    ensures met { result ≡ false → IsPoint bx.now.ranges → Meets instance.now (least_steps (known instance.now bx.now.ranges)) }
+{
+    let _items = instance.items();
+    if !bx.is_point() {
+        return false;
+    }
+    is_broken(instance, map, leasts.kept())
+}
+
+/// The first reason before R7 that applies to a box, if one does, where the leasts are for it.
+fn refuted_early_at(instance: &Instance, leasts: &Leasts, bx: &PlanBox) -> Option<Reason>
+    requires instance { bx.now.frame ≡ frame_of instance.now }
+    requires leasts { IsFor instance.now bx.now leasts.now }
+    ensures { IsFirstIfAny (AppliesEarly instance.now bx.now.ranges) result }
+{
+    let _items = instance.items();
+    let _frame = bx.frame();
+    with_length(
+        leasts.seen(),
+        is_too_long(instance, length_at(instance, leasts, bx)),
+    )
+}
+
+/// `refuted`, where the leasts are for the box. A point for which it gives none meets the rules at its least values.
+pub fn refuted_at(
+    instance: &Instance,
+    map: &DefectMap,
+    leasts: &Leasts,
+    bx: &PlanBox,
+) -> Option<Reason>
+    requires map { map.now ≡ instance.now.defects }
+    requires instance { bx.now.frame ≡ frame_of instance.now }
+    requires leasts { IsFor instance.now bx.now leasts.now }
+    ensures first { MatchOption result (¬ IsRefuted instance.now bx.now.ranges) (λ reason. IsFirstReason instance.now bx.now.ranges reason) }
+    ensures point { IsNone result → IsPoint bx.now.ranges → Meets instance.now (least_steps (known instance.now bx.now.ranges)) }
+{
+    if let Some(reason) = refuted_early_at(instance, leasts, bx) {
+        return Some(reason);
+    }
+    if is_broken_point_at(instance, map, leasts, bx) {
+        return Some(Reason::R7);
+    }
+    None
+}
+
+/// The first reason before R7 that applies to a box, if one does; writes the step that each decided one stands for at its least
+/// values.
+fn refuted_early(
+    instance: &Instance,
+    map: &DefectMap,
+    bx: &PlanBox,
+    numbers: &mut [Step],
+) -> Option<Reason>
+    requires map { map.now ≡ instance.now.defects }
+    requires instance { bx.now.frame ≡ frame_of instance.now }
+    requires room { length numbers.old ≡ 800 }
+    ensures first { IsFirstIfAny (AppliesEarly instance.now bx.now.ranges) result }
+    ensures numbers { take (length (decided bx.now.ranges)) numbers.new ≡ least_steps (known instance.now bx.now.ranges) }
+    ensures room { length numbers.new ≡ 800 }
+{
+    let _frame = bx.frame();
+    let ranges = decided_ranges(instance, bx);
+    let whole = ranges.len() == instance.items().len();
+    let seen = seen_in(instance, map, whole, ranges, numbers);
+    with_length(seen, is_too_long(instance, length_of(instance, bx)))
+}
+
+/// Whether the box is a point whose numbers, which are these, break a rule.
+fn is_broken_point(instance: &Instance, map: &DefectMap, bx: &PlanBox, numbers: &[Step]) -> bool
+    requires map { map.now ≡ instance.now.defects }
+    requires numbers { numbers.now ≡ least_steps (known instance.now bx.now.ranges) }
+    requires few { length numbers.now ≤ 800 }
+    requires possible { ¬ Applies ReasonOf.R1 instance.now bx.now.ranges }
+    ensures { IsTrue result ↔ R7 instance.now bx.now.ranges }
+{
+    if !bx.is_point() {
+        return false;
+    }
+    breaks(instance, map, numbers)
+}
+
+/// The first reason that applies to a box, if one does. It takes no memory, and computes each step anew.
+pub fn refuted(instance: &Instance, map: &DefectMap, bx: &PlanBox) -> Option<Reason>
+    requires map { map.now ≡ instance.now.defects }
+    requires instance { bx.now.frame ≡ frame_of instance.now }
+    ensures { MatchOption result (¬ IsRefuted instance.now bx.now.ranges) (λ reason. IsFirstReason instance.now bx.now.ranges reason) }
+{
+    let _items = instance.items();
+    let _frame = bx.frame();
+    let mut numbers = [least_step(&Kept::none(Packed::full(Frame::of(instance)))); 800];
+    if let Some(reason) = refuted_early(instance, map, bx, &mut numbers) {
+        return Some(reason);
+    }
+    if is_broken_point(instance, map, bx, &numbers[..bx.decided() as usize]) {
+        return Some(Reason::R7);
+    }
+    None
+}

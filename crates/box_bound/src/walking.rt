@@ -1,0 +1,133 @@
+//! The decided steps of a box without memory: a recursion that has each step's least values while it stands at it.
+
+ghost use Rattle.std.specs.Prelude.{◌≡◌, ◌+◌, ◌<◌, ◌≤◌, ◌++◌, All, IfSome, List, [], drop, length, take};
+ghost use Rattle.std.specs.Prelude.{map as mapped};
+ghost use Rattle.plan_trace.specs.declared.level.Level.TheVariants.{NewPlate};
+ghost use Rattle.plan_box.specs.Leasts.{Fixed, least_steps, no_known, settle, settle_at};
+ghost use Rattle.plan_box.specs.Packed.{unpacked};
+ghost use Rattle.plan_box.specs.Reasons.{SomeFixed};
+ghost use Rattle.box_bound.specs.Kept.{early, follow, late, with_ends};
+ghost use Rattle.box_bound.specs.inner.Seen.{IsFirstIfAny, StepOf};
+ghost use Rattle.box_bound.specs.inner.Walks.{AreLevels, IsHead, SomeBehind, steps_from};
+ghost use Rattle.box_bound.specs.inner.Within.{AreRangesWithin, AreWithin, limit};
+
+use crate::kept::{Kept, drawn};
+use crate::probing::least_step;
+use crate::seen::{earlier, seen_at};
+use cut_model::Step;
+use defect_map::DefectMap;
+use glass_base::Instance;
+use plan_box::{Frame, Packed, Reason, Var};
+
+/// What a walk over the decided steps from one on hands back.
+#[derive(Clone, Copy)]
+struct Walked {
+    /// The first of them, with its least values.
+    first: Option<Kept>,
+    /// The first reason that is a fact at one of the others.
+    seen: Option<Reason>,
+}
+
+/// A step with the least values of the last one of its strip and of its band, by the step behind it.
+fn settled_before(step: &Kept, behind: &Walked) -> Kept
+    ensures ends { result ≡ with_ends result.ends step.now }
+    ensures late { (ks : List Fixed) → IsHead behind.now.first ks → late result ≡ settle_at (early step.now) ks }
+{
+    match behind.first {
+        None => Kept {
+            ends: step.so_far,
+            ..*step
+        },
+        Some(next) => Kept {
+            ends: step.so_far.settled(next.level, &next.ends),
+            ..*step
+        },
+    }
+}
+
+/// The first reason that is a fact at one of the steps behind this one, of which these are the ranges.
+fn seen_behind(
+    instance: &Instance,
+    map: &DefectMap,
+    whole: bool,
+    step: &Kept,
+    ranges: &[Packed],
+    behind: &Walked,
+) -> Option<Reason>
+    requires map { map.now ≡ instance.now.defects }
+    requires within { IfSome behind.now.first (λ k. AreWithin 40000000 (late k)) }
+    ensures { (ks : List Fixed) → IsHead behind.now.first ks → AreLevels ks ranges.now → IsFirstIfAny (λ reason. SomeBehind (StepOf instance.now whole reason) ks) behind.now.seen → IsFirstIfAny (λ reason. SomeFixed (StepOf instance.now whole reason) step.now.level (late step.now) ks) result }
+{
+    let Some(next) = behind.first else {
+        return None;
+    };
+    match ranges.split_first() {
+        None => None,
+        Some((_, later)) => earlier(
+            seen_at(instance, map, whole, step, &next, later),
+            behind.seen,
+        ),
+    }
+}
+
+/// Goes over the decided steps of these ranges from one on, behind the step `last`, and writes the step that each stands for at
+/// its least values.
+fn walk(
+    instance: &Instance,
+    map: &DefectMap,
+    whole: bool,
+    ranges: &[Packed],
+    at: usize,
+    last: &Kept,
+    steps: &mut [Step],
+) -> Walked
+    requires map { map.now ≡ instance.now.defects }
+    requires few { length ranges.now ≤ 800 }
+    requires room { length ranges.now ≤ length steps.old }
+    requires inside { at ≤ length ranges.now }
+    requires ranges { All (λ x. AreRangesWithin (unpacked x)) ranges.now }
+    requires within { AreWithin (limit at) (early last.now) }
+    ensures first { IsHead result.first (steps_from instance.now ranges.now at (early last.now)) }
+    ensures within { IfSome result.first (λ k. AreWithin 40000000 (late k)) }
+    ensures seen { IsFirstIfAny (λ reason. SomeBehind (StepOf instance.now whole reason) (steps_from instance.now ranges.now at (early last.now))) result.seen }
+    ensures steps { steps.new ≡ take at steps.old ++ (least_steps (steps_from instance.now ranges.now at (early last.now)) ++ drop (length ranges.now) steps.old) }
+{
+    let _items = instance.items();
+    if at == ranges.len() {
+        return Walked {
+            first: None,
+            seen: None,
+        };
+    }
+    let taken = drawn(&ranges[..at], ranges[at].range(Var::Stack).0);
+    let step = last.next(instance, &ranges[..at], taken, &ranges[at]);
+    let behind = walk(instance, map, whole, ranges, at + 1, &step, steps);
+    let here = settled_before(&step, &behind);
+    steps[at] = least_step(&here);
+    let seen = seen_behind(instance, map, whole, &here, &ranges[at + 1..], &behind);
+    Walked {
+        first: Some(here),
+        seen,
+    }
+}
+
+/// The first reason that is a fact at some decided step of these ranges, if one is; writes the step that each stands for at its
+/// least values.
+pub fn seen_in(
+    instance: &Instance,
+    map: &DefectMap,
+    whole: bool,
+    ranges: &[Packed],
+    steps: &mut [Step],
+) -> Option<Reason>
+    requires map { map.now ≡ instance.now.defects }
+    requires few { length ranges.now ≤ 800 }
+    requires room { length ranges.now ≤ length steps.old }
+    requires ranges { All (λ x. AreRangesWithin (unpacked x)) ranges.now }
+    ensures seen { IsFirstIfAny (λ reason. SomeFixed (StepOf instance.now whole reason) NewPlate no_known (settle (follow instance.now [] no_known (mapped unpacked ranges.now)))) result }
+    ensures steps { take (length ranges.now) steps.new ≡ least_steps (settle (follow instance.now [] no_known (mapped unpacked ranges.now))) }
+{
+    let none = Kept::none(Packed::full(Frame::of(instance)));
+    let behind = walk(instance, map, whole, ranges, 0, &none, steps);
+    seen_behind(instance, map, whole, &none, ranges, &behind)
+}

@@ -1,0 +1,132 @@
+//! What is found of a box by its least values.
+
+ghost use Rattle.std.specs.Prelude.{◌≡◌, IfOk, IsTrue, length as length_of_list};
+ghost use Rattle.box_bound.specs.Leastings.{IsFor};
+ghost use Rattle.plan_box.specs.Decisions.{all_decided};
+ghost use Rattle.plan_box.specs.Frames.{frame_of};
+
+use crate::steps::tell_steps;
+use box_bound::{Leasts, bound, bound_at, choose, probe, probe_at, refuted, refuted_at};
+use cut_model::{Step, Trace};
+use defect_map::DefectMap;
+use glass_base::{Instance, Memory, Run, append};
+use plan_box::{PlanBox, Var};
+use std::alloc::{AllocError, Global};
+
+/// Adds the least values of the steps that are kept.
+fn tell_leasts(found: &mut String, leasts: &Leasts) -> Result<(), AllocError> {
+    for step in 0..800 {
+        if step as usize >= leasts.len() {
+            return Ok(());
+        }
+        let (a, b) = (leasts.least(step, Var::A), leasts.least(step, Var::B));
+        let (c, d) = (leasts.least(step, Var::C), leasts.least(step, Var::D));
+        let e = leasts.least(step, Var::E);
+        writeln!(found, "least {step} {a} {b} {c} {d} {e}")?;
+    }
+    Ok(())
+}
+
+/// Adds the bound of a box and the first reason that applies to it, and where the calls without leasts answer otherwise.
+fn tell_bounds(
+    found: &mut String,
+    instance: &Instance,
+    map: &DefectMap,
+    leasts: &Leasts,
+    bx: &PlanBox,
+) -> Result<(), AllocError>
+    requires map { map.now ≡ instance.now.defects }
+    requires instance { bx.now.frame ≡ frame_of instance.now }
+    requires leasts { IsFor instance.now bx.now leasts.now }
+{
+    let least = bound_at(instance, leasts, bx);
+    writeln!(found, "bound {least}")?;
+    if bound(instance, bx) != least {
+        writeln!(found, "another bound without leasts")?;
+    }
+    let reason = refuted_at(instance, map, leasts, bx);
+    match reason {
+        Some(reason) => writeln!(found, "refuted {reason:?}")?,
+        None => writeln!(found, "open")?,
+    }
+    if refuted(instance, map, bx) != reason {
+        writeln!(found, "another reason without leasts")?;
+    }
+    Ok(())
+}
+
+/// A trace with a step for each item, to be filled.
+fn blank(alloc: Global, instance: &Instance) -> Result<Trace, Memory>
+    ensures { IfOk result (λ trace. length_of_list trace.steps.items ≡ length_of_list instance.now.items) }
+{
+    let mut steps = Run::new(alloc);
+    for _number in 0..instance.items().len() {
+        append(
+            &mut steps,
+            Step {
+                stack: 0,
+                turn: 0,
+                kind: 0,
+                lift: 0,
+                a: 0,
+                b: 0,
+                c: 0,
+                d: 0,
+                e: 0,
+            },
+        )?;
+    }
+    Ok(Trace { steps })
+}
+
+/// Adds the trace at the least values of a box whose steps are all decided, and whether it meets the rules.
+fn tell_probe(
+    alloc: Global,
+    found: &mut String,
+    instance: &Instance,
+    map: &DefectMap,
+    leasts: &Leasts,
+    bx: &PlanBox,
+) -> anyhow::Result<()>
+    requires map { map.now ≡ instance.now.defects }
+    requires instance { bx.now.frame ≡ frame_of instance.now }
+    requires leasts { IsFor instance.now bx.now leasts.now }
+    requires whole { IsTrue (all_decided bx.now.ranges) }
+{
+    let mut trace = blank(alloc, instance)?;
+    let mut other = blank(alloc, instance)?;
+    let meets = probe_at(instance, map, leasts, bx, &mut trace);
+    tell_steps(found, trace.steps.as_slice())?;
+    writeln!(found, "probe {meets}")?;
+    let same = probe(instance, map, bx, &mut other) == meets;
+    if !same || other.steps.as_slice() != trace.steps.as_slice() {
+        writeln!(found, "another probe without leasts")?;
+    }
+    Ok(())
+}
+
+/// Adds what is found of a box by its least values. They are filled for it, for the whole box, and for it again.
+pub fn tell_found(
+    alloc: Global,
+    found: &mut String,
+    instance: &Instance,
+    bx: &PlanBox,
+) -> anyhow::Result<()>
+    requires instance { bx.now.frame ≡ frame_of instance.now }
+{
+    let map = DefectMap::new(alloc, instance)?;
+    let root = PlanBox::root(alloc, instance, 0)?;
+    let mut leasts = Leasts::new(alloc, instance)?;
+    leasts.fill(instance, bx);
+    tell_leasts(found, &leasts)?;
+    leasts.fill(instance, &root);
+    leasts.fill(instance, bx);
+    tell_bounds(found, instance, &map, &leasts, bx)?;
+    if bx.is_decided() {
+        tell_probe(alloc, found, instance, &map, &leasts, bx)?;
+    }
+    if choose(bx).is_none() != bx.is_point() {
+        writeln!(found, "another choice")?;
+    }
+    Ok(())
+}
