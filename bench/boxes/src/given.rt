@@ -7,15 +7,16 @@ use anyhow::{bail, ensure};
 use glass_base::{Defect, Instance, Item, Params, Run, append};
 use std::alloc::Global;
 
-/// A defect on the first plate with these sides.
-fn flaw_of(sides: (u32, u32, u32, u32)) -> anyhow::Result<Defect>
+/// A defect by its plate and its sides.
+fn flaw_of(given: (u32, u32, u32, u32, u32)) -> anyhow::Result<Defect>
     ensures { IfOk result IsDefectInRange }
 {
-    let (x0, y0, x1, y1) = sides;
+    let (plate, x0, y0, x1, y1) = given;
+    ensure!(plate <= 999_999_999, "no plate");
     ensure!(x0 < x1 && x1 <= 40_000, "no defect along x");
     ensure!(y0 < y1 && y1 <= 40_000, "no defect along y");
     Ok(Defect {
-        plate: 0,
+        plate,
         x0,
         y0,
         x1,
@@ -23,11 +24,11 @@ fn flaw_of(sides: (u32, u32, u32, u32)) -> anyhow::Result<Defect>
     })
 }
 
-/// The instance of items with these lengths, widths and stacks, each list of a stack in its order, and of defects on the first plate.
+/// The instance of items with these lengths, widths and stacks, each list of a stack in its order, and of defects by their plates and sides.
 pub fn instance_of(
     alloc: Global,
     items: &[(u32, u32, u32)],
-    defects: &[(u32, u32, u32, u32)],
+    defects: &[(u32, u32, u32, u32, u32)],
 ) -> anyhow::Result<Instance> {
     let mut list = Run::new(alloc);
     for item in items {

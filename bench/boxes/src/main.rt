@@ -84,19 +84,55 @@ fn tell_given(
     alloc: Global,
     name: &str,
     items: &[(u32, u32, u32)],
-    defects: &[(u32, u32, u32, u32)],
+    defects: &[(u32, u32, u32, u32, u32)],
 ) -> anyhow::Result<()> {
     let instance = instance_of(alloc, items, defects)?;
     tell_both(rt, alloc, name, &instance, 1_000_000)
 }
+
+/// The items of examples/realistic: length, width and stack.
+const REALISTIC: [(u32, u32, u32); 20] = [
+    (1578, 758, 0),
+    (1578, 738, 0),
+    (1578, 738, 0),
+    (1378, 1178, 0),
+    (1378, 1178, 0),
+    (758, 738, 0),
+    (2478, 758, 0),
+    (1105, 653, 1),
+    (1105, 653, 1),
+    (1105, 653, 1),
+    (958, 455, 1),
+    (958, 455, 1),
+    (2300, 1200, 1),
+    (630, 510, 1),
+    (2050, 1650, 2),
+    (1230, 650, 2),
+    (1230, 650, 2),
+    (890, 340, 2),
+    (890, 340, 2),
+    (415, 400, 2),
+];
+
+/// Its defects: plate and sides.
+const REALISTIC_DEFECTS: [(u32, u32, u32, u32, u32); 8] = [
+    (0, 1540, 2210, 1545, 2215),
+    (0, 4310, 95, 4323, 99),
+    (1, 200, 1600, 210, 1609),
+    (1, 3020, 3001, 3022, 3004),
+    (1, 5875, 640, 5882, 647),
+    (2, 2600, 77, 2617, 87),
+    (3, 999, 1204, 1003, 1208),
+    (3, 4002, 2750, 4008, 2758),
+];
 
 fn main(rt: HostRuntime) -> anyhow::Result<()> {
     let alloc = rt.alloc();
     tell_speed(&rt, alloc, 20, 10)?;
     tell_speed(&rt, alloc, 50, 20)?;
     tell_speed(&rt, alloc, 200, 60)?;
-    let beside = [(500, 100, 510, 110)];
-    let over = [(100, 600, 110, 610)];
+    let beside = [(0, 500, 100, 510, 110)];
+    let over = [(0, 100, 600, 110, 610)];
     let four = [(500, 1000, 0), (300, 400, 0), (300, 600, 0), (800, 2210, 0)];
     tell_given(&rt, alloc, "four items", &four, &[])?;
     tell_given(
@@ -114,6 +150,13 @@ fn main(rt: HostRuntime) -> anyhow::Result<()> {
         "two stacks",
         &[(500, 300, 0), (400, 200, 1)],
         &over,
+    )?;
+    tell_given(
+        &rt,
+        alloc,
+        "examples/realistic",
+        &REALISTIC,
+        &REALISTIC_DEFECTS,
     )?;
     tell_drawn(&rt, alloc, 7, 3, 0)?;
     tell_drawn(&rt, alloc, 7, 5, 2)?;
