@@ -13,8 +13,8 @@ use glass_base::{Instance, Memory, Run, append};
 use plan_box::{PlanBox, Var};
 use std::alloc::{AllocError, Global};
 
-/// Adds the least values of the steps that are kept.
-fn tell_leasts(found: &mut String, leasts: &Leasts) -> Result<(), AllocError> {
+/// Adds the least values of the steps that are kept, each line with this word.
+fn tell_leasts(found: &mut String, word: &str, leasts: &Leasts) -> Result<(), AllocError> {
     for step in 0..800 {
         if step as usize >= leasts.len() {
             return Ok(());
@@ -22,7 +22,7 @@ fn tell_leasts(found: &mut String, leasts: &Leasts) -> Result<(), AllocError> {
         let (a, b) = (leasts.least(step, Var::A), leasts.least(step, Var::B));
         let (c, d) = (leasts.least(step, Var::C), leasts.least(step, Var::D));
         let e = leasts.least(step, Var::E);
-        writeln!(found, "least {step} {a} {b} {c} {d} {e}")?;
+        writeln!(found, "{word} {step} {a} {b} {c} {d} {e}")?;
     }
     Ok(())
 }
@@ -118,9 +118,10 @@ pub fn tell_found(
     let root = PlanBox::root(alloc, instance, 0)?;
     let mut leasts = Leasts::new(alloc, instance)?;
     leasts.fill(instance, bx);
-    tell_leasts(found, &leasts)?;
+    tell_leasts(found, "least", &leasts)?;
     leasts.fill(instance, &root);
     leasts.fill(instance, bx);
+    tell_leasts(found, "again", &leasts)?;
     tell_bounds(found, instance, &map, &leasts, bx)?;
     if bx.is_decided() {
         tell_probe(alloc, found, instance, &map, &leasts, bx)?;
