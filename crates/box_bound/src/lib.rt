@@ -21,5 +21,5 @@ mod walking;
 pub use bounding::{bound, bound_at};
 pub use choosing::{choose, choose_at};
 pub use leasts::Leasts;
-pub use probing::{probe, probe_at};
+pub use probing::{broken_at, probe, probe_at};
 pub use refuting::{refuted, refuted_at};

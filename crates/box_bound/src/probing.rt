@@ -1,7 +1,8 @@
 //! The trace at the least values of a box.
 
-ghost use Rattle.std.specs.Prelude.{◌≡◌, ◌≤◌, ◌↔◌, IsTrue, length, slice_set};
+ghost use Rattle.std.specs.Prelude.{◌≡◌, ◌≤◌, ◌↔◌, IsTrue, MatchOption, length, slice_set};
 ghost use Rattle.std.specs.Prelude.{map as mapped};
+ghost use Rattle.plan_trace.specs.Broken.{IsFirstBroken};
 ghost use Rattle.plan_trace.specs.TraceRules.{Meets};
 ghost use Rattle.plan_box.specs.Decisions.{all_decided};
 ghost use Rattle.plan_box.specs.Frames.{frame_of};
@@ -17,7 +18,7 @@ use cut_model::{Step, Trace};
 use defect_map::DefectMap;
 use glass_base::{Instance, Run};
 use plan_box::{Frame, Packed, PlanBox};
-use plan_trace::first_broken;
+use plan_trace::{TraceBroken, first_broken};
 
 /// The step that a decided step stands for at its least values.
 pub fn least_step(kept: &Kept) -> Step
@@ -77,24 +78,43 @@ pub fn probe(instance: &Instance, map: &DefectMap, bx: &PlanBox, trace: &mut Tra
     first_broken(instance, map, trace.steps.as_slice()).is_none()
 }
 
+/// Fills the trace as `probe` does, where the leasts are for the box, and tells the first rule that it breaks, if any.
+pub fn broken_at(
+    instance: &Instance,
+    map: &DefectMap,
+    leasts: &Leasts,
+    bx: &PlanBox,
+    trace: &mut Trace,
+) -> Option<TraceBroken>
+    requires map { map.now ≡ instance.now.defects }
+    requires instance { bx.now.frame ≡ frame_of instance.now }
+    requires leasts { IsFor instance.now bx.now leasts.now }
+    requires whole { IsTrue (all_decided bx.now.ranges) }
+    requires trace { length trace.old.steps.items ≡ length instance.now.items }
+    ensures trace { trace.new.steps.items ≡ least_steps (known instance.now bx.now.ranges) }
+    ensures broken { let steps = trace.new.steps.items in MatchOption result (Meets instance.now steps) (λ broken. IsFirstBroken instance.now steps broken.rule broken.step) }
+{
+    let _items = instance.items();
+    let _frame = bx.frame();
+    write(leasts.kept(), &mut trace.steps);
+    first_broken(instance, map, trace.steps.as_slice())
+}
+
 /// `probe`, where the leasts are for the box.
 pub fn probe_at(
     instance: &Instance,
     map: &DefectMap,
     leasts: &Leasts,
-    _bx: &PlanBox,
+    bx: &PlanBox,
     trace: &mut Trace,
 ) -> bool
     requires map { map.now ≡ instance.now.defects }
-    requires instance { _bx.now.frame ≡ frame_of instance.now }
-    requires leasts { IsFor instance.now _bx.now leasts.now }
-    requires whole { IsTrue (all_decided _bx.now.ranges) }
+    requires instance { bx.now.frame ≡ frame_of instance.now }
+    requires leasts { IsFor instance.now bx.now leasts.now }
+    requires whole { IsTrue (all_decided bx.now.ranges) }
     requires trace { length trace.old.steps.items ≡ length instance.now.items }
-    ensures trace { trace.new.steps.items ≡ least_steps (known instance.now _bx.now.ranges) }
+    ensures trace { trace.new.steps.items ≡ least_steps (known instance.now bx.now.ranges) }
     ensures meets { IsTrue result ↔ Meets instance.now trace.new.steps.items }
 {
-    let _items = instance.items();
-    let _frame = _bx.frame();
-    write(leasts.kept(), &mut trace.steps);
-    first_broken(instance, map, trace.steps.as_slice()).is_none()
+    broken_at(instance, map, leasts, bx, trace).is_none()
 }
