@@ -11,3 +11,4 @@ pub mod Spelling
 pub mod OneText
 pub mod Identities
 pub mod Totals
+mod TraceEnds

@@ -85,6 +85,15 @@ fn write_node(
     }
 }
 
+/// How many nodes to take memory for: that of all nodes where they stand in one certificate, and none where they are shared out.
+fn expected_nodes(history: &History) -> usize {
+    if history.starts == 1 {
+        history.log.len().saturating_add(history.left.len())
+    } else {
+        0
+    }
+}
+
 /// The certificate of the box of this identity.
 fn certificate_of(
     alloc: Global,
@@ -104,6 +113,7 @@ fn certificate_of(
         nodes: Run::new(alloc),
         bound: loss,
     };
+    growth.nodes.reserve(expected_nodes(history))?;
     append(&mut growth.waiting, id)?;
     while let Some(next) = growth.waiting.pop() {
         write_node(history, places, &mut growth, next)?;

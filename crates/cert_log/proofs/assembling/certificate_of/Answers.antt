@@ -8,7 +8,7 @@ use Rattle.cert_log.proofs.assembling.certificate_of.Goals as goal
 
 pub loop-next-init : goal.loop-next-init
 loop-next-init c =
-    told c.args.history.now c.args.id _ _ _ _ _ _ (c.in_ok-append.ensures.ok ∙ ap (λ (ws : List ℕ). ws ++ c.args.id ∷ []) c.new.ensures) c.new-2.ensures c.best_loss-loss.ensures (write_none c.args.history.now c.args.id c.requires.rooted)
+    told c.args.history.now c.args.id _ _ _ _ _ _ (c.in_ok-append.ensures.ok ∙ ap (λ (ws : List ℕ). ws ++ c.args.id ∷ []) c.new.ensures) (c.reserve.ensures.items ∙ c.new-2.ensures) c.best_loss-loss.ensures (write_none c.args.history.now c.args.id c.requires.rooted)
 
 pub loop-next-smaller : goal.loop-next-smaller
 loop-next-smaller c =
