@@ -19,7 +19,7 @@ use Rattle.cert_log.specs.declared.history.History.{History}
 use Rattle.cert_log.specs.Good.{Reaches}
 use Rattle.cert_log.specs.Levels.{level, levels_upto}
 
--- what a search was asked: its start boxes, the loss that it is to beat from the first, and how many boxes it may handle
+-- what a search was asked: its start boxes, the loss in mm² that it is to beat from the first, and how many boxes it may handle
 pub record Course : Type 0 where
   pub boxes : List PlainBox
   pub first : ℕ
@@ -37,6 +37,7 @@ loss_of n = cond (nat_lt n no_loss) (Some n) None
 abbrev pub times : ℕ → List ℕ → ℕ
 times x xs = count_by (λ y. y == x) xs
 
+-- once for a number below `n`, else never
 abbrev pub once_below : ℕ → ℕ → ℕ
 once_below x n = cond (nat_lt x n) 1 0
 
@@ -49,6 +50,7 @@ numbered n (x ∷ xs) = (x.id ≡ n) × numbered (n + 1) xs
 abbrev pub ids_of : History → List ℕ
 ids_of h = map (λ n. n.id) h.log.items ++ map (λ l. l.bx.id) h.left.items
 
+-- the boxes of a level of the history
 abbrev pub level_of : Course → History → ℕ → List PlainBox
 level_of s h n = level h.starts h.log.items s.boxes n
 

@@ -1,4 +1,4 @@
-use Rattle.std.proofs.Common.{◌≡◌, ℕ, ◌<◌, ◌≤◌, ◌+◌, ◌-◌, ap, ◌∙◌, sym, arith}
+use Rattle.std.proofs.Common.{◌≡◌, ◌≤◌, ◌+◌, ◌-◌, ap, ◌∙◌, sym, arith}
 use Rattle.glass_base.specs.Plates.{Before}
 use Rattle.cut_model.specs.Steps.{plates_begun}
 use Rattle.cert_log.proofs.TraceEnds.{begun_count, begun_few, end_small}
