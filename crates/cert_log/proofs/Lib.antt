@@ -11,4 +11,5 @@ pub mod Spelling
 pub mod OneText
 pub mod Identities
 pub mod Totals
+pub mod GoodNodes
 mod TraceEnds
