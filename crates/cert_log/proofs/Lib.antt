@@ -12,4 +12,5 @@ pub mod OneText
 pub mod Identities
 pub mod Totals
 pub mod GoodNodes
+pub mod Covers
 mod TraceEnds

@@ -1,7 +1,8 @@
-//! Laws: one certificate has one spelling, and splits at steps of its box. The functions do nothing: their contracts are the laws.
+//! Laws: one certificate has one spelling, splits at steps of its box, and bounds each plan. The functions do nothing: their contracts are the laws.
 
 ghost use Rattle.cert_log.specs.Good.{GoodSteps};
 ghost use Rattle.cert_log.specs.Readings.{OneSpelling};
+ghost use Rattle.cert_log.specs.Splits.{BoundsEachPlan};
 
 /// A text is that of one certificate alone, so what is written is read again as the same certificate.
 pub fn one_spelling()
@@ -11,4 +12,9 @@ pub fn one_spelling()
 /// A certificate that is right for a box splits it at its own steps alone.
 pub fn good_steps()
     ensures { GoodSteps }
+{}
+
+/// Each lawful plan loses at least the bound of a certificate that is right for the box of all plans, and there is none where it has no bound.
+pub fn good_certificates_bound_each_plan()
+    ensures { BoundsEachPlan }
 {}
