@@ -11,4 +11,6 @@ pub mod Spelling
 pub mod OneText
 pub mod Identities
 pub mod Totals
+pub mod GoodNodes
+pub mod Covers
 mod TraceEnds

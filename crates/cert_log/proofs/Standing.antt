@@ -15,6 +15,7 @@ use Rattle.cert_log.specs.declared.history.History.{History}
 use Rattle.cert_log.specs.Good.{Reaches, MayClose, Stands, open_bounds}
 use Rattle.cert_log.specs.Levels.{lower_id, upper_id, made_of, children}
 use Rattle.cert_log.specs.Lawful.{Course, no_loss, loss_of, level_of, ClosedFor, Handled, IsLawful}
+use Rattle.cert_log.specs.Splits.{SplitsBelow}
 use Rattle.cert_log.specs.inner.Growth.{Twig, forks, ends, waits, bare, kept_bounds, Grows}
 use Rattle.cert_log.proofs.Members.{first_or_later, is_first, is_later, contains_none, Contains-flat_map}
 
@@ -76,6 +77,18 @@ module _ (b : Problem) (s : Course) (h : History) (lawful : IsLawful b s h) wher
   grown_stands n x (ends m threshold cause) at g =
       let e = handled_as n x m (Act.Closed threshold cause) at g.0 g.1 g.2 in closed_stands b h.best threshold x.ranges cause e.1 e.0
   grown_stands n x (waits l) at g = tt
+
+  -- each box that is split is not refuted, and has a bound below the loss that is to be beaten
+  pub grown_splits : (n : ℕ) (x : PlainBox) (t : Twig) → Contains (level_of s h n) x → Grows h x.id t → SplitsBelow b s.first x.ranges (bare t)
+  grown_splits n x (forks m step v lower upper) at g =
+      let e = handled_as n x m (Act.Split step v) at g.0 g.1 g.2 in (
+        e.0,
+        e.1,
+        grown_splits (suc n) (child_of lower_half x step v (lower_id h.starts m.ticket)) lower (lower_in n x m step v at g.0 g.1 g.2) g.3,
+        grown_splits (suc n) (child_of upper_half x step v (upper_id h.starts m.ticket)) upper (upper_in n x m step v at g.0 g.1 g.2) g.4,
+      )
+  grown_splits n x (ends m threshold cause) at g = tt
+  grown_splits n x (waits l) at g = tt
 
   -- the bounds that were kept are those of the boxes left open
   pub grown_bounds : (n : ℕ) (x : PlainBox) (t : Twig) → Contains (level_of s h n) x → Grows h x.id t → open_bounds b x.ranges (bare t) ≡ kept_bounds t

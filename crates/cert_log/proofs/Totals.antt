@@ -11,7 +11,8 @@ use Rattle.cert_log.specs.declared.history.Note.{Note}
 use Rattle.cert_log.specs.declared.history.Left.{Left}
 use Rattle.cert_log.specs.declared.history.History.{History}
 use Rattle.cert_log.specs.declared.certificate.Certificate.{Certificate}
-use Rattle.cert_log.specs.Good.{least_of, IsGood, IsVersion}
+use Rattle.cert_log.specs.Good.{least_of, IsGood, AreGood, IsVersion}
+use Rattle.cert_log.specs.Splits.{IsSearched, AreSearched}
 use Rattle.std.proofs.lemmas.List.Elements.{All-cons, All-nil, All-same}
 use Rattle.cert_log.specs.Trees.{nodes_of, FitsVersion}
 use Rattle.cert_log.proofs.Naming.{grown_fits}
@@ -19,7 +20,7 @@ use Rattle.cert_log.specs.Levels.{lower_id, upper_id}
 use Rattle.cert_log.specs.Lawful.{Course, times, loss_of, numbered, ids_of, IsLawful, HasCourse}
 use Rattle.cert_log.specs.inner.Growth.{Twig, forks, ends, waits, bare, kept_bounds, Grows, IsMade, AreDifferent, IsRooted, AreMade}
 use Rattle.cert_log.proofs.Members.{is_first, is_later, counted, times-append}
-use Rattle.cert_log.proofs.Standing.{grown_stands, grown_bounds}
+use Rattle.cert_log.proofs.Standing.{grown_stands, grown_splits, grown_bounds}
 use Rattle.cert_log.proofs.Growing.{has_twig}
 use Rattle.cert_log.proofs.Counting.{AreOf, weigh, weigh_all, not_left}
 use Rattle.cert_log.proofs.Indexing.{count_ids}
@@ -106,14 +107,19 @@ module _ (b : Problem) (s : Course) (h : History) (lawful : IsLawful b s h) wher
         bound_is = m.bound_is ∙ ap (least_of (loss_of h.best)) (sym e);
       }
 
-  good_from : (n : ℕ) (xs : List PlainBox) (cs : List Certificate) → AreMade h n cs → numbered n xs → length xs ≡ length cs → ((x : PlainBox) → Contains xs x → Contains s.boxes x)
-      → AllZip (λ (x : PlainBox) (c : Certificate). IsGood b x.ranges (loss_of h.best) c) xs cs
-  good_from n [] [] m num same among = tt
-  good_from n [] (c ∷ cs) m num same among = absurd (omega arith)
-  good_from n (x ∷ xs) [] m num same among = absurd (omega arith)
-  good_from n (x ∷ xs) (c ∷ cs) m num same among = (
-    made_good x c (among x (is_first x xs)) (subst (λ (i : ℕ). IsMade h i c) (sym num.0) m.0),
-    good_from (n + 1) xs cs m.1 num.1 (omega arith) (λ y at. among y (is_later x xs y at)),
+  -- it splits no other boxes than those that had to be searched
+  made_searched : (x : PlainBox) (c : Certificate) → Contains s.boxes x → IsMade h x.id c → IsSearched b s.first x.ranges c
+  made_searched x c at m = record { tree = bare m.twig; nodes_are = m.nodes_are; splits = grown_splits b s h lawful zero x m.twig at m.grows }
+
+  -- what holds of each certificate that tells the tree of a box, box by box
+  each_from : (P : PlainBox → Certificate → Type 0) → ((x : PlainBox) (c : Certificate) → Contains s.boxes x → IsMade h x.id c → P x c)
+      → (n : ℕ) (xs : List PlainBox) (cs : List Certificate) → AreMade h n cs → numbered n xs → length xs ≡ length cs → ((x : PlainBox) → Contains xs x → Contains s.boxes x) → AllZip P xs cs
+  each_from P each n [] [] m num same among = tt
+  each_from P each n [] (c ∷ cs) m num same among = absurd (omega arith)
+  each_from P each n (x ∷ xs) [] m num same among = absurd (omega arith)
+  each_from P each n (x ∷ xs) (c ∷ cs) m num same among = (
+    each x c (among x (is_first x xs)) (subst (λ (i : ℕ). IsMade h i c) (sym num.0) m.0),
+    each_from P each (n + 1) xs cs m.1 num.1 (omega arith) (λ y at. among y (is_later x xs y at)),
   )
 
   made_version : (x : PlainBox) (c : Certificate) → Contains s.boxes x → IsMade h x.id c → IsVersion 2 c
@@ -130,8 +136,11 @@ module _ (b : Problem) (s : Course) (h : History) (lawful : IsLawful b s h) wher
   pub all_version : (cs : List Certificate) → AreMade h 0 cs → length cs ≡ h.starts → All (IsVersion 2) cs
   all_version cs m whole = version_from 0 s.boxes cs m lawful.start_ids (let e = lawful.starts_are in omega arith) (λ x at. at)
 
-  pub all_good : (cs : List Certificate) → AreMade h 0 cs → length cs ≡ h.starts → AllZip (λ (x : PlainBox) (c : Certificate). IsGood b x.ranges (loss_of h.best) c) s.boxes cs
-  all_good cs m whole = good_from 0 s.boxes cs m lawful.start_ids (let e = lawful.starts_are in omega arith) (λ x at. at)
+  pub all_good : (cs : List Certificate) → AreMade h 0 cs → length cs ≡ h.starts → AreGood b (loss_of h.best) s.boxes cs
+  all_good cs m whole = each_from (λ x c. IsGood b x.ranges (loss_of h.best) c) made_good 0 s.boxes cs m lawful.start_ids (let e = lawful.starts_are in omega arith) (λ x at. at)
+
+  pub all_searched : (cs : List Certificate) → AreMade h 0 cs → length cs ≡ h.starts → AreSearched b s.first s.boxes cs
+  all_searched cs m whole = each_from (λ x c. IsSearched b s.first x.ranges c) made_searched 0 s.boxes cs m lawful.start_ids (let e = lawful.starts_are in omega arith) (λ x at. at)
 
   pub all_nodes : (cs : List Certificate) → AreMade h 0 cs → length cs ≡ h.starts → sum_by (λ c. length c.nodes.items) cs ≡ length h.log.items + length h.left.items
   all_nodes cs m whole =

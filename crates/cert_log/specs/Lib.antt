@@ -4,4 +4,5 @@ pub mod Levels
 pub mod Lawful
 pub mod Texts
 pub mod Readings
+pub mod Splits
 pub mod inner

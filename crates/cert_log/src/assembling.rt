@@ -5,6 +5,7 @@ ghost use Rattle.cert_log.specs.Good.{lesser, AreGood, IsVersion};
 ghost use Rattle.cert_log.specs.inner.Growth.{AreDifferent, IsMade, IsRooted};
 ghost use Rattle.cert_log.specs.Lawful.{Course, HasCourse, IsLawful, ids_of, loss_of};
 ghost use Rattle.cert_log.specs.inner.Places.{IsIndexed};
+ghost use Rattle.cert_log.specs.Splits.{AreSearched};
 ghost use Rattle.cert_log.specs.Trees.{is_left};
 ghost use Rattle.cert_log.specs.inner.Writing.{IsNext, Writes};
 
@@ -145,6 +146,7 @@ pub fn assemble(
 ) -> Result<Run<Certificate>, Memory>
     requires { HasCourse instance.now history.now }
     ensures good { IfOk result (λ cs. (s : Course) → IsLawful instance.now s history.now → AreGood instance.now (loss_of history.now.best) s.boxes cs.items) }
+    ensures searched { IfOk result (λ cs. (s : Course) → IsLawful instance.now s history.now → AreSearched instance.now s.first s.boxes cs.items) }
     ensures nodes { IfOk result (λ cs. sum_by (λ c. length c.nodes.items) cs.items ≡ length history.now.log.items + length history.now.left.items) }
     ensures left { IfOk result (λ cs. sum_by (λ c. c.left) cs.items ≡ length history.now.left.items) }
     ensures version { IfOk result (λ cs. All (IsVersion 2) cs.items) }

@@ -1,7 +1,8 @@
-//! Laws: one certificate has one spelling, and splits at steps of its box. The functions do nothing: their contracts are the laws.
+//! Laws: one certificate has one spelling; a right one splits at steps of its box, bounds each plan and has few nodes. The functions do nothing: their contracts are the laws.
 
 ghost use Rattle.cert_log.specs.Good.{GoodSteps};
 ghost use Rattle.cert_log.specs.Readings.{OneSpelling};
+ghost use Rattle.cert_log.specs.Splits.{BoundsEachPlan, IsNoLargerThanFull};
 
 /// A text is that of one certificate alone, so what is written is read again as the same certificate.
 pub fn one_spelling()
@@ -11,4 +12,14 @@ pub fn one_spelling()
 /// A certificate that is right for a box splits it at its own steps alone.
 pub fn good_steps()
     ensures { GoodSteps }
+{}
+
+/// Each lawful plan loses at least the bound of a certificate that is right for the box of all plans, and there is none where it has no bound.
+pub fn good_certificates_bound_each_plan()
+    ensures { BoundsEachPlan }
+{}
+
+/// A certificate that is right for the box of all plans has no more nodes than a full tree of the frame's depth.
+pub fn good_certificates_are_no_larger_than_full_trees()
+    ensures { IsNoLargerThanFull }
 {}

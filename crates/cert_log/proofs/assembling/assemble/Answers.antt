@@ -3,7 +3,7 @@ use Rattle.std.proofs.lemmas.Option.{MatchOption-at_some}
 use Rattle.std.proofs.lemmas.List.{length_push}
 use Rattle.cert_log.specs.declared.certificate.Certificate.{Certificate}
 use Rattle.cert_log.specs.inner.Growth.{AreMade, IsMade}
-use Rattle.cert_log.proofs.Totals.{all_good, all_nodes, all_left, all_version, start_rooted, made_push, ids_within}
+use Rattle.cert_log.proofs.Totals.{all_good, all_searched, all_nodes, all_left, all_version, start_rooted, made_push, ids_within}
 use Rattle.cert_log.proofs.assembling.assemble.Goals as goal
 use Rattle.cert_log.proofs.assembling.assemble.Goals.{In_ok-room}
 
@@ -34,6 +34,9 @@ loop-start-preserved c =
 
 pub returns-clause-good : goal.returns-clause-good
 returns-clause-good c = λ s lawful. all_good c.args.instance.now s c.args.history.now lawful c.loop-start.certificates.items c.loop-start.invariant.made (omega arith)
+
+pub returns-clause-searched : goal.returns-clause-searched
+returns-clause-searched c = λ s lawful. all_searched c.args.instance.now s c.args.history.now lawful c.loop-start.certificates.items c.loop-start.invariant.made (omega arith)
 
 pub returns-clause-nodes : goal.returns-clause-nodes
 returns-clause-nodes c = all_nodes c.args.instance.now c.requires.0 c.args.history.now c.requires.1 c.loop-start.certificates.items c.loop-start.invariant.made (omega arith)

@@ -1,0 +1,47 @@
+-- Which boxes a certificate splits.
+use Rattle.std.specs.Prelude.{◌≡◌, ◌<◌, ◌+◌, ◌^◌, ℕ, List, length}
+use Rattle.std.specs.List.{AllZip}
+use Rattle.glass_base.specs.Problem.{Problem, IsProblem}
+use Rattle.cut_model.specs.Lawful.{IsLawful}
+use Rattle.cut_model.specs.Loss.{loss_of}
+use Rattle.cut_model.specs.Tree.{Forest}
+use Rattle.plan_box.specs.Bounds.{bound}
+use Rattle.plan_box.specs.Frames.{frame_of}
+use Rattle.plan_box.specs.Halves.{IsDepth, lower_half, upper_half, half_at}
+use Rattle.plan_box.specs.Ranges.{PlainBox, Ranges, root_of}
+use Rattle.plan_box.specs.Reasons.{IsRefuted}
+use Rattle.cert_log.specs.declared.certificate.Certificate.{Certificate}
+use Rattle.cert_log.specs.Good.{IsGood, Reaches}
+use Rattle.cert_log.specs.Trees.{Tree, halved, closed, waiting, nodes_of}
+use Rattle.std.specs.Prelude.{Option}
+
+-- walking the tree from the box, each box that is split is not refuted, and its bound is below the loss that is to be beaten
+abbrev pub SplitsBelow : Problem → ℕ → List Ranges → Tree → Type 0
+SplitsBelow b to_beat rs (halved step v lower upper) =
+    ¬ IsRefuted b rs × (bound b rs < to_beat)
+    × SplitsBelow b to_beat (half_at lower_half rs step v) lower
+    × SplitsBelow b to_beat (half_at upper_half rs step v) upper
+SplitsBelow b to_beat rs (closed cause) = Unit {0}
+SplitsBelow b to_beat rs waiting = Unit {0}
+
+-- the certificate splits no other boxes, walking it from this box
+pub record IsSearched (b : Problem) (to_beat : ℕ) (rs : List Ranges) (c : Certificate) : Type 0 where
+  pub tree : Tree
+  pub nodes_are : c.nodes.items ≡ nodes_of tree
+  pub splits : SplitsBelow b to_beat rs tree
+
+-- each certificate, walking it from its box
+abbrev pub AreSearched : Problem → ℕ → List PlainBox → List Certificate → Type 0
+AreSearched b to_beat xs cs = AllZip (λ x c. IsSearched b to_beat x.ranges c) xs cs
+
+-- a certificate that is right for the box of all plans bounds the loss of each lawful plan; without a bound there is none
+abbrev pub BoundsEachPlan : Type 0
+BoundsEachPlan =
+    (b : Problem) (id : ℕ) (loss : Option ℕ) (c : Certificate) → IsProblem b → IsGood b (root_of (frame_of b) id).ranges loss c
+    → (plan : Forest) → IsLawful b plan → Reaches c.bound (loss_of b plan)
+
+-- a certificate that is right for the box of all plans has no more nodes than a full tree of the frame's depth
+abbrev pub IsNoLargerThanFull : Type 0
+IsNoLargerThanFull =
+    (b : Problem) (id depth : ℕ) (loss : Option ℕ) (c : Certificate) → IsDepth (frame_of b) depth
+    → IsGood b (root_of (frame_of b) id).ranges loss c → length c.nodes.items < 2 ^ (depth + 1)
