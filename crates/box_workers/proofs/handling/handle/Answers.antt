@@ -1,0 +1,8 @@
+use Rattle.std.proofs.Common.{rules}
+use Rattle.box_workers.proofs.Steps.{answers}
+use Rattle.box_workers.proofs.handling.handle.Goals as goal
+
+pub returns-clause-done : goal.returns-clause-done
+returns-clause-done c =
+    answers c.args.instance.now c.args.shared.now c.args.bx c.args.seat.now c.draw-ticket.new.seat c.judge.new.seat c.args.hand.now c.prepare.new.hand c.judge.new.hand c.draw-ticket.result
+    c.draw-ticket.ensures.view c.draw-ticket.ensures.above (search rules) c.requires.allowance (search rules) c.args.starts c.judge.result c.judge.ensures.judges

@@ -1,0 +1,12 @@
+use Rattle.std.proofs.Common.{List, []}
+use Rattle.box_levels.specs.Events.{Event}
+use Rattle.box_workers.specs.inner.Rounds.{HasRun}
+use Rattle.box_workers.proofs.running.run.Given as goal
+
+abbrev pub invariant-loop-bx : goal.invariant-loop-bx
+invariant-loop-bx g l = record {
+  runs : (es : List Event) × HasRun l.instance l.shared l.starts l.initial.waiting.items l.seat l.hand l.waiting.items es [];
+}
+
+abbrev pub decreases-loop-bx : goal.decreases-loop-bx
+decreases-loop-bx g l = l.seat.view.allowance

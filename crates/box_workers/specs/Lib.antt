@@ -1,0 +1,4 @@
+pub mod Handling
+pub mod Runs
+pub mod Histories
+pub mod inner

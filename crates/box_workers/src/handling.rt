@@ -1,0 +1,193 @@
+//! The handling of one box.
+ghost use Rattle.std.specs.Prelude.{◌≡◌, ℕ, ◌≤◌, ◌<◌, length, IfOk, IfErr, IsTrue};
+ghost use Rattle.plan_box.specs.Decisions.{is_free, IsPoint};
+ghost use Rattle.plan_box.specs.Frames.{frame_of};
+ghost use Rattle.plan_box.specs.Reasons.{IsRefuted};
+ghost use Rattle.box_bound.specs.Leastings.{IsOf, IsFor};
+ghost use Rattle.box_levels.specs.Events.{Event};
+ghost use Rattle.shared_best.specs.Seats.{IsSeatOf};
+ghost use Rattle.shared_best.specs.Words.{share};
+ghost use Rattle.box_workers.specs.Handling.{IsIdle, Gives, Answers};
+ghost use Rattle.box_workers.specs.inner.Hands.{CanKeep};
+ghost use Rattle.box_workers.specs.inner.Judging.{Improves, Judges};
+
+use crate::hand::{Hand, keep, prepare};
+use box_bound::{Leasts, bound_at, broken_at, choose_at, refuted_at};
+use cert_log::{Act, Cause, Note, trace_loss};
+use cut_model::Trace;
+use defect_map::DefectMap;
+use glass_base::{Instance, Memory};
+use plan_box::{PlanBox, Room, Var};
+use plan_trace::TraceBroken;
+use shared_best::{Seat, SharedBest};
+use std::alloc::Global;
+
+/// What became of a box.
+#[derive(Drop)]
+pub enum Done {
+    /// It was closed: no plan in it is better than the best that is known.
+    Closed,
+    /// It was split into its lower and its upper half.
+    Split(PlanBox, PlanBox),
+    /// The budget was spent: the box comes back as it was.
+    Spent(PlanBox),
+}
+
+/// The variable at which a box that is no point is split, where its least values break this rule, or none is known to be broken.
+fn choose(leasts: &Leasts, bx: &PlanBox, broken: Option<TraceBroken>) -> (u32, Var)
+    requires { ¬ IsPoint bx.now.ranges }
+    ensures { IsTrue (is_free bx.now.ranges result.0 result.1) }
+{
+    let Some(choice) = choose_at(leasts, bx, broken) else {
+        unreachable!();
+    };
+    choice
+}
+
+/// Probes a box whose steps are all decided. Where the trace at its least values meets the rules and loses less than the hand's plan, the
+/// hand keeps it, and then its loss is announced. Else the first rule that it breaks comes back, if it breaks one.
+#[tactic(auto, using(crate::proofs::Probing::probe_long))]
+fn improve(
+    instance: &Instance,
+    map: &DefectMap,
+    shared: &SharedBest,
+    seat: &mut Seat,
+    hand: &mut Hand,
+    bx: &PlanBox,
+    spare: Trace,
+) -> Option<TraceBroken>
+    requires map { map.now ≡ instance.now.defects }
+    requires frame { bx.now.frame ≡ frame_of instance.now }
+    requires leasts { IsFor instance.now bx.now hand.old.leasts }
+    requires scratch { length hand.old.scratch.steps.items ≡ length instance.now.items }
+    requires trace { CanKeep instance.now hand.old.plan spare }
+    requires unrefuted { ¬ IsRefuted instance.now bx.now.ranges }
+    requires seat { IsSeatOf shared.now seat.old }
+    requires share { 0 < share seat.old.view }
+    ensures seat { IsSeatOf shared.now seat.new }
+    ensures scratch { length hand.new.scratch.steps.items ≡ length instance.now.items }
+    ensures same { (hand.new.leasts ≡ hand.old.leasts) × (hand.new.worker ≡ hand.old.worker) × (hand.new.log ≡ hand.old.log) × (hand.new.left ≡ hand.old.left) }
+    ensures improves { (probed : ℕ) × Improves instance.now bx.now.ranges probed seat.old.view seat.new.view hand.old hand.new }
+{
+    // Read for its rules.
+    let _frame = bx.frame();
+    let best = hand.loss;
+    if !bx.is_decided() {
+        return None;
+    }
+    if let Some(broken) = broken_at(instance, map, &hand.leasts, bx, &mut hand.scratch) {
+        return Some(broken);
+    }
+    let loss = trace_loss(instance, &hand.scratch);
+    if loss >= best {
+        return None;
+    }
+    keep(hand, spare, loss, instance);
+    shared.lower(seat, loss);
+    None
+}
+
+/// What is done with a box once its ticket is drawn. It is closed for the first reason by which it is refuted; else, after its probe, by
+/// its bound, where that reaches the lesser of what was seen and the hand's loss; else it is split.
+fn judge(
+    instance: &Instance,
+    map: &DefectMap,
+    shared: &SharedBest,
+    seat: &mut Seat,
+    hand: &mut Hand,
+    starts: u64,
+    ticket: u64,
+    bx: PlanBox,
+    room: Room,
+    spare: Trace,
+) -> Done
+    requires map { map.now ≡ instance.now.defects }
+    requires frame { bx.frame ≡ frame_of instance.now }
+    requires leasts { IsOf instance.now hand.old.leasts }
+    requires scratch { length hand.old.scratch.steps.items ≡ length instance.now.items }
+    requires trace { CanKeep instance.now hand.old.plan spare }
+    requires log { 1 ≤ hand.old.log.spare }
+    requires room { room ≡ bx.frame }
+    requires limits { (starts ≤ 160000000) × (ticket < 10000000) }
+    requires seat { IsSeatOf shared.now seat.old }
+    requires share { 0 < share seat.old.view }
+    ensures seat { IsSeatOf shared.now seat.new }
+    ensures scratch { length hand.new.scratch.steps.items ≡ length instance.now.items }
+    ensures leasts { IsOf instance.now hand.new.leasts }
+    ensures judges { (e : Event) × (e.ticket ≡ ticket) × Judges instance.now shared.now bx seat.old seat.new hand.old hand.new e × Gives starts e result }
+{
+    let id = bx.id();
+    // Read for their rules, and the last for its range.
+    let _frame = bx.frame();
+    let _params = instance.params();
+    let _before = hand.loss;
+    let seen = shared.look(seat);
+    hand.leasts.fill(instance, &bx);
+    if let Some(reason) = refuted_at(instance, map, &hand.leasts, &bx) {
+        let act = Act::Closed {
+            threshold: seen,
+            cause: Cause::Reason(reason),
+        };
+        hand.log.put(Note { id, ticket, act });
+        return Done::Closed;
+    }
+    let broken = improve(instance, map, shared, seat, hand, &bx, spare);
+    let threshold = seen.min(hand.loss);
+    if bound_at(instance, &hand.leasts, &bx) >= threshold {
+        let act = Act::Closed {
+            threshold,
+            cause: Cause::Bound,
+        };
+        hand.log.put(Note { id, ticket, act });
+        return Done::Closed;
+    }
+    let (step, var) = choose(&hand.leasts, &bx, broken);
+    let act = Act::Split { step, var };
+    hand.log.put(Note { id, ticket, act });
+    let ids = (starts + 2 * ticket, starts + 2 * ticket + 1);
+    let (lower, upper) = bx.split_in(instance, step, var, ids, room);
+    Done::Split(lower, upper)
+}
+
+/// Handles a box of this instance: draws a ticket for it, looks at the best loss, and closes the box or splits it into its halves, as the
+/// note at the end of the hand's log then tells. A plan that the box's probe finds is kept where it is better than the hand's, and its loss
+/// is announced. Where the ticket is not below the budget nothing is done, and the box comes back.
+///
+/// `starts` is the number of start boxes: the halves get the identities `starts + 2 * ticket` and `starts + 2 * ticket + 1`.
+///
+/// All memory is taken before the ticket is drawn; where it runs out the box comes back, and nothing has changed.
+pub fn handle(
+    alloc: Global,
+    instance: &Instance,
+    map: &DefectMap,
+    shared: &SharedBest,
+    seat: &mut Seat,
+    hand: &mut Hand,
+    starts: u64,
+    bx: PlanBox,
+) -> Result<Done, (PlanBox, Memory)>
+    requires map { map.now ≡ instance.now.defects }
+    requires frame { bx.frame ≡ frame_of instance.now }
+    requires leasts { IsOf instance.now hand.old.leasts }
+    requires scratch { length hand.old.scratch.steps.items ≡ length instance.now.items }
+    requires limits { (starts ≤ 160000000) × (shared.now.budget ≤ 10000000) }
+    requires seat { IsSeatOf shared.now seat.old }
+    requires allowance { 1 ≤ seat.old.view.allowance }
+    ensures seat { IsSeatOf shared.now seat.new }
+    ensures scratch { length hand.new.scratch.steps.items ≡ length instance.now.items }
+    ensures leasts { IsOf instance.now hand.new.leasts }
+    ensures done { IfOk result (λ d. Answers instance.now shared.now starts bx seat.old seat.new hand.old hand.new d) }
+    ensures refused { IfErr result (λ e. (e.0 ≡ bx) × (seat.new ≡ seat.old) × IsIdle hand.old hand.new) }
+{
+    let (room, spare) = match prepare(alloc, instance, hand, &bx) {
+        Ok(memory) => memory,
+        Err(refused) => return Err((bx, refused)),
+    };
+    let ticket = shared.draw(seat);
+    if ticket >= shared.budget() {
+        return Ok(Done::Spent(bx));
+    }
+    Ok(judge(
+        instance, map, shared, seat, hand, starts, ticket, bx, room, spare,
+    ))
+}
