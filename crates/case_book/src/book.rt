@@ -40,12 +40,15 @@ impl Block {
 #[derive(Drop)]
 pub struct Text {
     pub blocks: Vec<Block>,
+    /// Whether anything may stand behind the blocks.
+    pub more: bool,
 }
 
 impl Text {
     pub fn new(alloc: Global) -> Text {
         Text {
             blocks: Vec::new(alloc),
+            more: false,
         }
     }
 

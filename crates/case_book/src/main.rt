@@ -13,6 +13,7 @@
 //! | `status NAME` | how the run ends, by the name of a `Status`; each case has it |
 //! | `printed` | what is printed is the text below; a case without it prints nothing |
 //! | `stored NAME` | this file has the text below after the run |
+//! | `more` | behind the text above anything may stand |
 //! | `repeat N` | the lines of the text that stand below, to the next word, stand N times |
 //! | `\| LINE` | a line of a text: LINE and a line feed; `\|` alone is an empty line |
 //! | `# ..`, and an empty line | nothing |
@@ -39,9 +40,11 @@ use crate::parsing::read_book;
 use crate::running::differences_of;
 use std::io;
 use std::process::ExitCode;
+use std::sync::Wait;
+use std::thread::Threads;
 
 /// Runs the cases one after another, and prints a paragraph for each that is not as it should be. Whether all are.
-fn run_cases(rt: &(impl Print + AllocGlobal), cases: &[Case]) -> anyhow::Result<bool> {
+fn run_cases(rt: &(impl Print + AllocGlobal + Threads + Wait + Sync), cases: &[Case]) -> anyhow::Result<bool> {
     let mut good: usize = 0;
     for case in cases {
         let differences = differences_of(rt, rt.alloc(), case)?;

@@ -142,6 +142,8 @@ enum Addition<'a> {
     Line(&'a str),
     /// From here on the lines stand so often.
     Repeat(u64),
+    /// Behind the lines anything may stand.
+    More,
 }
 
 impl Addition<'_> {
@@ -149,6 +151,10 @@ impl Addition<'_> {
         match self {
             Addition::Line(line) => put_line_of_text(alloc, text, line),
             Addition::Repeat(times) => Ok(text.begin_block(alloc, *times)?),
+            Addition::More => {
+                text.more = true;
+                Ok(())
+            }
         }
     }
 }
@@ -241,6 +247,7 @@ impl Reading {
         match keyword {
             "|" => self.add(Addition::Line(rest)),
             "repeat" => self.add(Addition::Repeat(number_of(rest)?)),
+            "more" if rest.is_empty() => self.add(Addition::More),
             "case" => self.begin(rest, number, false),
             "wrong" => self.begin(rest, number, true),
             _ => self.take_keyword(keyword, rest),

@@ -8,6 +8,8 @@ use glass_io::{MemFiles, MemSink};
 use glass_run::{OpenGate, Status, glass};
 use std::alloc::{AllocError, Global};
 use std::collections::BTreeMap;
+use std::sync::Wait;
+use std::thread::Threads;
 
 /// Something in which a run differs from its case.
 #[derive(Drop)]
@@ -85,6 +87,15 @@ fn compare_statuses(
     Ok(())
 }
 
+/// What of a text is compared with one of this length: no more than that where anything may stand behind it.
+fn compared(found: &[u8], length: usize, more: bool) -> &[u8] {
+    if more {
+        &found[..length.min(found.len())]
+    } else {
+        found
+    }
+}
+
 /// Notes that something else was printed, or more than once.
 fn compare_printed(
     alloc: Global,
@@ -93,7 +104,8 @@ fn compare_printed(
     differences: &mut Vec<Difference>,
 ) -> Result<(), AllocError> {
     let wanted = bytes_of(alloc, &case.printed)?;
-    if let Some(mismatch) = mismatch_of(alloc, wanted.as_slice(), sink.bytes.as_slice())? {
+    let found = compared(sink.bytes.as_slice(), wanted.len(), case.printed.more);
+    if let Some(mismatch) = mismatch_of(alloc, wanted.as_slice(), found)? {
         differences.push(Difference::Printed(mismatch))?;
     }
     if sink.calls > 1 {
@@ -107,6 +119,7 @@ fn compare_file(
     alloc: Global,
     name: &String,
     wanted: &[u8],
+    more: bool,
     found: Option<&Run<u8>>,
     differences: &mut Vec<Difference>,
 ) -> Result<(), AllocError> {
@@ -115,22 +128,32 @@ fn compare_file(
         differences.push(Difference::Missing { name })?;
         return Ok(());
     };
-    if let Some(mismatch) = mismatch_of(alloc, wanted, found.as_slice())? {
+    let found = compared(found.as_slice(), wanted.len(), more);
+    if let Some(mismatch) = mismatch_of(alloc, wanted, found)? {
         differences.push(Difference::File { name, mismatch })?;
     }
     Ok(())
 }
 
+/// Whether anything may stand behind the text that a case stores under this name.
+fn may_go_on(case: &Case, name: &str) -> bool {
+    case.stored
+        .iter()
+        .any(|stored| stored.text.more && stored.name.as_str() == name)
+}
+
 /// Notes in what the files differ from those that are to be there.
 fn compare_files(
     alloc: Global,
+    case: &Case,
     wanted: &BTreeMap<String, Run<u8>>,
     found: &BTreeMap<String, Run<u8>>,
     differences: &mut Vec<Difference>,
 ) -> Result<(), AllocError> {
     for (name, bytes) in wanted.iter() {
         let found = found.get(name.as_str());
-        compare_file(alloc, name, bytes.as_slice(), found, differences)?;
+        let more = may_go_on(case, name.as_str());
+        compare_file(alloc, name, bytes.as_slice(), more, found, differences)?;
     }
     Ok(())
 }
@@ -162,12 +185,12 @@ fn compare_run(
     compare_statuses(case, status, differences)?;
     compare_printed(alloc, case, sink, differences)?;
     let wanted = files_after(alloc, case)?;
-    compare_files(alloc, &wanted, &files.files, differences)?;
+    compare_files(alloc, case, &wanted, &files.files, differences)?;
     note_unexpected(&wanted, &files.files, differences)
 }
 
 /// Runs a case, and says in what its run differs from it.
-pub fn differences_of<R>(
+pub fn differences_of<R: Threads + Wait + Sync>(
     rt: &R,
     alloc: Global,
     case: &Case,

@@ -7,6 +7,7 @@ use Rattle.glass_base.specs.Problem.{Problem}
 use Rattle.glass_run.specs.Commands.{Answers, AnswersInstance, AnswersTexts, flaws_of}
 use Rattle.glass_run.specs.Instances.{InstanceRefused, IsInstanceOf}
 use Rattle.glass_run.specs.declared.grammar.Verb.{Verb}
+use Rattle.glass_run.specs.declared.grammar.Verb.TheVariants as verb
 use Rattle.glass_run.specs.Grammar.{Line, files_of}
 use Rattle.glass_run.specs.Texts.{Texts, texts_of}
 
@@ -14,6 +15,16 @@ pub with_texts : (told : Option Contents) (line : Line) (texts : Texts) (answer 
     IfSome told (λ contents. Answers contents line answer)
 with_texts None line texts answer e h = tt
 with_texts (Some contents) line texts answer e h = rw e h
+
+-- the answer of each command to an instance is that of its name
+pub draft_answers : (line : Line) (texts : Texts) (b : Problem) (answer : Answer) → line.verb ≡ verb.Draft → AnswersInstance verb.Draft line texts b answer → AnswersInstance line.verb line texts b answer
+draft_answers line texts b answer e h = subst (λ (v : Verb). AnswersInstance v line texts b answer) (sym e) h
+
+pub plan_answers : (line : Line) (texts : Texts) (b : Problem) (answer : Answer) → line.verb ≡ verb.Plan → AnswersInstance verb.Plan line texts b answer → AnswersInstance line.verb line texts b answer
+plan_answers line texts b answer e h = subst (λ (v : Verb). AnswersInstance v line texts b answer) (sym e) h
+
+pub judge_answers : (line : Line) (texts : Texts) (b : Problem) (answer : Answer) → line.verb ≡ verb.Judge → AnswersInstance verb.Judge line texts b answer → AnswersInstance line.verb line texts b answer
+judge_answers line texts b answer e h = subst (λ (v : Verb). AnswersInstance v line texts b answer) (sym e) h
 
 -- the answer to the instance that the texts say
 pub said_instance : (verb : Verb) (line : Line) (texts : Texts) (flaws : Option (List ℕ)) (b : Problem) (answer : Answer) → line.verb ≡ verb → flaws ≡ flaws_of verb texts →

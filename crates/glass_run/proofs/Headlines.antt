@@ -52,11 +52,11 @@ one_stored s (Some a) (Some b) h = record {
 }
 
 -- an answer to an instance that the files say
-record Says (line : Line) (held : Contents) (answer : Answer) : Type 0 where
-  texts : Texts
-  b : Problem
-  reads : SaidBy line held texts b
-  answers : AnswersInstance line.verb line texts b answer
+pub record Says (line : Line) (held : Contents) (answer : Answer) : Type 0 where
+  pub texts : Texts
+  pub b : Problem
+  pub reads : SaidBy line held texts b
+  pub answers : AnswersInstance line.verb line texts b answer
 
 texts_say : (line : Line) (held : Contents) (texts : Texts) (answer : Answer) → ¬ Refuses answer → texts_of held (files_of line) ≡ Ok texts → AnswersTexts line texts answer → Says line held answer
 texts_say line held texts answer accepts is (inl said) = record { texts = texts; b = said.0; reads = record { texts_are = is; instance_is = said.1 }; answers = said.2 }
@@ -72,7 +72,7 @@ answer_says : (line : Line) (held : Contents) (answer : Answer) → ¬ Refuses a
 answer_says line held answer accepts h = fetched_say line held answer (texts_of held (files_of line)) accepts refl (texts_refuse held (files_of line)) h
 
 -- so is that of a run that did what its answer says
-completed_says : (line : Line) (held : Contents) (old new : World) (result : Status) → old.shelf.contents ≡ Some held → ¬ IsRefused result → (c : Completes line old new result) → Says line held c.answer
+pub completed_says : (line : Line) (held : Contents) (old new : World) (result : Status) → old.shelf.contents ≡ Some held → ¬ IsRefused result → (c : Completes line old new result) → Says line held c.answer
 completed_says line held old new result told accepts c =
     answer_says line held c.answer (λ h. accepts (subst IsRefused (sym c.status_is) h)) (subst (λ (o : Option Contents). AnswersTold o line c.answer) told c.answers)
 
@@ -119,10 +119,10 @@ said_judged b (Err reason) answer accepts h = absurd (accepts (plan_refused reas
 
 -- an instance and a plan that the files say, and the answer to it
 record SaysPlan (line : Line) (held : Contents) (answer : Answer) : Type 0 where
-  texts : Texts
-  b : Problem
+  pub texts : Texts
+  pub b : Problem
   plan : Forest
-  reads : SaidBy line held texts b
+  pub reads : SaidBy line held texts b
   said : plan_said b (text_or_empty texts role.Plan) ≡ Ok plan
   judges : Judges b plan answer
 

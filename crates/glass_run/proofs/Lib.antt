@@ -1,4 +1,6 @@
 mod Prefixes
+mod Counts
+mod Searched
 mod FetchedTexts
 mod ListedFiles
 mod Refusals
@@ -9,3 +11,4 @@ mod Judged
 mod Given
 mod Statuses
 mod Headlines
+mod SearchHeadline

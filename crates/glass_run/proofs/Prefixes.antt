@@ -8,7 +8,7 @@ use Rattle.std.proofs.lemmas.Slice.Eq.{bytes_eq-Decides}
 use Rattle.glass_base.specs.declared.role.Role.{Role}
 use Rattle.glass_run.specs.Grammar.{option_front, option_name}
 
-front_differs : (front word : List ℕ) → LacksTextAt front word 0 → bytes_eq (take (length front) word) front ≡ false
+pub front_differs : (front word : List ℕ) → LacksTextAt front word 0 → bytes_eq (take (length front) word) front ≡ false
 front_differs front word lacks = elim (cases_Bool (bytes_eq (take (length front) word) front)) [
   | inl is ↦
       let same : take (length front) word ≡ front = (bytes_eq-Decides (take (length front) word) front).0 is in

@@ -3,27 +3,35 @@ use Rattle.std.specs.Prelude.{◌≡◌, ◌⊎◌, ℕ, List, [], slice_index_o
 use Rattle.glass_base.specs.Problem.{Problem}
 use Rattle.glass_base.specs.declared.role.Role.TheVariants as role
 use Rattle.glass_io.specs.Told.{Contents}
+use Rattle.glass_run.specs.declared.grammar.Count.TheVariants as count
 use Rattle.glass_run.specs.declared.grammar.Verb.{Verb}
 use Rattle.glass_run.specs.declared.grammar.Verb.TheVariants as verb
 use Rattle.glass_run.specs.Answers.{Answer}
 use Rattle.glass_run.specs.Drafts.{Drafts}
-use Rattle.glass_run.specs.Grammar.{Line, files_of, stored_names}
+use Rattle.glass_run.specs.Grammar.{Line, files_of, count_in, stored_names}
 use Rattle.glass_run.specs.Instances.{InstanceRefused, IsInstanceOf}
 use Rattle.glass_run.specs.Judgements.{JudgesText}
+use Rattle.glass_run.specs.Plans.{PlansWithin}
 use Rattle.glass_run.specs.Texts.{Texts, text_for, text_or_empty, texts_of}
 
 -- the first name under which a line stores
 abbrev pub out_of : Line → List ℕ
 out_of line = slice_index_or (stored_names line) 0 []
 
+-- the second one
+abbrev pub second_out_of : Line → List ℕ
+second_out_of line = slice_index_or (stored_names line) 1 []
+
 -- the answer of each command to the instance that its texts say
 abbrev pub AnswersInstance : Verb → Line → Texts → Problem → Answer → Type 0
 AnswersInstance verb.Draft line texts b answer = Drafts b (out_of line) answer
+AnswersInstance verb.Plan line texts b answer = PlansWithin b (count_in line count.Budget) (out_of line) (second_out_of line) answer
 AnswersInstance verb.Judge line texts b answer = JudgesText b (text_or_empty texts role.Plan) answer
 
 -- the text of the defects that each command plans with; a draft is made on plates without defects
 abbrev pub flaws_of : Verb → Texts → Option (List ℕ)
 flaws_of verb.Draft texts = None
+flaws_of verb.Plan texts = text_for texts role.Defects
 flaws_of verb.Judge texts = text_for texts role.Defects
 
 -- the answer of a command to its texts

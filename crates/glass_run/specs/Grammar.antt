@@ -1,21 +1,26 @@
 -- The command lines: each command is a row of the table `pattern_of`.
-use Rattle.std.specs.Prelude.{◌==◌, ◌&&◌, ◌+◌, ◌++◌, ℕ, List, [], ◌∷◌, length, take, drop, find, position, slice_get, count_by, nat_le, Bool, false, not, is_some, if◌then◌else◌, Option, Some, None, codes, option_map, option_and_then}
+use Rattle.std.specs.Prelude.{◌==◌, ◌&&◌, ◌||◌, ◌+◌, ◌++◌, ℕ, List, [], ◌∷◌, length, take, drop, find, position, slice_get, count_by, nat_le, nat_lt, Bool, false, not, is_some, if◌then◌else◌, Option, Some, None, codes, option_map, option_and_then}
+use Rattle.std.specs.Char.{is_ascii_digit}
 use Rattle.std.specs.List.{filter_map, list_all, list_any}
-use Rattle.std.specs.Option.{option_map_or, option_or}
+use Rattle.std.specs.Option.{option_map_or, option_or, unwrap_or}
 use Rattle.std.specs.Str.{bytes_eq}
+use Rattle.std.specs.Str.Parse.{digits_value}
 use Rattle.glass_base.specs.Roles.{is_role}
 use Rattle.glass_base.specs.declared.role.Role.{Role}
 use Rattle.glass_base.specs.declared.role.Role.TheVariants as role
+use Rattle.glass_run.specs.declared.grammar.Count.{Count}
+use Rattle.glass_run.specs.declared.grammar.Count.TheVariants as count
 use Rattle.glass_run.specs.declared.grammar.Verb.{Verb}
 use Rattle.glass_run.specs.declared.grammar.Verb.TheVariants as verb
 
 -- what the words of a command are: its own word, a name for each file that it reads and for each that it stores, in this order,
--- and then options, which name further files that it reads
+-- and then options, which name further files that it reads, or set numbers
 pub record Pattern : Type 0 where
   pub word : List ℕ
   pub reads : List Role
   pub stores : List Role
   pub options : List Role
+  pub counts : List Count
 
 abbrev pub pattern_of : Verb → Pattern
 pattern_of verb.Draft = record {
@@ -23,17 +28,26 @@ pattern_of verb.Draft = record {
   reads = role.Batch ∷ [];
   stores = role.Plan ∷ [];
   options = role.Params ∷ role.Plates ∷ [];
+  counts = [];
+}
+pattern_of verb.Plan = record {
+  word = codes "plan";
+  reads = role.Batch ∷ role.Defects ∷ [];
+  stores = role.Plan ∷ role.Cert ∷ [];
+  options = role.Params ∷ role.Plates ∷ [];
+  counts = count.Workers ∷ count.Budget ∷ [];
 }
 pattern_of verb.Judge = record {
   word = codes "judge";
   reads = role.Batch ∷ role.Defects ∷ role.Plan ∷ [];
   stores = [];
   options = role.Params ∷ role.Plates ∷ [];
+  counts = [];
 }
 
 -- all commands
 abbrev pub verbs : List Verb
-verbs = verb.Draft ∷ verb.Judge ∷ []
+verbs = verb.Draft ∷ verb.Plan ∷ verb.Judge ∷ []
 
 -- the order in which the files of a command line are fetched and read
 abbrev pub fetch_order : List Role
@@ -67,6 +81,49 @@ option_name of word =
 abbrev pub is_option : Role → List ℕ → Bool
 is_option of word = is_some (option_name of word)
 
+-- what stands before the number in an option
+abbrev pub count_front : Count → List ℕ
+count_front count.Workers = codes "--workers="
+count_front count.Budget = codes "--budget="
+
+-- the greatest number that can be set; the least is 1
+abbrev pub count_most : Count → ℕ
+count_most count.Workers = 8
+count_most count.Budget = 10000000
+
+-- the number where a line sets none
+abbrev pub count_usual : Count → ℕ
+count_usual count.Workers = 4
+count_usual count.Budget = 100000
+
+-- a zero stands before other digits
+abbrev pub has_leading_zero : List ℕ → Bool
+has_leading_zero (a ∷ b ∷ rest) = a == 48
+has_leading_zero _ = false
+
+-- a text is a number: one digit or more, without a sign and without a zero at the front
+abbrev pub is_number : List ℕ → Bool
+is_number text = nat_lt 0 (length text) && list_all is_ascii_digit text && not (has_leading_zero text)
+
+-- the number that a text says, from 1 to this one
+abbrev pub number_upto : ℕ → List ℕ → Option ℕ
+number_upto most text =
+    let n = digits_value 10 text in
+    if is_number text && (nat_le 1 n && nat_le n most) then Some n else None
+
+-- the number that a word sets
+abbrev pub count_value : Count → List ℕ → Option ℕ
+count_value of word =
+    let front = count_front of in
+    if bytes_eq (take (length front) word) front then number_upto (count_most of) (drop (length front) word) else None
+
+abbrev pub is_count : Count → List ℕ → Bool
+is_count of word = is_some (count_value of word)
+
+-- a word sets one of these numbers
+abbrev pub is_some_count : List Count → List ℕ → Bool
+is_some_count counts word = list_any (λ of. is_count of word) counts
+
 -- a word is an option of one of these roles
 abbrev pub is_some_option : List Role → List ℕ → Bool
 is_some_option roles word = list_any (λ of. is_option of word) roles
@@ -75,9 +132,18 @@ is_some_option roles word = list_any (λ of. is_option of word) roles
 abbrev pub is_once : List (List ℕ) → Role → Bool
 is_once words of = nat_le (count_by (is_option of) words) 1
 
--- the words are options of these roles, of each role once at the most
-abbrev pub are_options : List Role → List (List ℕ) → Bool
-are_options roles words = list_all (is_some_option roles) words && list_all (is_once words) roles
+-- one of these words at the most sets this number
+abbrev pub is_count_once : List (List ℕ) → Count → Bool
+is_count_once words of = nat_le (count_by (is_count of) words) 1
+
+-- a word is one of the options of a command
+abbrev pub is_command_option : Pattern → List ℕ → Bool
+is_command_option pattern word = is_some_option pattern.options word || is_some_count pattern.counts word
+
+-- the words are options of a command, each of them once at the most
+abbrev pub are_options : Pattern → List (List ℕ) → Bool
+are_options pattern words =
+    list_all (is_command_option pattern) words && list_all (is_once words) pattern.options && list_all (is_count_once words) pattern.counts
 
 -- a command line: its command, the names of files behind it, and its options
 pub record Line : Type 0 where
@@ -106,7 +172,7 @@ is_named_once line name =
 abbrev pub is_line : Line → Bool
 is_line line =
     let pattern = pattern_of line.verb in
-    (length line.names == length pattern.reads + length pattern.stores) && list_all is_name line.names && are_options pattern.options line.options
+    (length line.names == length pattern.reads + length pattern.stores) && list_all is_name line.names && are_options pattern line.options
     && list_all (is_named_once line) (stored_names line)
 
 -- the words behind a command's own as its names and its options
@@ -138,6 +204,10 @@ name_by_option line of = option_and_then (option_name of) (find (is_option of) l
 -- the name of the file of this role, if the line names it
 abbrev pub name_of : Line → Role → Option (List ℕ)
 name_of line of = option_or (name_at line of) (name_by_option line of)
+
+-- the number that a line sets, or the usual one
+abbrev pub count_in : Line → Count → ℕ
+count_in line of = unwrap_or (option_and_then (count_value of) (find (is_count of) line.options)) (count_usual of)
 
 -- the file of this role with its name, if the line names it
 abbrev pub file_of : Line → Role → Option (Role × List ℕ)

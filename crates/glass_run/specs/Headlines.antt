@@ -1,5 +1,5 @@
 -- What a user may conclude from how a run ended.
-use Rattle.std.specs.Prelude.{◌≡◌, ℕ, List, Some, Ok}
+use Rattle.std.specs.Prelude.{◌≡◌, ◌≢◌, ◌↔◌, ◌+◌, ◌-◌, ◌^◌, ◌<◌, ◌≤◌, ℕ, List, Option, Some, Ok, option_map}
 use Rattle.glass_base.specs.Problem.{Problem}
 use Rattle.glass_base.specs.declared.role.Role.TheVariants as role
 use Rattle.glass_io.specs.Told.{Contents, SameContents, Stored}
@@ -7,18 +7,25 @@ use Rattle.cut_model.specs.declared.broken.Broken.{Broken}
 use Rattle.cut_model.specs.Lawful.{IsLawful}
 use Rattle.cut_model.specs.Loss.{loss_of}
 use Rattle.cut_model.specs.Tree.{Forest, neighbour_count}
-use Rattle.plan_draft.specs.Drafts.{HasNoDraft}
+use Rattle.plan_box.specs.Frames.{frame_of}
+use Rattle.plan_box.specs.Halves.{IsDepth}
+use Rattle.cert_log.specs.declared.certificate.Certificate.{Certificate}
+use Rattle.cert_log.specs.Good.{IsGood, Reaches}
+use Rattle.plan_draft.specs.Drafts.{HasNoDraft, IsDraftPlan}
 use Rattle.plan_csv.specs.PlanTexts.{plan_said}
 use Rattle.plan_csv.specs.Solutions.{solution_text}
-use Rattle.glass_run.specs.Commands.{flaws_of, out_of}
+use Rattle.glass_run.specs.Commands.{flaws_of, out_of, second_out_of}
 use Rattle.glass_run.specs.Drafts.{no_draft_line, summary}
-use Rattle.glass_run.specs.Grammar.{Line, files_of, line_of}
+use Rattle.glass_run.specs.Grammar.{Line, count_in, files_of, line_of}
 use Rattle.glass_run.specs.Instances.{IsInstanceOf}
 use Rattle.glass_run.specs.Judgements.{IsFirstBroken, lawful_line, unlawful_line}
-use Rattle.glass_run.specs.Runs.{Prints, RunsTo, World}
+use Rattle.glass_run.specs.Plans.{HasLoss, handled, planned, root_ranges, search_summary}
+use Rattle.glass_run.specs.Runs.{Prints, RunsTo, Stands, World}
 use Rattle.glass_run.specs.Texts.{Texts, text_or_empty, texts_of}
+use Rattle.glass_run.specs.declared.grammar.Count.TheVariants as count
 use Rattle.glass_run.specs.declared.grammar.Verb.{Verb}
 use Rattle.glass_run.specs.declared.status.Status.{Status}
+use Rattle.glass_run.specs.declared.status.Status.TheVariants as status
 
 -- these words are a line of this command, the files told what they held, and the run ended so
 pub record Ended (words : List (List ℕ)) (verb : Verb) (line : Line) (held : Contents) (old new : World) (result : Status) : Type 0 where
@@ -75,3 +82,37 @@ pub record FindsUnlawful (line : Line) (held : Contents) (old new : World) : Typ
   pub first : IsFirstBroken b plan broken
   pub unchanged : SameContents old.shelf.contents new.shelf.contents
   pub prints : Prints (unlawful_line broken) old.paper new.paper
+
+-- a search ended in one of these ways
+abbrev pub IsSearchEnd : Status → Type 0
+IsSearchEnd status.Optimal = Unit {0}
+IsSearchEnd status.Stopped = Unit {0}
+IsSearchEnd status.Infeasible = Unit {0}
+IsSearchEnd _ = ⊥
+
+-- what a search found is stored and printed
+pub record StoresSearch (line : Line) (held : Contents) (old new : World) (result : Status) : Type 0 where
+  pub texts : Texts
+  pub b : Problem
+  pub plan : Option Forest
+  pub certificate : Certificate
+  pub reads : SaidBy line held texts b
+  -- OUT holds the text of the plan, if there is one; CERT that of the certificate, which is right for the box of all plans; the six
+  -- lines on them are printed
+  pub stored : Stands (planned b (out_of line) (second_out_of line) certificate plan).stores old.shelf.contents new.shelf.contents
+  pub prints : Prints (search_summary certificate (option_map neighbour_count plan)) old.paper new.paper
+  pub good : IsGood b (root_ranges b) certificate.loss certificate
+  -- a printed plan is lawful and has the printed loss
+  pub plan_is : HasLoss b certificate.loss plan
+  -- every lawful plan loses at least the printed bound; where none is printed, there is no lawful plan
+  pub bounds : (other : Forest) → IsLawful b other → Reaches certificate.bound (loss_of b other)
+  -- `stopped` is printed exactly where a box is left open, and then as many boxes were closed or split as the budget says; else the
+  -- bound is the loss
+  pub left_open : result ≡ status.Stopped ↔ (0 < certificate.left)
+  pub in_budget : handled certificate ≤ count_in line count.Budget
+  pub spent : result ≡ status.Stopped → handled certificate ≡ count_in line count.Budget
+  pub exact : result ≢ status.Stopped → certificate.bound ≡ certificate.loss
+  -- with a budget of all boxes that a tree of the instance's depth can have, no box is left open
+  pub enough : (depth : ℕ) → IsDepth (frame_of b) depth → 2 ^ (depth + 1) - 1 ≤ count_in line count.Budget → result ≢ status.Stopped
+  -- never worse than the draft
+  pub no_worse : (draft : Forest) → IsDraftPlan b draft → Reaches certificate.loss (loss_of b draft)

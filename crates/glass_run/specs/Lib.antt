@@ -4,6 +4,7 @@ pub mod Answers
 pub mod Texts
 pub mod Instances
 pub mod Drafts
+pub mod Plans
 pub mod Judgements
 pub mod Commands
 pub mod Runs

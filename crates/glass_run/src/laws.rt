@@ -5,9 +5,10 @@
 ghost use Rattle.std.specs.Prelude.{ℕ, List};
 ghost use Rattle.glass_io.specs.Told.{Contents};
 ghost use Rattle.glass_run.specs.Grammar.{Line};
-ghost use Rattle.glass_run.specs.Headlines.{Ended, FindsLawful, FindsNoDraft, FindsUnlawful, StoresLawfulPlan};
+ghost use Rattle.glass_run.specs.Headlines.{Ended, FindsLawful, FindsNoDraft, FindsUnlawful, IsSearchEnd, StoresLawfulPlan, StoresSearch};
 ghost use Rattle.glass_run.specs.Runs.{World};
 ghost use Rattle.glass_run.specs.declared.grammar.Verb.TheVariants as verb;
+ghost use Rattle.glass_run.specs.declared.status.Status.{Status};
 ghost use Rattle.glass_run.specs.declared.status.Status.TheVariants as status;
 
 /// Where `draft` is done, OUT holds the text of a lawful plan, stored whole, all other names are as before, and what is printed is
@@ -19,6 +20,14 @@ pub fn done_drafts_are_lawful()
 /// Where `draft` says that there is no draft, the item that is printed is the first that has no place.
 pub fn missing_drafts_are_true()
     ensures { (words : List (List ℕ)) → (line : Line) → (held : Contents) → (old new : World) → Ended words verb.Draft line held old new status.NoDraft → FindsNoDraft line held old new }
+{}
+
+/// Where `plan` ends with `optimal`, `stopped` or `infeasible`: a printed plan is lawful and has the printed loss, and OUT holds its text;
+/// CERT holds the text of a certificate that is right for the box of all plans; every lawful plan loses at least the printed bound;
+/// `optimal` or `infeasible` is printed exactly where no box is left open; `stopped` only where exactly the budgeted number of boxes was
+/// closed or split; the plan is never worse than the draft.
+pub fn searches_are_right()
+    ensures { (words : List (List ℕ)) → (line : Line) → (held : Contents) → (old new : World) → (result : Status) → IsSearchEnd result → Ended words verb.Plan line held old new result → StoresSearch line held old new result }
 {}
 
 /// Where `judge` is done, the plan that the text says is lawful, and what is printed is its loss.

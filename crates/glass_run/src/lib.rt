@@ -3,13 +3,13 @@
 
 mod drafting;
 mod fetching;
-pub mod gate;
 pub mod grammar;
 mod instances;
 mod judging;
 pub mod laws;
 mod lines;
 mod notices;
+mod planning;
 pub mod program;
 mod reply;
 pub mod run;
@@ -17,7 +17,7 @@ pub mod status;
 mod texts;
 mod words;
 
-pub use gate::{Gate, OpenGate};
+pub use box_workers::{Gate, OpenGate};
 pub use program::run_program;
 pub use run::glass;
 pub use status::Status;

@@ -1,13 +1,16 @@
 //! The lines that a run prints.
 
-ghost use Rattle.std.specs.Prelude.{◌≡◌, IfOk};
+ghost use Rattle.std.specs.Prelude.{◌≡◌, ◌++◌, IfOk};
 ghost use Rattle.std.specs.String.{string_bytes};
 ghost use Rattle.glass_run.specs.Answers.{absent_line as absent_line_of, bad_input_line as bad_input_line_of, too_long_line as too_long_line_of};
 ghost use Rattle.glass_run.specs.Drafts.{no_draft_line as no_draft_line_of, summary};
+ghost use Rattle.cert_log.specs.Texts.{loss_text};
+ghost use Rattle.glass_run.specs.Plans.{counted_lines as counted_lines_of, ended_lines as ended_lines_of};
 ghost use Rattle.glass_run.specs.Judgements.{lawful_line as lawful_line_of, rule_word as rule_word_of, unlawful_line as unlawful_line_of};
 ghost use Rattle.glass_run.specs.Runs.{read_fault_line as read_fault_line_of};
 
 use crate::grammar::role_word;
+use cert_log::Certificate;
 use cut_model::{Broken, Rule};
 use glass_base::{Memory, Role};
 use std::alloc::Global;
@@ -71,6 +74,59 @@ pub(crate) fn summary_lines(alloc: Global, loss: u64, plates: u64) -> Result<Str
     ensures { IfOk result (λ lines. string_bytes lines ≡ summary loss plates) }
 {
     Ok(format!(in alloc; "loss {loss}\nplates {plates}\n")?)
+}
+
+/// A number, or `none`.
+fn number_or_none(alloc: Global, number: Option<u64>) -> Result<String, Memory>
+    ensures { IfOk result (λ text. string_bytes text ≡ loss_text number) }
+{
+    match number {
+        None => Ok(format!(in alloc; "none")?),
+        Some(number) => Ok(format!(in alloc; "{number}")?),
+    }
+}
+
+/// The lines that tell how a search ended, with its loss and its bound.
+fn ended_lines(
+    alloc: Global,
+    ending: &str,
+    loss: Option<u64>,
+    bound: Option<u64>,
+) -> Result<String, Memory>
+    ensures { IfOk result (λ lines. string_bytes lines ≡ ended_lines_of ending.now loss bound) }
+{
+    let loss = number_or_none(alloc, loss)?;
+    let bound = number_or_none(alloc, bound)?;
+    Ok(format!(in alloc; "status {ending}\nloss {loss}\nbound {bound}\n")?)
+}
+
+/// The lines that tell how many plates a plan uses, and how many boxes of a search were closed or split, and how many are open.
+fn counted_lines(
+    alloc: Global,
+    plates: Option<u64>,
+    boxes: u64,
+    left: u64,
+) -> Result<String, Memory>
+    ensures { IfOk result (λ lines. string_bytes lines ≡ counted_lines_of plates boxes left) }
+{
+    let plates = number_or_none(alloc, plates)?;
+    Ok(format!(in alloc; "plates {plates}\nboxes {boxes}\nopen {left}\n")?)
+}
+
+/// The six lines that tell of a search.
+pub(crate) fn search_lines(
+    alloc: Global,
+    ending: &str,
+    certificate: &Certificate,
+    plates: Option<u64>,
+    boxes: u64,
+) -> Result<String, Memory>
+    ensures { let c = certificate.now in IfOk result (λ lines. string_bytes lines ≡ ended_lines_of ending.now c.loss c.bound ++ counted_lines_of plates boxes c.left) }
+{
+    let mut lines = ended_lines(alloc, ending, certificate.loss, certificate.bound)?;
+    let counted = counted_lines(alloc, plates, boxes, certificate.left)?;
+    lines.push_str(counted.as_str())?;
+    Ok(lines)
 }
 
 /// The word by which a line names a rule.

@@ -6,18 +6,20 @@ ghost use Rattle.glass_run.specs.Exits.{Exits};
 ghost use Rattle.glass_run.specs.Grammar.{line_of};
 ghost use Rattle.glass_run.specs.Runs.{world};
 
-use crate::gate::OpenGate;
 use crate::run::glass;
 use crate::status::Status;
+use box_workers::OpenGate;
 use glass_io::{Files, Sink, StdFiles, StdSink};
 use std::alloc::Global;
 use std::env::Env;
 use std::io::ErrorKind;
+use std::sync::Wait;
+use std::thread::Threads;
 use std::{env, io, rt};
 
 /// The code that a program ends with that was given these words: that of the status of their run. Words of which one is not text
 /// are taken as none, which are as wrong.
-pub fn exit_code<R, F: Files, S: Sink>(
+pub fn exit_code<R: Threads + Wait + Sync, F: Files, S: Sink>(
     rt: &R,
     alloc: Global,
     words: io::Result<Vec<String>>,
@@ -45,7 +47,7 @@ fn words(rt: &(impl Env + AllocGlobal)) -> io::Result<Vec<String>> {
 }
 
 /// Runs the words of the program over the files of the system and standard output, and gives the code that the program ends with.
-pub fn run_program<R: Env + Print + rt::Files + AllocGlobal>(rt: &R) -> u8 {
+pub fn run_program<R: Env + Print + rt::Files + AllocGlobal + Threads + Wait + Sync>(rt: &R) -> u8 {
     let alloc = rt.alloc();
     let mut files = StdFiles::new(rt, alloc);
     let mut out = StdSink::new(rt);

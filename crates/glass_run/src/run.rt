@@ -14,32 +14,41 @@ ghost use Rattle.glass_run.specs.Texts.{Reaches};
 
 use crate::drafting::draft_instance;
 use crate::fetching::{NoReply, fetch_files};
-use crate::gate::Gate;
-use crate::grammar::Verb;
+use crate::grammar::{Count, Verb};
 use crate::instances::instance_of;
 use crate::judging::judge_text;
 use crate::lines::{USAGE_LINE, read_fault_line};
 use crate::notices::{Stop, reply_with};
+use crate::planning::plan_instance;
 use crate::reply::{Output, Reply};
 use crate::status::Status;
 use crate::texts::{Text, text_of_role, text_or_empty};
 use crate::words::{CommandLine, line_named};
+use box_workers::Gate;
 use glass_base::{Instance, Memory, Role};
 use glass_io::{Files, Sink, Trouble};
 use std::alloc::Global;
+use std::sync::Wait;
+use std::thread::Threads;
 
 /// The reply of a command to the instance that its texts say.
-fn reply_to_instance(
+fn reply_to_instance<R: Threads + Wait + Sync, G: Gate + Sync>(
+    rt: &R,
     alloc: Global,
-    verb: Verb,
+    line: &CommandLine<'_>,
     texts: &[Text],
     instance: &Instance,
+    gate: &G,
 ) -> Result<Reply, Memory>
-    requires { IsInstanceOf (texts_in texts.now) (flaws_of verb (texts_in texts.now)) instance.now }
-    ensures { IfOk result (λ r. (line : Line) → AnswersInstance verb line (texts_in texts.now) instance.now (answer_in (stored_names line) r)) }
+    requires { IsInstanceOf (texts_in texts.now) (flaws_of line.now.verb (texts_in texts.now)) instance.now }
+    ensures { let said = line_in line.now in IfOk result (λ r. AnswersInstance said.verb said (texts_in texts.now) instance.now (answer_in (stored_names said) r)) }
 {
-    match verb {
+    match line.verb {
         Verb::Draft => draft_instance(alloc, instance),
+        Verb::Plan => {
+            let (workers, budget) = (line.count(Count::Workers), line.count(Count::Budget));
+            plan_instance(rt, alloc, instance, workers, budget, gate)
+        }
         Verb::Judge => {
             let notice = judge_text(alloc, instance, text_or_empty(texts, Role::Plan))?;
             Ok(reply_with(alloc, notice))
@@ -53,26 +62,35 @@ fn flaws(verb: Verb, texts: &[Text]) -> Option<&[u8]>
 {
     match verb {
         Verb::Draft => None,
+        Verb::Plan => text_of_role(texts, Role::Defects),
         Verb::Judge => text_of_role(texts, Role::Defects),
     }
 }
 
 /// The reply of a command to its texts.
-fn reply_to_texts(alloc: Global, verb: Verb, texts: &[Text]) -> Result<Reply, Memory>
-    ensures { IfOk result (λ r. (line : Line) → line.verb ≡ verb → AnswersTexts line (texts_in texts.now) (answer_in (stored_names line) r)) }
+fn reply_to_texts<R: Threads + Wait + Sync, G: Gate + Sync>(
+    rt: &R,
+    alloc: Global,
+    line: &CommandLine<'_>,
+    texts: &[Text],
+    gate: &G,
+) -> Result<Reply, Memory>
+    ensures { let said = line_in line.now in IfOk result (λ r. AnswersTexts said (texts_in texts.now) (answer_in (stored_names said) r)) }
 {
-    match instance_of(alloc, texts, flaws(verb, texts)) {
-        Ok(instance) => reply_to_instance(alloc, verb, texts, &instance),
+    match instance_of(alloc, texts, flaws(line.verb, texts)) {
+        Ok(instance) => reply_to_instance(rt, alloc, line, texts, &instance, gate),
         Err(Stop::Told(notice)) => Ok(reply_with(alloc, notice)),
         Err(Stop::Memory) => Err(Memory),
     }
 }
 
 /// The reply of a command line to what stands under the names of its files.
-fn reply_of<F: Files>(
+fn reply_of<R: Threads + Wait + Sync, F: Files, G: Gate + Sync>(
+    rt: &R,
     alloc: Global,
     files: &mut F,
     line: &CommandLine<'_>,
+    gate: &G,
 ) -> Result<Reply, NoReply>
     ensures same { SameContents (F.shelf files.old).contents (F.shelf files.new).contents }
     ensures reply { IfOk result (λ r. IfSome (F.shelf files.old).contents (λ contents. Answers contents (line_in line.now) (answer_in (stored_names (line_in line.now)) r))) }
@@ -81,7 +99,7 @@ fn reply_of<F: Files>(
     ensures keeps { F.reliable files.old → F.reliable files.new × IfErr result (OnFault (λ _. ⊥)) }
 {
     match fetch_files(alloc, files, line)? {
-        Ok(texts) => Ok(reply_to_texts(alloc, line.verb, texts.as_slice())?),
+        Ok(texts) => Ok(reply_to_texts(rt, alloc, line, texts.as_slice(), gate)?),
         Err(notice) => Ok(reply_with(alloc, notice)),
     }
 }
@@ -138,17 +156,19 @@ fn deliver<F: Files, S: Sink>(files: &mut F, out: &mut S, names: &[String], repl
 /// Runs a command line, its words being those after the program's name.
 ///
 /// `draft BATCH OUT` stores the plan of the draft of the batch, on plates without defects, and prints its loss and the number
-/// of its plates. `judge BATCH DEFECTS PLAN` judges anybody's solution file: it prints the loss of a lawful plan, or the first
+/// of its plates. `plan BATCH DEFECTS OUT CERT` searches for a plan that loses little, closing or splitting as many boxes as
+/// `--budget=` says at the most; it stores the best plan and the certificate of the search, and prints how the search ended, the loss,
+/// the bound on the loss of every lawful plan, the number of plates, and how many boxes were handled and are open. `judge BATCH DEFECTS PLAN` judges anybody's solution file: it prints the loss of a lawful plan, or the first
 /// rule that the plan breaks. The parameters are the challenge's, or those of the file that the option `--params=FILE` names; each
 /// plate is as wide as they say, or as the file of the option `--plates=FILE` says of it. All is computed before anything is
 /// stored, and a run writes once at the most. A refusal stores nothing and prints its one line.
-pub fn glass<R, F: Files, S: Sink, G: Gate>(
-    _rt: &R,
+pub fn glass<R: Threads + Wait + Sync, F: Files, S: Sink, G: Gate + Sync>(
+    rt: &R,
     alloc: Global,
     words: &[String],
     files: &mut F,
     out: &mut S,
-    _gate: &G,
+    gate: &G,
 ) -> Status
     // what is stored, printed and counted, by the status
     ensures runs { RunsTo (line_of (map string_bytes words.now)) (world (F.shelf files.old) (S.paper out.old)) (world (F.shelf files.new) (S.paper out.new)) result }
@@ -158,7 +178,7 @@ pub fn glass<R, F: Files, S: Sink, G: Gate>(
 {
     match line_named(words) {
         None => print(out, USAGE_LINE, Status::Usage),
-        Some(line) => match reply_of(alloc, files, &line) {
+        Some(line) => match reply_of(rt, alloc, files, &line, gate) {
             Ok(reply) => deliver(files, out, line.stored(), &reply),
             Err(NoReply::Memory) => Status::Memory,
             Err(NoReply::ReadFault(role)) => print(out, read_fault_line(role), Status::ReadFault),

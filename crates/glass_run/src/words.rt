@@ -1,14 +1,15 @@
 //! The words of a command line.
 
-ghost use Rattle.std.specs.Prelude.{◌≡◌, ◌+◌, map, count_by, option_map, find, position, slice_get};
+ghost use Rattle.std.specs.Prelude.{◌≡◌, ◌+◌, ◌<◌, ◌^◌, map, count_by, option_map, option_and_then, find, position, slice_get, IfSome};
+ghost use Rattle.std.specs.Char.{is_ascii_digit};
 ghost use Rattle.std.specs.List.{list_all};
 ghost use Rattle.std.specs.Str.{bytes_eq};
 ghost use Rattle.std.specs.String.{string_bytes};
-ghost use Rattle.glass_run.specs.inner.Forms.{line_in};
+ghost use Rattle.glass_run.specs.inner.Forms.{line_in, pattern_in};
 ghost use Rattle.glass_base.specs.Roles.{is_role};
-ghost use Rattle.glass_run.specs.Grammar.{are_options as are_options_of, is_once, is_option_for as is_option_for_of, is_some_option as is_some_option_of, is_name as is_name_of, is_option as is_option_of, line_if, line_of, line_with, option_name as option_name_of, option_names as option_names_of, verb_of};
+ghost use Rattle.glass_run.specs.Grammar.{Pattern, are_options as are_options_of, has_leading_zero as has_leading_zero_of, is_command_option as is_command_option_of, is_number as is_number_of, is_count as is_count_of, is_count_once, is_some_count as is_some_count_of, number_upto as number_upto_of, count_value as count_value_of, is_once, is_option_for as is_option_for_of, is_some_option as is_some_option_of, is_name as is_name_of, is_option as is_option_of, line_if, line_of, line_with, option_name as option_name_of, option_names as option_names_of, verb_of};
 
-use crate::grammar::{VERBS, Verb, option_front};
+use crate::grammar::{Form, Count, VERBS, Verb, option_front, count_front, count_most, count_usual};
 use glass_base::Role;
 
 /// A command with the names of its files, and its options, which name further files.
@@ -72,15 +73,6 @@ fn options_of_role(role: Role, words: &[String]) -> usize
         .count()
 }
 
-/// Whether each word is an option of one of these roles.
-fn are_some_options(roles: &[Role], words: &[String]) -> bool
-    ensures { result ≡ list_all (is_some_option_of roles.now) (map string_bytes words.now) }
-{
-    words
-        .iter()
-        .all(|word| is_some_option(roles, word.as_str()))
-}
-
 /// Whether each of these roles has one option at the most.
 fn are_once(roles: &[Role], words: &[String]) -> bool
     ensures { result ≡ list_all (is_once (map string_bytes words.now)) roles.now }
@@ -88,11 +80,109 @@ fn are_once(roles: &[Role], words: &[String]) -> bool
     roles.iter().all(|role| options_of_role(*role, words) <= 1)
 }
 
-/// Whether words are options of these roles, of each role once at the most.
-fn are_options(roles: &[Role], words: &[String]) -> bool
-    ensures { result ≡ are_options_of roles.now (map string_bytes words.now) }
+/// Whether a zero stands before other digits.
+fn has_leading_zero(text: &[u8]) -> bool
+    ensures { result ≡ has_leading_zero_of text.now }
 {
-    are_some_options(roles, words) && are_once(roles, words)
+    match text {
+        [first, _, ..] => *first == b'0',
+        _ => false,
+    }
+}
+
+/// Whether a text has no other bytes than digits.
+fn are_digits(text: &[u8]) -> bool
+    ensures { result ≡ list_all is_ascii_digit text.now }
+{
+    text.iter().all(|byte| byte.is_ascii_digit())
+}
+
+/// Whether a text is a number: one digit or more, without a sign and without a zero at the front.
+fn is_number(text: &[u8]) -> bool
+    ensures { result ≡ is_number_of text.now }
+{
+    !text.is_empty() && are_digits(text) && !has_leading_zero(text)
+}
+
+/// The number that a text says, from 1 to this one.
+fn number_upto(most: u32, text: &str) -> Option<u32>
+    ensures { result ≡ number_upto_of most text.now }
+{
+    if !is_number(text.as_bytes()) {
+        return None;
+    }
+    match text.parse::<u32>() {
+        Ok(number) => { if 1 <= number && number <= most { Some(number) } else { None } }
+        Err(_) => None,
+    }
+}
+
+/// The number that a word sets.
+fn count_value(count: Count, word: &str) -> Option<u32>
+    ensures { result ≡ count_value_of count word.now }
+{
+    match word.strip_prefix(count_front(count)) {
+        Some(text) => number_upto(count_most(count), text),
+        None => None,
+    }
+}
+
+/// Whether a word sets this number.
+fn is_count(count: Count, word: &str) -> bool
+    ensures { result ≡ is_count_of count word.now }
+{
+    count_value(count, word).is_some()
+}
+
+/// Whether a word sets one of these numbers.
+fn is_some_count(counts: &[Count], word: &str) -> bool
+    ensures { result ≡ is_some_count_of counts.now word.now }
+{
+    counts.iter().any(|count| is_count(*count, word))
+}
+
+/// How many words set this number.
+fn counts_of(count: Count, words: &[String]) -> usize
+    ensures { result ≡ count_by (is_count_of count) (map string_bytes words.now) }
+{
+    words
+        .iter()
+        .filter(|word| is_count(count, word.as_str()))
+        .count()
+}
+
+/// Whether each of these numbers is set once at the most.
+fn are_counts_once(counts: &[Count], words: &[String]) -> bool
+    ensures { result ≡ list_all (is_count_once (map string_bytes words.now)) counts.now }
+{
+    counts
+        .iter()
+        .all(|count| counts_of(*count, words) <= 1)
+}
+
+/// Whether a word is one of the options of a command.
+fn is_command_option(form: &Form, word: &str) -> bool
+    ensures { result ≡ is_command_option_of (pattern_in form.now) word.now }
+{
+    is_some_option(form.options, word) || is_some_count(form.counts, word)
+}
+
+/// Whether each word is one of the options of a command.
+fn are_command_options(form: &Form, words: &[String]) -> bool
+    ensures { result ≡ list_all (is_command_option_of (pattern_in form.now)) (map string_bytes words.now) }
+{
+    words
+        .iter()
+        .all(|word| is_command_option(form, word.as_str()))
+}
+
+/// Whether words are options of a command, each of them once at the most.
+fn are_options(form: &Form, words: &[String]) -> bool
+    ensures { result ≡ are_options_of (pattern_in form.now) (map string_bytes words.now) }
+{
+    are_command_options(form, words)
+        && are_once(form.options, words)
+        && are_counts_once(form.counts, words)
 }
 
 /// Whether a word is an option of this role that names this file.
@@ -123,6 +213,24 @@ fn word_at(words: &[String], place: usize) -> Option<&str>
     words.get(place).map(|word| word.as_str())
 }
 
+/// The first word that sets this number.
+fn first_count(count: Count, words: &[String]) -> Option<&str>
+    ensures { option_map (λ word. word.now) result ≡ find (is_count_of count) (map string_bytes words.now) }
+{
+    words
+        .iter()
+        .map(|word| word.as_str())
+        .find(|word| is_count(count, word))
+}
+
+/// The number that the first such word sets.
+fn count_set(count: Count, words: &[String]) -> Option<u32>
+    ensures { result ≡ option_and_then (count_value_of count) (find (is_count_of count) (map string_bytes words.now)) }
+{
+    let word = first_count(count, words)?;
+    count_value(count, word)
+}
+
 /// The first option of this role.
 fn first_option(role: Role, words: &[String]) -> Option<&str>
     ensures { option_map (λ word. word.now) result ≡ find (is_option_of role) (map string_bytes words.now) }
@@ -135,7 +243,7 @@ fn first_option(role: Role, words: &[String]) -> Option<&str>
 
 impl<'a> CommandLine<'a> {
     ghost use Rattle.glass_run.specs.inner.Forms.{line_in};
-    ghost use Rattle.glass_run.specs.Grammar.{is_line, is_named_once, name_at, name_by_option, name_of, option_names as option_names_of, pattern_of, stored_names};
+    ghost use Rattle.glass_run.specs.Grammar.{is_line, is_named_once, name_at, name_by_option, name_of, option_names as option_names_of, pattern_of, count_in, stored_names};
 
     /// How often names and options name this file.
     fn namings(&self, name: &str) -> usize
@@ -182,8 +290,18 @@ impl<'a> CommandLine<'a> {
         let form = self.verb.form();
         self.names.len() == form.reads.len() + form.stores.len()
             && are_names(self.names)
-            && are_options(form.options, self.options)
+            && are_options(&form, self.options)
             && self.stores_apart()
+    }
+
+    /// The number that the line sets, or the usual one.
+    pub(crate) fn count(&self, count: Count) -> u32
+        ensures { result ≡ count_in (line_in self.now) count }
+    {
+        match count_set(count, self.options) {
+            Some(number) => number,
+            None => count_usual(count),
+        }
     }
 
     /// The name of the file of this role, where it is one of the names.

@@ -21,7 +21,7 @@ use Rattle.glass_run.specs.Texts.{Texts}
 
 -- the row that a form is
 abbrev pub pattern_in : Form → Pattern
-pattern_in f = record { word = f.word.now; reads = f.reads.now; stores = f.stores.now; options = f.options.now }
+pattern_in f = record { word = f.word.now; reads = f.reads.now; stores = f.stores.now; options = f.options.now; counts = f.counts.now }
 
 -- the line that a command line is
 abbrev pub line_in : CommandLine → Line

@@ -1,0 +1,10 @@
+use Rattle.std.proofs.Common.{arith, sym}
+use Rattle.cut_model.specs.Tree.{tree}
+use Rattle.glass_run.proofs.Searched.{best_plan}
+use Rattle.glass_run.proofs.planning.best_plan.Goals as goal
+
+pub returns-in_ok-plan-in-Some-clause-loss : goal.returns-in_ok-plan-in-Some-clause-loss
+returns-in_ok-plan-in-Some-clause-loss c =
+    let is = rw c.in-Some.is at c.requires in
+    best_plan c.args.instance.now c.args.history.now.best c.in-Some.trace.steps.items (tree c.in_ok-plan-in-Some.plan) (omega (arith, is.0)) is.2
+    c.in_ok-plan-in-Some.ensures.good.lawful c.in_ok-plan-in-Some.ensures.loses

@@ -1,0 +1,102 @@
+-- What `plan` answers to an instance.
+use Rattle.std.specs.Prelude.{◌≡◌, ◌≤◌, ◌<◌, ◌*◌, ◌==◌, ◌⊎◌, ◌++◌, ℕ, List, [], ◌∷◌, length, count_by, not, codes, if◌then◌else◌, is_some, option_map, Option, Some, None}
+use Rattle.std.specs.Fmt.{decimal}
+use Rattle.glass_base.specs.Problem.{Problem}
+use Rattle.glass_base.specs.declared.role.Role.TheVariants as role
+use Rattle.cut_model.specs.Lawful.{IsLawful}
+use Rattle.cut_model.specs.Loss.{loss_of}
+use Rattle.cut_model.specs.Tree.{Forest, neighbour_count}
+use Rattle.plan_box.specs.Frames.{frame_of}
+use Rattle.plan_box.specs.Ranges.{Ranges, root_of}
+use Rattle.cert_log.specs.declared.certificate.Certificate.{Certificate}
+use Rattle.cert_log.specs.Good.{IsGood, IsVersion, Reaches}
+use Rattle.cert_log.specs.Splits.{IsSearched}
+use Rattle.cert_log.specs.Texts.{cert_text, loss_text}
+use Rattle.cert_log.specs.Trees.{is_left}
+use Rattle.plan_draft.specs.Drafts.{IsDraftPlan}
+use Rattle.plan_csv.specs.Solutions.{solution_text}
+use Rattle.glass_run.specs.declared.status.Status.{Status}
+use Rattle.glass_run.specs.declared.status.Status.TheVariants as status
+use Rattle.glass_run.specs.Answers.{Answer, Store, bad_input}
+
+-- the ranges of the box that holds every lawful plan
+abbrev pub root_ranges : Problem → List Ranges
+root_ranges b = (root_of (frame_of b) 0).ranges
+
+-- how many boxes a certificate tells of that were closed or split
+abbrev pub handled : Certificate → ℕ
+handled c = count_by (λ node. not (is_left node)) c.nodes.items
+
+-- there is a plan exactly where there is a loss; it is lawful and has that loss
+abbrev pub HasLoss : Problem → Option ℕ → Option Forest → Type 0
+HasLoss b None None = Unit {0}
+HasLoss b (Some loss) (Some plan) = IsLawful b plan × (loss_of b plan ≡ loss)
+HasLoss b _ _ = ⊥
+
+-- what a search found that may close or split this many boxes: a certificate, and the best plan
+pub record IsFound (b : Problem) (budget : ℕ) (c : Certificate) (plan : Option Forest) : Type 0 where
+  -- the certificate is right for the box that holds every lawful plan, and for the loss of the plan; each closed box has its cause
+  pub good : IsGood b (root_ranges b) c.loss c
+  pub version : IsVersion 2 c
+  pub plan_is : HasLoss b c.loss plan
+  -- every lawful plan loses at least the bound; where there is no bound, there is no lawful plan
+  pub bounds : (other : Forest) → IsLawful b other → Reaches c.bound (loss_of b other)
+  -- no more boxes were closed or split than that, and exactly so many where one was left open
+  pub in_budget : handled c ≤ budget
+  pub spent : 0 < c.left → handled c ≡ budget
+  -- no box was split that is refuted, or whose bound reaches this loss; it is no greater than the draft's, where there is a draft
+  pub to_beat : ℕ
+  pub searched : IsSearched b to_beat (root_ranges b) c
+  pub no_greater : (draft : Forest) → IsDraftPlan b draft → to_beat ≤ loss_of b draft
+  -- where there is a draft, there is a plan that loses no more
+  pub no_worse : (draft : Forest) → IsDraftPlan b draft → Reaches c.loss (loss_of b draft)
+
+-- how a search ended: a box is left open, or else there is a plan or there is none
+abbrev pub ending : Certificate → Status
+ending c = if c.left == 0 then (if is_some c.loss then status.Optimal else status.Infeasible) else status.Stopped
+
+-- the word for how a search ended
+abbrev pub ending_word : Certificate → List ℕ
+ending_word c = if c.left == 0 then (if is_some c.loss then codes "optimal" else codes "infeasible") else codes "stopped"
+
+-- how a search ended, its loss and its bound; what there is none of is `none`
+abbrev pub ended_lines : List ℕ → Option ℕ → Option ℕ → List ℕ
+ended_lines how loss bound = codes "status " ++ how ++ codes "\nloss " ++ loss_text loss ++ codes "\nbound " ++ loss_text bound ++ codes "\n"
+
+-- how many plates its plan uses, how many boxes were closed or split, and how many are left open
+abbrev pub counted_lines : Option ℕ → ℕ → ℕ → List ℕ
+counted_lines plates boxes left = codes "plates " ++ loss_text plates ++ codes "\nboxes " ++ decimal boxes ++ codes "\nopen " ++ decimal left ++ codes "\n"
+
+-- the six lines that are printed of a search
+abbrev pub search_summary : Certificate → Option ℕ → List ℕ
+search_summary c plates = ended_lines (ending_word c) c.loss c.bound ++ counted_lines plates (handled c) c.left
+
+-- a plan is stored under this name, if there is one
+abbrev pub plan_stores : Problem → List ℕ → Option Forest → List Store
+plan_stores b name None = []
+plan_stores b name (Some plan) = record { name = name; bytes = solution_text b plan } ∷ []
+
+-- the plan is stored, if there is one, then the certificate; the six lines are printed
+abbrev pub planned : Problem → List ℕ → List ℕ → Certificate → Option Forest → Answer
+planned b out cert c plan = record {
+  status = ending c;
+  stores = plan_stores b out plan ++ record { name = cert; bytes = cert_text c } ∷ [];
+  lines = search_summary c (option_map neighbour_count plan);
+}
+
+-- the most that the number of items times the budget may be
+abbrev pub most_work : ℕ
+most_work = 160000000
+
+-- what a search found is stored under these names and told
+pub record Plans (b : Problem) (budget : ℕ) (out cert : List ℕ) (answer : Answer) : Type 0 where
+  pub certificate : Certificate
+  pub plan : Option Forest
+  pub found : IsFound b budget certificate plan
+  pub answer_is : answer ≡ planned b out cert certificate plan
+
+-- the answer to an instance: what a search found, or a refusal where that would be too much work
+abbrev pub PlansWithin : Problem → ℕ → List ℕ → List ℕ → Answer → Type 0
+PlansWithin b budget out cert answer =
+    ((length b.items * budget ≤ most_work) × Plans b budget out cert answer)
+    ⊎ ((most_work < length b.items * budget) × (answer ≡ bad_input role.Batch 9 (length b.items) budget))
