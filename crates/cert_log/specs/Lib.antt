@@ -3,5 +3,9 @@ pub mod Good
 pub mod Levels
 pub mod Lawful
 pub mod Texts
+pub mod Values
+pub mod Follow
+pub mod Outcomes
+pub mod ReadAgain
 pub mod Readings
 pub mod inner
