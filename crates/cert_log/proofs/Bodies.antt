@@ -1,44 +1,30 @@
 -- Which lines a text may be.
-use Rattle.std.proofs.Common.{◌≡◌, ℕ, ◌^◌, ◌<◌, ◌≤◌, ◌⊎◌, inl, inr, List, [], ◌∷◌, ◌++◌, sym, ap, ◌∙◌, subst, arith, None}
+use Rattle.std.proofs.Common.{◌≡◌, ℕ, ◌^◌, ◌<◌, inr, List, ◌∷◌, ◌++◌, sym, ◌∙◌, subst, arith, None}
 use Rattle.std.specs.Fmt.{decimal}
 use Rattle.std.proofs.lemmas.Fmt.{decimal_injective}
-use Rattle.plan_box.specs.declared.reason.Reason.{Reason}
 use Rattle.plan_box.specs.declared.var.Var.{Var}
-use Rattle.plan_box.specs.Reasons.{reason_number}
-use Rattle.cert_log.specs.declared.history.Cause.{Cause}
 use Rattle.cert_log.specs.declared.place.Place.{Place}
-use Rattle.cert_log.specs.Texts.{Line, splits, closes, opens_one, opens, letter, cause_text, line_text}
+use Rattle.cert_log.specs.Texts.{Line, splits, closes, opens_one, opens, letter}
 use Rattle.cert_log.specs.Follow.{MayCome, NoLine}
-use Rattle.cert_log.specs.inner.Fields.{Lacks, IsAny, reason_text}
+use Rattle.cert_log.specs.inner.Fields.{Lacks, IsAny}
 use Rattle.cert_log.specs.inner.LineForms.{body, IsFormed, SaysLine}
 use Rattle.cert_log.proofs.Spelling.{HasNumber, ends_alike, decimal_lacks, first_is, rest_is, body_lacks, bodies_alike, line_ends}
 use Rattle.cert_log.proofs.Marks.{marked}
 
-pub splits_only : (text : List ℕ) → ((s : ℕ) (v : Var) → s < 800 → text ≡ decimal s ++ 59 ∷ letter v → ⊥) → (l : Line) → IsFormed l → 83 ∷ 59 ∷ text ≡ body l → ⊥
+pub splits_only : (text : List ℕ) → ((s : ℕ) (v : Var) → s < 2 ^ 32 → text ≡ decimal s ++ 59 ∷ letter v → ⊥) → (l : Line) → IsFormed l → 83 ∷ 59 ∷ text ≡ body l → ⊥
 splits_only text none (splits s v) f e = none s v f (rest_is 59 59 _ _ (rest_is 83 83 _ _ e))
 splits_only text none (closes k) f e = let g = first_is 83 67 _ _ e in omega arith
 splits_only text none opens_one f e = let g = first_is 83 79 _ _ e in omega arith
 splits_only text none (opens n) f e = let g = first_is 83 79 _ _ e in omega arith
 
-pub closes_only : (text : List ℕ) → ((k : Cause) → 59 ∷ text ≡ cause_text k → ⊥) → (l : Line) → IsFormed l → 67 ∷ 59 ∷ text ≡ body l → ⊥
-closes_only text none (splits s v) f e = let g = first_is 67 83 _ _ e in omega arith
-closes_only text none (closes k) f e = none k (rest_is 67 67 _ _ e)
-closes_only text none opens_one f e = let g = first_is 67 79 _ _ e in omega arith
-closes_only text none (opens n) f e = let g = first_is 67 79 _ _ e in omega arith
-
-pub no_cause : (text : List ℕ) → (text ≡ 98 ∷ [] → ⊥) → ((r : Reason) → IsAny r → text ≡ reason_text r → ⊥) → (k : Cause) → 59 ∷ text ≡ cause_text k → ⊥
-no_cause text bound none Cause.Unsaid e = cc
-no_cause text bound none Cause.Bound e = bound (rest_is 59 59 _ _ e)
-no_cause text bound none (Cause.Reason r) e = none r tt (rest_is 59 59 _ _ e)
-
-pub no_letter : (text rest : List ℕ) (n : ℕ) → n < 2 ^ 64 → text ≡ decimal n ++ 59 ∷ rest → ((v : Var) → IsAny v → rest ≡ letter v → ⊥) → (s : ℕ) (v : Var) → s < 800 → text ≡ decimal s ++ 59 ∷ letter v → ⊥
+pub no_letter : (text rest : List ℕ) (n : ℕ) → n < 2 ^ 64 → text ≡ decimal n ++ 59 ∷ rest → ((v : Var) → IsAny v → rest ≡ letter v → ⊥) → (s : ℕ) (v : Var) → s < 2 ^ 32 → text ≡ decimal s ++ 59 ∷ letter v → ⊥
 no_letter text rest n small e none s v below f =
     none v tt (ends_alike 59 (decimal n) (decimal s) rest (letter v) (decimal_lacks 59 n (inr (omega arith)) small) (decimal_lacks 59 s (inr (omega arith)) (omega arith)) (sym e ∙ f)).back
 
-pub no_step : (text rest : List ℕ) (n : ℕ) → n < 2 ^ 64 → text ≡ decimal n ++ 59 ∷ rest → 800 ≤ n → (s : ℕ) (v : Var) → s < 800 → text ≡ decimal s ++ 59 ∷ letter v → ⊥
-no_step text rest n small e high s v below f =
+pub no_step : (text rest : List ℕ) (n : ℕ) → n < 2 ^ 64 → text ≡ decimal n ++ 59 ∷ rest → (n < 2 ^ 32 → ⊥) → (s : ℕ) (v : Var) → s < 2 ^ 32 → text ≡ decimal s ++ 59 ∷ letter v → ⊥
+no_step text rest n small e not s v below f =
     let front = (ends_alike 59 (decimal n) (decimal s) rest (letter v) (decimal_lacks 59 n (inr (omega arith)) small) (decimal_lacks 59 s (inr (omega arith)) (omega arith)) (sym e ∙ f)).front in
-    let same = decimal_injective n s small (omega arith) front in omega arith
+    let same = decimal_injective n s small (omega arith) front in not (omega arith)
 
 pub has_number : (l : Line) → IsFormed l → HasNumber l
 has_number (splits step v) f = omega arith
@@ -47,7 +33,7 @@ has_number opens_one f = tt
 has_number (opens n) f = f
 
 pub formed : (version : ℕ) (at : Place) (l : Line) → at.places < 2 ^ 64 → MayCome version at l → IsFormed l
-formed version at (splits step v) small may = may
+formed version at (splits step v) small may = omega arith
 formed version at (closes k) small may = tt
 formed version at opens_one small may = tt
 formed version at (opens n) small may = let few = may.2 in omega arith
@@ -64,6 +50,3 @@ other_line version at text front behind m small e lack fits is not = λ l rest m
     let formed_l = formed version at l small may in
     let same = bodies_alike m l (has_number m fits) (has_number l formed_l) (sym is ∙ (ends_alike 10 front (body l) behind rest lack (body_lacks l (has_number l formed_l)) (sym e ∙ f ∙ line_ends l rest)).front) in
     not (subst (MayCome version at) (sym same) may)
-
-pub line_comes : (text front behind : List ℕ) (m : Line) → text ≡ front ++ 10 ∷ behind → front ≡ body m → text ≡ line_text m ++ behind
-line_comes text front behind m e is = e ∙ ap (λ (b : List ℕ). b ++ 10 ∷ behind) is ∙ sym (line_ends m behind)

@@ -1,6 +1,6 @@
 -- What stands before the first mark.
-use Rattle.std.proofs.Common.{◌≡◌, ℕ, ◌+◌, ◌^◌, ◌<◌, ◌≤◌, inl, inr, Bool, true, false, IsTrue, List, [], ◌∷◌, ◌++◌, length, take, drop, get_or, sym, ap, ◌∙◌, subst, refl, arith, None}
-use Rattle.std.proofs.lemmas.List.{take_more, take_all, take-append-drop, drop_more}
+use Rattle.std.proofs.Common.{◌≡◌, ℕ, ◌+◌, ◌^◌, ◌<◌, inl, inr, Bool, true, false, IsTrue, List, [], ◌∷◌, ◌++◌, length, take, get_or, sym, ◌∙◌, subst, refl, arith, None}
+use Rattle.std.proofs.lemmas.List.{take_more}
 use Rattle.std.proofs.lemmas.Fmt.{decimal_injective}
 use Rattle.std.specs.Prelude.{◌==◌}
 use Rattle.std.specs.Fmt.{decimal}
@@ -30,14 +30,6 @@ lacks_push d (x ∷ xs) y l n = (l.0, lacks_push d xs y l.1 n)
 -- one more byte that is not the mark
 pub lacks_more : (d i k : ℕ) (xs : List ℕ) → i < length xs → Lacks d (take i xs) → (get_or xs i k ≡ d → ⊥) → Lacks d (take (i + 1) xs)
 lacks_more d i k xs within l n = subst (Lacks d) (sym (take_more xs i k within)) (lacks_push d (take i xs) (get_or xs i k) l n)
-
-pub lacks_all : (d n : ℕ) (xs : List ℕ) → length xs ≤ n → Lacks d (take n xs) → Lacks d xs
-lacks_all d n xs all l = subst (Lacks d) (take_all n xs all) l
-
--- a mark cuts the text
-pub cut_at : (d i k : ℕ) (xs : List ℕ) → i < length xs → get_or xs i k ≡ d → xs ≡ take i xs ++ d ∷ drop (i + 1) xs
-cut_at d i k xs within is =
-    sym (take-append-drop i xs) ∙ ap (λ (ys : List ℕ). take i xs ++ ys) (drop_more xs i k within ∙ ap (λ (y : ℕ). y ∷ drop (i + 1) xs) is)
 
 pub no_true : (b : Bool) → IsTrue b → b ≡ false → ⊥
 no_true b t e = grind (arith, t, e)

@@ -4,12 +4,15 @@ ghost use Rattle.cert_log.specs.inner.FirstLine.{BeginsWithHead, BehindWord};
 
 use crate::fields::{field, is_word, take_loss, take_number, take_version};
 
-/// What the first line says.
+/// What the first line says of a certificate.
 #[derive(Clone, Copy)]
 pub struct Head {
+    /// 1 or 2.
     pub version: u32,
+    /// In mm², as the bound.
     pub loss: Option<u64>,
     pub bound: Option<u64>,
+    /// The number of open nodes.
     pub left: u64,
 }
 

@@ -17,12 +17,8 @@ fn split_in(text: &[u8]) -> Option<TextLine>
 {
     let (step, letter) = take_number(text, b';')?;
     let var = variable(letter)?;
-    if step < 800 {
-        let step = step as u32;
-        Some(TextLine::Split { step, var })
-    } else {
-        None
-    }
+    let step = u32::try_from(step).ok()?;
+    Some(TextLine::Split { step, var })
 }
 
 /// The closed node whose cause a text says behind `C;`.

@@ -7,6 +7,9 @@ ghost use Rattle.cert_log.specs.inner.LineForms.{ComesIn, said};
 use crate::history::Cause;
 use plan_box::Var;
 
+/// A trace has a step for each item, and an instance has at most so many items.
+const STEP_LIMIT: u32 = 800;
+
 /// A line for a node, or for open nodes in a row.
 #[derive(Clone, Copy)]
 pub enum TextLine {
@@ -30,11 +33,9 @@ pub(crate) fn may_come(version: u32, at: Place, line: TextLine) -> bool
     ensures { IsTrue result ↔ MayCome version at (said line) }
 {
     match line {
-        TextLine::Split { step, .. } => step < 800,
-        TextLine::Closed(Cause::Unsaid) => version == 1,
-        TextLine::Closed(Cause::Bound) => version == 2,
-        TextLine::Closed(Cause::Reason(_)) => version == 2,
-        TextLine::Open => version == 1,
+        TextLine::Split { step, .. } => step < STEP_LIMIT,
+        TextLine::Closed(Cause::Unsaid) | TextLine::Open => version == 1,
+        TextLine::Closed(Cause::Bound | Cause::Reason(_)) => version == 2,
         TextLine::Opens(count) => {
             version == 2 && 0 < count && count <= at.places && !at.after_open
         }
@@ -54,11 +55,7 @@ pub(crate) fn place_behind(at: Place, line: TextLine) -> Place
             places: at.places + 1,
             after_open: false,
         },
-        TextLine::Closed(_) => Place {
-            places: at.places - 1,
-            after_open: false,
-        },
-        TextLine::Open => Place {
+        TextLine::Closed(_) | TextLine::Open => Place {
             places: at.places - 1,
             after_open: false,
         },

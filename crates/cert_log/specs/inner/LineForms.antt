@@ -1,5 +1,5 @@
 -- Which line a text is.
-use Rattle.std.specs.Prelude.{◌≡◌, ℕ, ◌+◌, ◌<◌, List, [], ◌∷◌, ◌++◌, Option, Some, None, Result, Ok, Err}
+use Rattle.std.specs.Prelude.{◌≡◌, ℕ, ◌+◌, ◌^◌, ◌<◌, List, [], ◌∷◌, ◌++◌, Option, Some, None, Result, Ok, Err}
 use Rattle.std.specs.Fmt.{decimal}
 use Rattle.std.proofs.Common.{Bor}
 use Rattle.cert_log.specs.declared.bad_cert.BadCert.{BadCert}
@@ -24,9 +24,9 @@ body (closes cause) = 67 ∷ cause_text cause
 body opens_one = 79 ∷ []
 body (opens n) = 79 ∷ 59 ∷ decimal n
 
--- the line's step is one of 800, and its number fits in 64 bits
+-- the line's step fits in 32 bits, its number of open nodes in 64
 abbrev pub IsFormed : Line → Type 0
-IsFormed (splits step v) = step < 800
+IsFormed (splits step v) = step < 2 ^ 32
 IsFormed (closes cause) = Unit {0}
 IsFormed opens_one = Unit {0}
 IsFormed (opens n) = IsNumber n

@@ -1,6 +1,5 @@
 use Rattle.std.specs.Fmt.{decimal}
-use Rattle.std.proofs.Common.{ℕ, List, ◌++◌, ◌∷◌}
-use Rattle.cert_log.specs.declared.head.Head.{Head}
+use Rattle.std.proofs.Common.{◌++◌, ◌∷◌}
 use Rattle.cert_log.specs.Texts.{loss_text}
 use Rattle.cert_log.proofs.Heads.{behind_version, behind_loss}
 use Rattle.cert_log.proofs.head.read_head.Goals as goal

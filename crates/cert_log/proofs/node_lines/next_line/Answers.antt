@@ -1,4 +1,4 @@
-use Rattle.std.proofs.Common.{◌≡◌, List, ◌∷◌, ◌++◌, refl, subst, rules, Some, None, Err}
+use Rattle.std.proofs.Common.{◌≡◌, ◌∷◌, ◌++◌, refl, subst, rules, Err}
 use Rattle.std.proofs.lemmas.Option.{MatchOption-at_some, MatchOption-at_none}
 use Rattle.cert_log.specs.declared.bad_cert.BadCert.TheVariants as bad
 use Rattle.cert_log.specs.inner.Fields.{Lacks}
