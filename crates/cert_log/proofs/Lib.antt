@@ -13,7 +13,7 @@ pub mod Heads
 pub mod OneText
 pub mod Bodies
 pub mod LineByLine
-pub mod GoesOn
+pub mod OneStop
 pub mod Whole
 pub mod ReadTrees
 pub mod RoundTrip

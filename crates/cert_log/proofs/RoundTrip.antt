@@ -4,7 +4,7 @@ use Rattle.cert_log.specs.ReadAgain.{OneCertificate, RoundTrip}
 use Rattle.cert_log.proofs.OneText.{one_spelling}
 use Rattle.cert_log.proofs.ReadTrees.{read_is_text}
 use Rattle.cert_log.proofs.Whole.{written_is_read}
-use Rattle.cert_log.proofs.GoesOn.{one_reading}
+use Rattle.cert_log.proofs.OneStop.{one_reading}
 
 pub one_certificate : OneCertificate
 one_certificate text c d small w u = one_spelling text c d (read_is_text text c small w) (read_is_text text d small u)

@@ -1,5 +1,5 @@
 -- A text has one reading, and what is written is read again.
-use Rattle.std.specs.Prelude.{◌≡◌, ℕ, ◌<◌, ◌^◌, List, length, Result, Ok, Err}
+use Rattle.std.specs.Prelude.{◌≡◌, ◌≢◌, ℕ, ◌<◌, ◌^◌, List, length, Result, Ok, Err}
 use Rattle.cert_log.specs.declared.certificate.Certificate.{Certificate}
 use Rattle.cert_log.specs.declared.bad_cert.BadCert.{BadCert}
 use Rattle.cert_log.specs.declared.bad_cert.BadCert.TheVariants as bad
@@ -9,6 +9,10 @@ use Rattle.cert_log.specs.Outcomes.{IsReading, IsWhole}
 -- a text that stands for a certificate is refused for want of memory alone
 abbrev pub OneReading : Type 0
 OneReading = (text : List ℕ) (c : Certificate) (b : BadCert) → length text < 2 ^ 63 → IsWhole text c → IsReading text (Err b) → b ≡ bad.Memory
+
+-- a text has one first refusal at the most, beside want of memory
+abbrev pub OneRefusal : Type 0
+OneRefusal = (text : List ℕ) (a b : BadCert) → length text < 2 ^ 63 → a ≢ bad.Memory → b ≢ bad.Memory → IsReading text (Err a) → IsReading text (Err b) → a ≡ b
 
 -- the text of a certificate whose nodes are one whole tree stands for it
 abbrev pub WrittenIsRead : Type 0

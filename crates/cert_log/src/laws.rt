@@ -1,7 +1,7 @@
 //! Laws: one certificate has one spelling, is read again as it was written, and splits at steps of its box. The functions do nothing: their contracts are the laws.
 
 ghost use Rattle.cert_log.specs.Good.{GoodSteps};
-ghost use Rattle.cert_log.specs.ReadAgain.{OneCertificate, OneReading, ReadIsText, RoundTrip, WrittenIsRead};
+ghost use Rattle.cert_log.specs.ReadAgain.{OneCertificate, OneReading, OneRefusal, ReadIsText, RoundTrip, WrittenIsRead};
 ghost use Rattle.cert_log.specs.Readings.{OneSpelling};
 
 /// A text is that of one certificate alone, so what is written is read again as the same certificate.
@@ -12,6 +12,11 @@ pub fn one_spelling()
 /// A text that stands for a certificate is refused for want of memory alone.
 pub fn one_reading()
     ensures { OneReading }
+{}
+
+/// A text has one first refusal at the most, beside want of memory.
+pub fn one_refusal()
+    ensures { OneRefusal }
 {}
 
 /// The text of a certificate whose nodes are one whole tree stands for it.
