@@ -1,4 +1,4 @@
-//! Laws: one certificate has one spelling, is read again as it was written, and splits at steps of its box. The functions do nothing: their contracts are the laws.
+//! Laws: one certificate has one spelling, and splits at steps of its box. The functions do nothing: their contracts are the laws.
 
 ghost use Rattle.cert_log.specs.Good.{GoodSteps};
 ghost use Rattle.cert_log.specs.ReadAgain.{OneCertificate, OneReading, OneRefusal, ReadIsText, RoundTrip, WrittenIsRead};
