@@ -8,7 +8,15 @@ pub mod Indexing
 pub mod Writing
 pub mod Lines
 pub mod Spelling
+pub mod Marks
+pub mod Heads
 pub mod OneText
+pub mod Bodies
+pub mod LineByLine
+pub mod OneStop
+pub mod Whole
+pub mod ReadTrees
+pub mod RoundTrip
 pub mod Identities
 pub mod Totals
 pub mod GoodNodes

@@ -3,6 +3,10 @@ pub mod Good
 pub mod Levels
 pub mod Lawful
 pub mod Texts
+pub mod Values
+pub mod Follow
+pub mod Outcomes
+pub mod ReadAgain
 pub mod Readings
 pub mod Splits
 pub mod inner
