@@ -1,0 +1,5 @@
+pub mod Trees
+pub mod Turns
+pub mod Lines
+pub mod Walking
+pub mod Judging

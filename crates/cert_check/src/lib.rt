@@ -1,0 +1,13 @@
+//! A check of certificates: one walk over the nodes, which keeps the path from the root to the box at hand.
+#![tactic(auto)]
+
+mod checking;
+mod free;
+mod path;
+pub mod reckoner;
+pub mod verdict;
+mod walk;
+
+pub use checking::check_cert;
+pub use reckoner::Reckoner;
+pub use verdict::{Verdict, Why};
