@@ -2,9 +2,12 @@
 #![tactic(auto)]
 
 mod checking;
+mod ends;
 mod free;
 mod path;
+mod placed;
 pub mod reckoner;
+mod steps;
 pub mod verdict;
 mod walk;
 
