@@ -6,3 +6,7 @@ pub mod Judging
 pub mod Draws
 pub mod Sizes
 pub mod Following
+pub mod Settling
+pub mod Extending
+pub mod Filled
+pub mod Levels

@@ -3,3 +3,4 @@ pub mod Walks
 pub mod Knowns
 pub mod Follows
 pub mod Within
+pub mod Facts

@@ -3,7 +3,12 @@
 
 mod checking;
 mod ends;
+mod filling;
 mod free;
+mod gaps;
+mod looks;
+mod meetings;
+mod numbers;
 mod path;
 mod placed;
 pub mod reckoner;

@@ -1,12 +1,15 @@
 -- Decided steps as code keeps them, and what is known of each.
 use Rattle.std.specs.Prelude.{◌≡◌, ◌-◌, List, [], map, take, length, All, None}
+use Rattle.glass_base.specs.Problem.{Problem}
 use Rattle.plan_trace.specs.declared.level.Level.{Level}
 use Rattle.plan_trace.specs.declared.level.Level.TheVariants.{NewPlate}
 use Rattle.plan_trace.specs.Marks.{Place}
-use Rattle.plan_box.specs.Leasts.{Known, Fixed, fixed}
+use Rattle.plan_box.specs.Leasts.{Known, Fixed, fixed, known}
+use Rattle.plan_box.specs.Ranges.{Ranges}
 use Rattle.cert_check.specs.declared.ends.Ends.{Ends}
 use Rattle.cert_check.specs.declared.placed.Placed.{Placed}
 use Rattle.cert_check.specs.declared.steps.Decided.{Decided}
+use Rattle.cert_check.specs.inner.Within.{AreWithin}
 
 -- the place of a step
 abbrev pub place_in : Placed → Place
@@ -48,6 +51,11 @@ known_in k = known_of k.place k.ends
 -- the step as definitions have it
 abbrev pub fixed_of : Decided → Fixed
 fixed_of k = fixed k.level (known_in k)
+
+-- the decided steps of a box, with what is known of each; none of their numbers is large
+pub record AreKnown (b : Problem) (rs : List Ranges) (steps : List Decided) : Type 0 where
+  pub values : map fixed_of steps ≡ known b rs
+  pub within : All (λ k. AreWithin 40000000 (known_in k)) steps
 
 -- what some steps begin
 abbrev pub levels_in : List Decided → List Level
