@@ -10,3 +10,4 @@ pub mod Settling
 pub mod Extending
 pub mod Filled
 pub mod Levels
+pub mod Lengths

@@ -1,6 +1,7 @@
 //! A check of certificates: one walk over the nodes, which keeps the path from the root to the box at hand.
 #![tactic(auto)]
 
+mod bounding;
 mod checking;
 mod ends;
 mod filling;
