@@ -11,3 +11,5 @@ pub mod Extending
 pub mod Filled
 pub mod Levels
 pub mod Lengths
+pub mod Somes
+pub mod Points

@@ -1,6 +1,6 @@
 -- A fact at some of the decided steps, step by step.
-use Rattle.std.proofs.Common.{◌≡◌, ℕ, zero, suc, ◌+◌, ◌<◌, ◌≤◌, ◌⊎◌, ◌↔◌, inl, inr, Bool, true, false, IsTrue, List, [], ◌∷◌, length, map, drop, get_or, refl, ap, sym, ◌∙◌, subst, arith, ◌==◌}
-use Rattle.std.proofs.lemmas.List.{drop_more, length-map}
+use Rattle.std.proofs.Common.{◌≡◌, ℕ, zero, suc, ◌+◌, ◌-◌, ◌<◌, ◌≤◌, ◌⊎◌, ◌↔◌, inl, inr, Bool, true, false, IsTrue, List, [], ◌∷◌, length, map, drop, take, get_or, refl, ap, sym, ◌∙◌, subst, arith, ◌==◌}
+use Rattle.std.proofs.lemmas.List.{drop_more, length-drop, length-map, take_all}
 use Rattle.glass_base.specs.Problem.{Problem}
 use Rattle.plan_trace.specs.declared.level.Level.{Level}
 use Rattle.plan_box.specs.declared.packed.Packed.{Packed}
@@ -47,6 +47,10 @@ module _ (R : Reasoning) (m : Level) (j : Known) (steps : List Decided) (i : ℕ
       | inr later ↦ later
     ]),
   )
+
+-- the steps behind one
+pub rest_is : (steps : List Decided) (n : ℕ) → take (length steps - n) (drop n steps) ≡ drop n steps
+rest_is steps n = take_all (length steps - n) (drop n steps) (omega (arith, length-drop n steps))
 
 -- no step is left
 pub some_none : (R : Reasoning) (m : Level) (j : Known) (steps : List Decided) (i : ℕ) → length steps ≤ i → ¬ SomeFixed R m j (map fixed_of (drop i steps))

@@ -6,7 +6,6 @@ ghost use Rattle.cert_log.specs.Trees.{IsTree};
 ghost use Rattle.cert_check.specs.Faults.{Answers};
 ghost use Rattle.cert_check.specs.inner.Walks.{Closes};
 
-use crate::reckoner::Reckoner;
 use crate::verdict::{Verdict, Why};
 use crate::walk::{Tally, Walked, walk};
 use cert_log::Certificate;
@@ -37,8 +36,7 @@ fn judge_counts(cert: &Certificate, tally: Tally) -> Verdict
 }
 
 /// Whether a certificate is right for the root box, where this is the loss of the best plan that is known.
-pub fn check_cert<R: Reckoner>(
-    reckoner: &R,
+pub fn check_cert(
     alloc: Global,
     instance: &Instance,
     map: &DefectMap,
@@ -56,7 +54,7 @@ pub fn check_cert<R: Reckoner>(
             why: Why::WrongLoss(cert.loss, loss),
         });
     }
-    match walk(alloc, reckoner, instance, map, loss, cert)? {
+    match walk(alloc, instance, map, loss, cert)? {
         Walked::Fault(line, why) => Ok(Verdict::Refuse { line, why }),
         Walked::Whole(tally) => Ok(judge_counts(cert, tally)),
     }

@@ -12,11 +12,11 @@ mod meetings;
 mod numbers;
 mod path;
 mod placed;
-pub mod reckoner;
+mod refuting;
+mod scratch;
 mod steps;
 pub mod verdict;
 mod walk;
 
 pub use checking::check_cert;
-pub use reckoner::Reckoner;
 pub use verdict::{Verdict, Why};

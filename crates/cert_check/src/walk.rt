@@ -1,22 +1,27 @@
 //! A walk over the nodes of a certificate.
 
-ghost use Rattle.std.specs.Prelude.{◌≡◌, ◌≢◌, ◌<◌, ◌≤◌, ◌+◌, ◌-◌, ◌^◌, ◌⊎◌, [], ◌↔◌, length, map, IfOk, OnOk, IsTrue, MatchOption};
+ghost use Rattle.std.specs.Prelude.{◌≡◌, ◌≢◌, ◌<◌, ◌≤◌, ◌+◌, ◌-◌, ◌^◌, ◌⊎◌, [], ◌↔◌, length, map, IfOk, OnOk, IsTrue, MatchBool, MatchOption};
 ghost use Rattle.plan_box.specs.Packed.{unpacked};
 ghost use Rattle.cert_check.specs.inner.Paths.{AreStored};
 ghost use Rattle.plan_box.specs.Frames.{frame_of};
 ghost use Rattle.plan_box.specs.Packed.{all_ranges};
 ghost use Rattle.cert_log.specs.Good.{Reaches, MayClose, lesser};
-ghost use Rattle.plan_box.specs.Reasons.{reason_number as number_of};
+ghost use Rattle.cert_log.specs.declared.history.Cause.{Cause as CauseOf};
+ghost use Rattle.plan_box.specs.Bounds.{bound as bound_of};
+ghost use Rattle.plan_box.specs.Reasons.{IsFirstReason, IsRefuted, reason_number as number_of};
 ghost use Rattle.cert_log.specs.Trees.{IsTree};
+ghost use Rattle.cert_check.specs.inner.Knowns.{HasRoom};
 ghost use Rattle.cert_check.specs.inner.Paths.{top, below};
 ghost use Rattle.cert_check.specs.Visits.{NodePasses};
 ghost use Rattle.cert_check.specs.inner.Walks.{boxes_after};
 ghost use Rattle.cert_check.specs.Faults.{NodeFails, FailsToClose};
 ghost use Rattle.cert_check.specs.inner.Walks.{MayGo, Counts, Finds};
 
+use crate::bounding::bound;
 use crate::free::is_free_at;
 use crate::path::Path;
-use crate::reckoner::Reckoner;
+use crate::refuting::first_reason;
+use crate::scratch::Scratch;
 use crate::verdict::Why;
 use cert_log::{Cause, Certificate, Node};
 use defect_map::DefectMap;
@@ -104,70 +109,134 @@ fn with_bound(loss: Option<u64>, bound: u64) -> Option<u64>
     }
 }
 
+/// Why a box may not be closed for this reason, if it may not.
+fn judge_reason(
+    instance: &Instance,
+    defects: &DefectMap,
+    loss: Option<u64>,
+    reason: Reason,
+    ranges: &[Packed],
+    scratch: &mut Scratch,
+) -> Option<Why>
+    requires defects { defects.now ≡ instance.now.defects }
+    requires stored { AreStored (frame_of instance.now) ranges.now }
+    requires each_step { length ranges.now ≡ length instance.now.items }
+    requires room { HasRoom (length instance.now.items) scratch.old }
+    ensures judged { MatchOption result (IsFirstReason instance.now (map unpacked ranges.now) reason) (FailsToClose instance.now loss (map unpacked ranges.now) (CauseOf.Reason reason)) }
+    ensures room { HasRoom (length instance.now.items) scratch.new }
+{
+    let _loss = loss;
+    let said = reason_number(reason);
+    match first_reason(
+        instance,
+        defects,
+        ranges,
+        &mut scratch.steps,
+        &mut scratch.numbers,
+    ) {
+        Some(first) => {
+            let found = reason_number(first);
+            if said == found {
+                None
+            } else {
+                Some(Why::WrongCause(said, found))
+            }
+        }
+        None => Some(Why::WrongCause(said, 0)),
+    }
+}
+
+/// Why a box may not be closed by its bound, if it may not.
+fn judge_bound(
+    instance: &Instance,
+    loss: Option<u64>,
+    ranges: &[Packed],
+    scratch: &mut Scratch,
+) -> Option<Why>
+    requires stored { AreStored (frame_of instance.now) ranges.now }
+    requires each_step { length ranges.now ≡ length instance.now.items }
+    requires room { HasRoom (length instance.now.items) scratch.old }
+    ensures judged { MatchOption result (Reaches loss (bound_of instance.now (map unpacked ranges.now))) (FailsToClose instance.now loss (map unpacked ranges.now) CauseOf.Bound) }
+    ensures room { HasRoom (length instance.now.items) scratch.new }
+{
+    let bound = bound(instance, ranges, &mut scratch.steps);
+    if reaches(loss, bound) {
+        None
+    } else {
+        Some(Why::NotClosed(bound, loss))
+    }
+}
+
+/// Whether some reason applies to a box.
+fn is_refuted(
+    instance: &Instance,
+    defects: &DefectMap,
+    ranges: &[Packed],
+    scratch: &mut Scratch,
+) -> bool
+    requires defects { defects.now ≡ instance.now.defects }
+    requires stored { AreStored (frame_of instance.now) ranges.now }
+    requires each_step { length ranges.now ≡ length instance.now.items }
+    requires room { HasRoom (length instance.now.items) scratch.old }
+    ensures refuted { MatchBool result (IsRefuted instance.now (map unpacked ranges.now)) (¬ IsRefuted instance.now (map unpacked ranges.now)) }
+    ensures room { HasRoom (length instance.now.items) scratch.new }
+{
+    let first = first_reason(
+        instance,
+        defects,
+        ranges,
+        &mut scratch.steps,
+        &mut scratch.numbers,
+    );
+    match first {
+        Some(_) => true,
+        None => false,
+    }
+}
+
 /// Why a box may not be closed for this cause, if it may not.
-fn judge_cause<R: Reckoner>(
-    reckoner: &R,
+fn judge_cause(
     instance: &Instance,
     defects: &DefectMap,
     loss: Option<u64>,
     cause: Cause,
     ranges: &[Packed],
+    scratch: &mut Scratch,
 ) -> Option<Why>
     requires defects { defects.now ≡ instance.now.defects }
     requires stored { AreStored (frame_of instance.now) ranges.now }
     requires each_step { length ranges.now ≡ length instance.now.items }
-    ensures { MatchOption result (MayClose instance.now loss (map unpacked ranges.now) cause) (FailsToClose instance.now loss (map unpacked ranges.now) cause) }
+    requires room { HasRoom (length instance.now.items) scratch.old }
+    ensures judged { MatchOption result (MayClose instance.now loss (map unpacked ranges.now) cause) (FailsToClose instance.now loss (map unpacked ranges.now) cause) }
+    ensures room { HasRoom (length instance.now.items) scratch.new }
 {
     match cause {
-        Cause::Reason(reason) => {
-            let said = reason_number(reason);
-            match reckoner.refuted(instance, defects, ranges) {
-                Some(first) => {
-                    let found = reason_number(first);
-                    if said == found {
-                        None
-                    } else {
-                        Some(Why::WrongCause(said, found))
-                    }
-                }
-                None => Some(Why::WrongCause(said, 0)),
-            }
-        }
-        Cause::Bound => {
-            let bound = reckoner.bound(instance, ranges);
-            if reaches(loss, bound) {
-                None
-            } else {
-                Some(Why::NotClosed(bound, loss))
-            }
-        }
+        Cause::Reason(reason) => judge_reason(instance, defects, loss, reason, ranges, scratch),
+        Cause::Bound => judge_bound(instance, loss, ranges, scratch),
         Cause::Unsaid => {
-            if let Some(_) = reckoner.refuted(instance, defects, ranges) {
+            if is_refuted(instance, defects, ranges, scratch) {
                 return None;
             }
-            let bound = reckoner.bound(instance, ranges);
-            if reaches(loss, bound) {
-                None
-            } else {
-                Some(Why::NotClosed(bound, loss))
-            }
+            judge_bound(instance, loss, ranges, scratch)
         }
     }
 }
 
 /// Why a node may not stand at the box at hand, if it may not.
-fn judge<R: Reckoner>(
-    reckoner: &R,
+fn judge(
     instance: &Instance,
     defects: &DefectMap,
     loss: Option<u64>,
     node: Node,
     path: &Path,
+    scratch: &mut Scratch,
 ) -> Option<Why>
     requires defects { defects.now ≡ instance.now.defects }
     requires frame { path.now.frame ≡ frame_of instance.now }
     requires waits { path.now.boxes ≢ [] }
-    ensures { MatchOption result (NodePasses instance.now loss (top path.now.boxes) node) (NodeFails instance.now loss (top path.now.boxes) node) }
+    requires room { HasRoom (length instance.now.items) scratch.old }
+    ensures judged { MatchOption result (NodePasses instance.now loss (top path.now.boxes) node) (NodeFails instance.now loss (top path.now.boxes) node) }
+    ensures room { HasRoom (length instance.now.items) scratch.new }
 {
     let ranges = path.stored();
     match node {
@@ -178,32 +247,34 @@ fn judge<R: Reckoner>(
                 Some(Why::Split(step, var))
             }
         }
-        Node::Closed(cause) => judge_cause(reckoner, instance, defects, loss, cause, ranges),
+        Node::Closed(cause) => judge_cause(instance, defects, loss, cause, ranges, scratch),
         Node::Left => None,
     }
 }
 
 /// Goes on behind a node that may stand at the box at hand.
-fn go<R: Reckoner>(
-    reckoner: &R,
+fn go(
     instance: &Instance,
     node: Node,
     path: &mut Path,
     tally: &mut Tally,
+    scratch: &mut Scratch,
 ) -> Result<(), Memory>
     requires frame { path.old.frame ≡ frame_of instance.now }
     requires waits { path.old.boxes ≢ [] }
     requires passes { MayGo (top path.old.boxes) node }
-    requires room { tally.old.left < 2 ^ 64 - 1 }
+    requires few { tally.old.left < 2 ^ 64 - 1 }
+    requires room { HasRoom (length instance.now.items) scratch.old }
     ensures frame { path.new.frame ≡ path.old.frame }
     ensures boxes { OnOk result (path.new.boxes ≡ boxes_after node (top path.old.boxes) (below path.old.boxes)) }
     ensures counts { OnOk result (Counts instance.now node (top path.old.boxes) tally.old tally.new) }
+    ensures room { HasRoom (length instance.now.items) scratch.new }
 {
     match node {
         Node::Split { step, var } => path.split(step, var),
         Node::Closed(_) => path.leave(),
         Node::Left => {
-            let bound = reckoner.bound(instance, path.stored());
+            let bound = bound(instance, path.stored(), &mut scratch.steps);
             tally.least = with_bound(tally.least, bound);
             tally.left += 1;
             path.leave()
@@ -212,9 +283,8 @@ fn go<R: Reckoner>(
 }
 
 /// Walks over the nodes of a certificate, up to the first that may not stand at its box.
-pub(crate) fn walk<R: Reckoner>(
+pub(crate) fn walk(
     alloc: Global,
-    reckoner: &R,
     instance: &Instance,
     defects: &DefectMap,
     loss: Option<u64>,
@@ -225,6 +295,7 @@ pub(crate) fn walk<R: Reckoner>(
     ensures { IfOk result (Finds instance.now (all_ranges (frame_of instance.now) []) loss cert.now) }
 {
     let mut path = Path::new(alloc, instance)?;
+    let mut scratch = Scratch::new(alloc, instance.items().len())?;
     let mut place = Place {
         line: 1,
         after_open: false,
@@ -235,10 +306,10 @@ pub(crate) fn walk<R: Reckoner>(
     };
     for node in cert.nodes.as_slice() {
         place.read(cert.version, *node);
-        if let Some(why) = judge(reckoner, instance, defects, loss, *node, &path) {
+        if let Some(why) = judge(instance, defects, loss, *node, &path, &mut scratch) {
             return Ok(Walked::Fault(place.line, why));
         }
-        go(reckoner, instance, *node, &mut path, &mut tally)?;
+        go(instance, *node, &mut path, &mut tally, &mut scratch)?;
     }
     Ok(Walked::Whole(tally))
 }

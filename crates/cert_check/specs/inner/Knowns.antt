@@ -1,5 +1,5 @@
 -- Decided steps as code keeps them, and what is known of each.
-use Rattle.std.specs.Prelude.{◌≡◌, ◌-◌, List, [], map, take, length, All, None}
+use Rattle.std.specs.Prelude.{◌≡◌, ℕ, ◌-◌, List, [], map, take, length, All, None}
 use Rattle.glass_base.specs.Problem.{Problem}
 use Rattle.plan_trace.specs.declared.level.Level.{Level}
 use Rattle.plan_trace.specs.declared.level.Level.TheVariants.{NewPlate}
@@ -8,6 +8,7 @@ use Rattle.plan_box.specs.Leasts.{Known, Fixed, fixed, known}
 use Rattle.plan_box.specs.Ranges.{Ranges}
 use Rattle.cert_check.specs.declared.ends.Ends.{Ends}
 use Rattle.cert_check.specs.declared.placed.Placed.{Placed}
+use Rattle.cert_check.specs.declared.scratch.Scratch.{Scratch}
 use Rattle.cert_check.specs.declared.steps.Decided.{Decided}
 use Rattle.cert_check.specs.inner.Within.{AreWithin}
 
@@ -56,6 +57,11 @@ fixed_of k = fixed k.level (known_in k)
 pub record AreKnown (b : Problem) (rs : List Ranges) (steps : List Decided) : Type 0 where
   pub values : map fixed_of steps ≡ known b rs
   pub within : All (λ k. AreWithin 40000000 (known_in k)) steps
+
+-- the lists have a place for each of so many items
+pub record HasRoom (items : ℕ) (s : Scratch) : Type 0 where
+  pub steps : length s.steps.items ≡ items
+  pub numbers : length s.numbers.items ≡ items
 
 -- what some steps begin
 abbrev pub levels_in : List Decided → List Level
