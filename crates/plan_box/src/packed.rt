@@ -57,7 +57,7 @@ impl Packed {
     }
 
     /// Whether the ranges of stack, turn, kind and lift are single numbers.
-    pub(crate) fn is_drawn(&self) -> bool
+    pub fn is_drawn(&self) -> bool
         ensures { result ≡ is_drawn_of (unpacked self.now) }
     {
         let stack = self.range(Var::Stack);
@@ -68,7 +68,7 @@ impl Packed {
     }
 
     /// These ranges with that of one variable replaced.
-    pub(crate) fn with(self, var: Var, low: u32, high: u32) -> Packed
+    pub fn with(self, var: Var, low: u32, high: u32) -> Packed
         requires order { low ≤ high }
         requires limit { high ≤ limit_of var }
         ensures { unpacked result ≡ with_span var (record { low = low; high = high }) (unpacked self) }

@@ -29,7 +29,7 @@ impl Var {
     ghost use Rattle.plan_box.specs.inner.Openings.{level_at};
 
     /// Whether it is one of the numbers that are known of every decided step.
-    pub(crate) fn is_discrete(self) -> bool
+    pub fn is_discrete(self) -> bool
         ensures { result ≡ is_discrete_var self }
     {
         match self {
@@ -46,7 +46,7 @@ impl Var {
     }
 
     /// Whether a decided step of this kind opens it. The first step begins a plate whatever its kind.
-    pub(crate) fn is_opened(self, step: u32, kind: u32) -> bool
+    pub fn is_opened(self, step: u32, kind: u32) -> bool
         ensures { result ≡ opens (level_at step kind) self }
     {
         let level = if step == 0 { 0 } else { kind };

@@ -1,0 +1,15 @@
+pub mod Trees
+pub mod Turns
+pub mod Lines
+pub mod Walking
+pub mod Judging
+pub mod Draws
+pub mod Sizes
+pub mod Following
+pub mod Settling
+pub mod Extending
+pub mod Filled
+pub mod Levels
+pub mod Lengths
+pub mod Somes
+pub mod Points

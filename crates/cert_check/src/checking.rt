@@ -1,0 +1,61 @@
+//! The check of a certificate.
+ghost use Rattle.std.specs.Prelude.{◌≡◌, ◌⊎◌, [], IfOk};
+ghost use Rattle.plan_box.specs.Frames.{frame_of};
+ghost use Rattle.plan_box.specs.Packed.{all_ranges};
+ghost use Rattle.cert_log.specs.Trees.{IsTree};
+ghost use Rattle.cert_check.specs.Faults.{Answers};
+ghost use Rattle.cert_check.specs.inner.Walks.{Closes};
+
+use crate::verdict::{Verdict, Why};
+use crate::walk::{Tally, Walked, walk};
+use cert_log::Certificate;
+use defect_map::DefectMap;
+use glass_base::{Instance, Memory};
+use std::alloc::Global;
+
+/// The answer where each node may stand at its box: the said number of open nodes is tested, then the said bound.
+fn judge_counts(cert: &Certificate, tally: Tally) -> Verdict
+    ensures { Closes cert.now tally result }
+{
+    if cert.left != tally.left {
+        return Verdict::Refuse {
+            line: 1,
+            why: Why::WrongOpen(cert.left, tally.left),
+        };
+    }
+    if cert.bound != tally.least {
+        return Verdict::Refuse {
+            line: 1,
+            why: Why::WrongBound(cert.bound, tally.least),
+        };
+    }
+    Verdict::Accept {
+        bound: cert.bound,
+        left: cert.left,
+    }
+}
+
+/// Whether a certificate is right for the root box, where this is the loss of the best plan that is known.
+pub fn check_cert(
+    alloc: Global,
+    instance: &Instance,
+    map: &DefectMap,
+    loss: Option<u64>,
+    cert: &Certificate,
+) -> Result<Verdict, Memory>
+    requires map { map.now ≡ instance.now.defects }
+    requires tree { IsTree cert.now.nodes.items }
+    requires version { (cert.now.version ≡ 1) ⊎ (cert.now.version ≡ 2) }
+    ensures { IfOk result (Answers instance.now (all_ranges (frame_of instance.now) []) loss cert.now) }
+{
+    if cert.loss != loss {
+        return Ok(Verdict::Refuse {
+            line: 1,
+            why: Why::WrongLoss(cert.loss, loss),
+        });
+    }
+    match walk(alloc, instance, map, loss, cert)? {
+        Walked::Fault(line, why) => Ok(Verdict::Refuse { line, why }),
+        Walked::Whole(tally) => Ok(judge_counts(cert, tally)),
+    }
+}

@@ -1,0 +1,22 @@
+//! A check of certificates: one walk over the nodes, which keeps the path from the root to the box at hand.
+#![tactic(auto)]
+
+mod bounding;
+mod checking;
+mod ends;
+mod filling;
+mod free;
+mod gaps;
+mod looks;
+mod meetings;
+mod numbers;
+mod path;
+mod placed;
+mod refuting;
+mod scratch;
+mod steps;
+pub mod verdict;
+mod walk;
+
+pub use checking::check_cert;
+pub use verdict::{Verdict, Why};

@@ -1,0 +1,245 @@
+//! The first reason for which no plan of a box is lawful.
+
+ghost use Rattle.std.specs.Prelude.{◌≡◌, ◌<◌, ◌≤◌, ◌↔◌, ◌^◌, All, IsTrue, MatchBool, MatchOption, length, map, take};
+ghost use Rattle.glass_base.specs.Plates.{Before};
+ghost use Rattle.plan_trace.specs.TraceRules.{Meets};
+ghost use Rattle.plan_trace.specs.declared.level.Level.TheVariants.{NewPlate};
+ghost use Rattle.plan_box.specs.Decisions.{all_decided};
+ghost use Rattle.plan_box.specs.Frames.{frame_of};
+ghost use Rattle.plan_box.specs.Leasts.{least_step as least_step_of, no_known};
+ghost use Rattle.plan_box.specs.Packed.{unpacked};
+ghost use Rattle.plan_box.specs.Reasons.{AtSome, IsFirstReason, IsRefuted, R1, R7, SomeFixed};
+ghost use Rattle.cert_check.specs.inner.Facts.{FactOf};
+ghost use Rattle.cert_check.specs.inner.Knowns.{AreKnown, fixed_of, known_in, levels_in};
+ghost use Rattle.cert_check.specs.inner.Paths.{AreStored};
+ghost use Rattle.cert_check.specs.inner.Within.{AreWithin};
+
+use crate::bounding::least_length;
+use crate::filling::fill;
+use crate::free::is_point;
+use crate::gaps::has_narrow_gap;
+use crate::meetings::{cut_met, item_met};
+use crate::numbers::{breaks_a_rule, has_no_place, is_too_wide};
+use crate::steps::Decided;
+use cut_model::Step;
+use defect_map::DefectMap;
+use glass_base::{Instance, Run};
+use plan_box::{Packed, Reason};
+use plan_trace::first_broken;
+
+/// Whether a reason is a fact at a decided step; `last` is the step before it, and `whole` holds where all steps are decided.
+fn is_fact_at(
+    instance: &Instance,
+    defects: &DefectMap,
+    whole: bool,
+    reason: Reason,
+    last: &Decided,
+    here: &Decided,
+    later: &[Decided],
+) -> bool
+    requires defects { defects.now ≡ instance.now.defects }
+    requires within { AreWithin 40000000 (known_in here.now) }
+    ensures { IsTrue result ↔ FactOf instance.now whole reason last.now.level (known_in last.now) here.now.level (known_in here.now) (levels_in later.now) }
+{
+    let params = instance.params();
+    match reason {
+        Reason::R1 => has_no_place(last, here),
+        Reason::R2 => has_narrow_gap(instance, whole, last, here, later),
+        Reason::R3 => item_met(defects, here),
+        Reason::R4 => cut_met(instance, defects, last, here),
+        Reason::R5 => is_too_wide(params, last, here),
+        Reason::R6 => breaks_a_rule(params, last, here),
+        Reason::R7 => false,
+    }
+}
+
+/// Whether a reason is a fact at one of these decided steps.
+fn is_fact_at_some(
+    instance: &Instance,
+    defects: &DefectMap,
+    whole: bool,
+    reason: Reason,
+    steps: &[Decided],
+) -> bool
+    requires defects { defects.now ≡ instance.now.defects }
+    requires within { All (λ k. AreWithin 40000000 (known_in k)) steps.now }
+    ensures { IsTrue result ↔ SomeFixed (FactOf instance.now whole reason) NewPlate no_known (map fixed_of steps.now) }
+{
+    let mut last = Decided::none();
+    for (i, here) in steps.iter().enumerate() {
+        if is_fact_at(
+            instance,
+            defects,
+            whole,
+            reason,
+            &last,
+            here,
+            &steps[i + 1..],
+        ) {
+            return true;
+        }
+        last = *here;
+    }
+    false
+}
+
+/// The same of the box of these ranges, of which these are the decided steps.
+fn is_fact(
+    instance: &Instance,
+    defects: &DefectMap,
+    ranges: &[Packed],
+    steps: &[Decided],
+    reason: Reason,
+) -> bool
+    requires defects { defects.now ≡ instance.now.defects }
+    requires known { AreKnown instance.now (map unpacked ranges.now) steps.now }
+    ensures { let rs = map unpacked ranges.now in IsTrue result ↔ AtSome (FactOf instance.now (all_decided rs) reason) instance.now rs }
+{
+    let whole = steps.len() == ranges.len();
+    is_fact_at_some(instance, defects, whole, reason, steps)
+}
+
+/// Whether a cut can lie nowhere, or more glass is needed than there is.
+fn is_impossible(
+    instance: &Instance,
+    defects: &DefectMap,
+    ranges: &[Packed],
+    steps: &[Decided],
+) -> bool
+    requires defects { defects.now ≡ instance.now.defects }
+    requires known { AreKnown instance.now (map unpacked ranges.now) steps.now }
+    ensures { IsTrue result ↔ R1 instance.now (map unpacked ranges.now) }
+{
+    is_fact(instance, defects, ranges, steps, Reason::R1)
+        || instance.before(instance.params().plates) < least_length(instance, ranges, steps)
+}
+
+/// The step that a decided step stands for at its least values.
+pub fn least_step(decided: &Decided) -> Step
+    ensures { result ≡ least_step_of (known_in decided.now) }
+{
+    let place = &decided.place;
+    let ends = &decided.ends;
+    Step {
+        stack: place.stack,
+        turn: place.turn,
+        kind: place.kind,
+        lift: place.lift,
+        a: ends.least_a,
+        b: ends.least_b,
+        c: ends.least_c,
+        d: ends.least_d,
+        e: ends.least_e,
+    }
+}
+
+/// Writes the steps that these decided steps stand for at their least values.
+fn write(steps: &[Decided], numbers: &mut Run<Step>)
+    requires { length steps.now ≤ length numbers.old.items }
+    ensures many { length numbers.new.items ≡ length numbers.old.items }
+    ensures written { take (length steps.now) numbers.new.items ≡ map (λ k. least_step_of (known_in k)) steps.now }
+{
+    for (i, step) in steps.iter().enumerate() {
+        numbers.set(i, least_step(step));
+    }
+}
+
+/// Whether these steps break a rule of traces.
+fn breaks(instance: &Instance, defects: &DefectMap, steps: &[Step]) -> bool
+    requires few { length steps.now < 2 ^ 32 }
+    requires defects { defects.now ≡ instance.now.defects }
+    ensures { MatchBool result (¬ Meets instance.now steps.now) (Meets instance.now steps.now) }
+{
+    first_broken(instance, defects, steps).is_some()
+}
+
+/// Whether the box is a point whose numbers break a rule. They are its least values, where each cut has a place.
+fn is_broken_point(
+    instance: &Instance,
+    defects: &DefectMap,
+    ranges: &[Packed],
+    steps: &[Decided],
+    numbers: &mut Run<Step>,
+) -> bool
+    requires defects { defects.now ≡ instance.now.defects }
+    requires known { AreKnown instance.now (map unpacked ranges.now) steps.now }
+    requires inside { length steps.now ≤ length ranges.now }
+    requires room { length ranges.now ≤ length numbers.old.items }
+    requires few { length ranges.now ≤ 800 }
+    requires possible { ¬ R1 instance.now (map unpacked ranges.now) }
+    ensures broken { IsTrue result ↔ R7 instance.now (map unpacked ranges.now) }
+    ensures room { length numbers.new.items ≡ length numbers.old.items }
+{
+    if !is_point(ranges) {
+        return false;
+    }
+    write(steps, numbers);
+    breaks(instance, defects, &numbers.as_slice()[..steps.len()])
+}
+
+/// The first reason that applies to the box of these ranges, of which these are the decided steps, if one does.
+fn first_of(
+    instance: &Instance,
+    defects: &DefectMap,
+    ranges: &[Packed],
+    steps: &[Decided],
+    numbers: &mut Run<Step>,
+) -> Option<Reason>
+    requires defects { defects.now ≡ instance.now.defects }
+    requires known { AreKnown instance.now (map unpacked ranges.now) steps.now }
+    requires inside { length steps.now ≤ length ranges.now }
+    requires room { length ranges.now ≤ length numbers.old.items }
+    requires few { length ranges.now ≤ 800 }
+    ensures first { MatchOption result (¬ IsRefuted instance.now (map unpacked ranges.now)) (λ r. IsFirstReason instance.now (map unpacked ranges.now) r) }
+    ensures room { length numbers.new.items ≡ length numbers.old.items }
+{
+    if is_impossible(instance, defects, ranges, steps) {
+        return Some(Reason::R1);
+    }
+    if is_fact(instance, defects, ranges, steps, Reason::R2) {
+        return Some(Reason::R2);
+    }
+    if is_fact(instance, defects, ranges, steps, Reason::R3) {
+        return Some(Reason::R3);
+    }
+    if is_fact(instance, defects, ranges, steps, Reason::R4) {
+        return Some(Reason::R4);
+    }
+    if is_fact(instance, defects, ranges, steps, Reason::R5) {
+        return Some(Reason::R5);
+    }
+    if is_fact(instance, defects, ranges, steps, Reason::R6) {
+        return Some(Reason::R6);
+    }
+    if is_broken_point(instance, defects, ranges, steps, numbers) {
+        return Some(Reason::R7);
+    }
+    None
+}
+
+/// The first reason that applies to the box of these ranges, if one does. The decided steps are written over `steps`, and the numbers
+/// of a point over `numbers`.
+pub fn first_reason(
+    instance: &Instance,
+    defects: &DefectMap,
+    ranges: &[Packed],
+    steps: &mut Run<Decided>,
+    numbers: &mut Run<Step>,
+) -> Option<Reason>
+    requires defects { defects.now ≡ instance.now.defects }
+    requires stored { AreStored (frame_of instance.now) ranges.now }
+    requires steps { length ranges.now ≤ length steps.old.items }
+    requires numbers { length ranges.now ≤ length numbers.old.items }
+    ensures first { MatchOption result (¬ IsRefuted instance.now (map unpacked ranges.now)) (λ r. IsFirstReason instance.now (map unpacked ranges.now) r) }
+    ensures steps { length steps.new.items ≡ length steps.old.items }
+    ensures numbers { length numbers.new.items ≡ length numbers.old.items }
+{
+    let count = fill(instance, ranges, steps);
+    first_of(
+        instance,
+        defects,
+        ranges,
+        &steps.as_slice()[..count],
+        numbers,
+    )
+}

@@ -1,0 +1,315 @@
+//! A walk over the nodes of a certificate.
+
+ghost use Rattle.std.specs.Prelude.{◌≡◌, ◌≢◌, ◌<◌, ◌≤◌, ◌+◌, ◌-◌, ◌^◌, ◌⊎◌, [], ◌↔◌, length, map, IfOk, OnOk, IsTrue, MatchBool, MatchOption};
+ghost use Rattle.plan_box.specs.Packed.{unpacked};
+ghost use Rattle.cert_check.specs.inner.Paths.{AreStored};
+ghost use Rattle.plan_box.specs.Frames.{frame_of};
+ghost use Rattle.plan_box.specs.Packed.{all_ranges};
+ghost use Rattle.cert_log.specs.Good.{Reaches, MayClose, lesser};
+ghost use Rattle.cert_log.specs.declared.history.Cause.{Cause as CauseOf};
+ghost use Rattle.plan_box.specs.Bounds.{bound as bound_of};
+ghost use Rattle.plan_box.specs.Reasons.{IsFirstReason, IsRefuted, reason_number as number_of};
+ghost use Rattle.cert_log.specs.Trees.{IsTree};
+ghost use Rattle.cert_check.specs.inner.Knowns.{HasRoom};
+ghost use Rattle.cert_check.specs.inner.Paths.{top, below};
+ghost use Rattle.cert_check.specs.Visits.{NodePasses};
+ghost use Rattle.cert_check.specs.inner.Walks.{boxes_after};
+ghost use Rattle.cert_check.specs.Faults.{NodeFails, FailsToClose};
+ghost use Rattle.cert_check.specs.inner.Walks.{MayGo, Counts, Finds};
+
+use crate::bounding::bound;
+use crate::free::is_free_at;
+use crate::path::Path;
+use crate::refuting::first_reason;
+use crate::scratch::Scratch;
+use crate::verdict::Why;
+use cert_log::{Cause, Certificate, Node};
+use defect_map::DefectMap;
+use glass_base::{Instance, Memory};
+use plan_box::{Packed, Reason};
+use std::alloc::Global;
+
+/// Where a walk is in the text.
+#[derive(Clone, Copy, Debug, PartialEq, Eq)]
+pub struct Place {
+    /// The line of the last node.
+    pub line: u64,
+    /// The last node is open.
+    pub after_open: bool,
+}
+
+/// What a walk counts.
+#[derive(Clone, Copy, Debug, PartialEq, Eq)]
+pub struct Tally {
+    /// The least of the loss and of the bounds of the open nodes.
+    pub least: Option<u64>,
+    /// The number of open nodes.
+    pub left: u64,
+}
+
+/// How a walk ends.
+#[derive(Clone, Copy, Debug, PartialEq, Eq)]
+pub enum Walked {
+    /// Each node may stand at its box.
+    Whole(Tally),
+    /// The first node that may not.
+    Fault(u64, Why),
+}
+
+impl Place {
+    ghost use Rattle.std.specs.Prelude.{◌<◌, ◌^◌};
+    ghost use Rattle.cert_check.specs.inner.Walks.{Reads};
+
+    /// Reads one more node. In version 2 open nodes in a row share a line.
+    fn read(&mut self, version: u32, node: Node)
+        requires { self.old.line < 2 ^ 64 - 1 }
+        ensures { Reads version node self.old self.new }
+    {
+        let is_left = matches!(node, Node::Left);
+        let joins = version != 1 && self.after_open && is_left;
+        if !joins {
+            self.line += 1;
+        }
+        self.after_open = is_left;
+    }
+}
+
+/// The number of a reason.
+fn reason_number(reason: Reason) -> u32
+    ensures { result ≡ number_of reason }
+{
+    match reason {
+        Reason::R1 => 1,
+        Reason::R2 => 2,
+        Reason::R3 => 3,
+        Reason::R4 => 4,
+        Reason::R5 => 5,
+        Reason::R6 => 6,
+        Reason::R7 => 7,
+    }
+}
+
+/// Whether a bound is at least the loss; never where there is none.
+fn reaches(loss: Option<u64>, bound: u64) -> bool
+    ensures { IsTrue result ↔ Reaches loss bound }
+{
+    match loss {
+        Some(loss) => loss <= bound,
+        None => false,
+    }
+}
+
+/// The lesser of a loss and a bound.
+fn with_bound(loss: Option<u64>, bound: u64) -> Option<u64>
+    ensures { result ≡ lesser loss bound }
+{
+    match loss {
+        Some(loss) => Some(loss.min(bound)),
+        None => Some(bound),
+    }
+}
+
+/// Why a box may not be closed for this reason, if it may not.
+fn judge_reason(
+    instance: &Instance,
+    defects: &DefectMap,
+    loss: Option<u64>,
+    reason: Reason,
+    ranges: &[Packed],
+    scratch: &mut Scratch,
+) -> Option<Why>
+    requires defects { defects.now ≡ instance.now.defects }
+    requires stored { AreStored (frame_of instance.now) ranges.now }
+    requires each_step { length ranges.now ≡ length instance.now.items }
+    requires room { HasRoom (length instance.now.items) scratch.old }
+    ensures judged { MatchOption result (IsFirstReason instance.now (map unpacked ranges.now) reason) (FailsToClose instance.now loss (map unpacked ranges.now) (CauseOf.Reason reason)) }
+    ensures room { HasRoom (length instance.now.items) scratch.new }
+{
+    let _loss = loss;
+    let said = reason_number(reason);
+    match first_reason(
+        instance,
+        defects,
+        ranges,
+        &mut scratch.steps,
+        &mut scratch.numbers,
+    ) {
+        Some(first) => {
+            let found = reason_number(first);
+            if said == found {
+                None
+            } else {
+                Some(Why::WrongCause(said, found))
+            }
+        }
+        None => Some(Why::WrongCause(said, 0)),
+    }
+}
+
+/// Why a box may not be closed by its bound, if it may not.
+fn judge_bound(
+    instance: &Instance,
+    loss: Option<u64>,
+    ranges: &[Packed],
+    scratch: &mut Scratch,
+) -> Option<Why>
+    requires stored { AreStored (frame_of instance.now) ranges.now }
+    requires each_step { length ranges.now ≡ length instance.now.items }
+    requires room { HasRoom (length instance.now.items) scratch.old }
+    ensures judged { MatchOption result (Reaches loss (bound_of instance.now (map unpacked ranges.now))) (FailsToClose instance.now loss (map unpacked ranges.now) CauseOf.Bound) }
+    ensures room { HasRoom (length instance.now.items) scratch.new }
+{
+    let bound = bound(instance, ranges, &mut scratch.steps);
+    if reaches(loss, bound) {
+        None
+    } else {
+        Some(Why::NotClosed(bound, loss))
+    }
+}
+
+/// Whether some reason applies to a box.
+fn is_refuted(
+    instance: &Instance,
+    defects: &DefectMap,
+    ranges: &[Packed],
+    scratch: &mut Scratch,
+) -> bool
+    requires defects { defects.now ≡ instance.now.defects }
+    requires stored { AreStored (frame_of instance.now) ranges.now }
+    requires each_step { length ranges.now ≡ length instance.now.items }
+    requires room { HasRoom (length instance.now.items) scratch.old }
+    ensures refuted { MatchBool result (IsRefuted instance.now (map unpacked ranges.now)) (¬ IsRefuted instance.now (map unpacked ranges.now)) }
+    ensures room { HasRoom (length instance.now.items) scratch.new }
+{
+    let first = first_reason(
+        instance,
+        defects,
+        ranges,
+        &mut scratch.steps,
+        &mut scratch.numbers,
+    );
+    match first {
+        Some(_) => true,
+        None => false,
+    }
+}
+
+/// Why a box may not be closed for this cause, if it may not.
+fn judge_cause(
+    instance: &Instance,
+    defects: &DefectMap,
+    loss: Option<u64>,
+    cause: Cause,
+    ranges: &[Packed],
+    scratch: &mut Scratch,
+) -> Option<Why>
+    requires defects { defects.now ≡ instance.now.defects }
+    requires stored { AreStored (frame_of instance.now) ranges.now }
+    requires each_step { length ranges.now ≡ length instance.now.items }
+    requires room { HasRoom (length instance.now.items) scratch.old }
+    ensures judged { MatchOption result (MayClose instance.now loss (map unpacked ranges.now) cause) (FailsToClose instance.now loss (map unpacked ranges.now) cause) }
+    ensures room { HasRoom (length instance.now.items) scratch.new }
+{
+    match cause {
+        Cause::Reason(reason) => judge_reason(instance, defects, loss, reason, ranges, scratch),
+        Cause::Bound => judge_bound(instance, loss, ranges, scratch),
+        Cause::Unsaid => {
+            if is_refuted(instance, defects, ranges, scratch) {
+                return None;
+            }
+            judge_bound(instance, loss, ranges, scratch)
+        }
+    }
+}
+
+/// Why a node may not stand at the box at hand, if it may not.
+fn judge(
+    instance: &Instance,
+    defects: &DefectMap,
+    loss: Option<u64>,
+    node: Node,
+    path: &Path,
+    scratch: &mut Scratch,
+) -> Option<Why>
+    requires defects { defects.now ≡ instance.now.defects }
+    requires frame { path.now.frame ≡ frame_of instance.now }
+    requires waits { path.now.boxes ≢ [] }
+    requires room { HasRoom (length instance.now.items) scratch.old }
+    ensures judged { MatchOption result (NodePasses instance.now loss (top path.now.boxes) node) (NodeFails instance.now loss (top path.now.boxes) node) }
+    ensures room { HasRoom (length instance.now.items) scratch.new }
+{
+    let ranges = path.stored();
+    match node {
+        Node::Split { step, var } => {
+            if is_free_at(ranges, step, var) {
+                None
+            } else {
+                Some(Why::Split(step, var))
+            }
+        }
+        Node::Closed(cause) => judge_cause(instance, defects, loss, cause, ranges, scratch),
+        Node::Left => None,
+    }
+}
+
+/// Goes on behind a node that may stand at the box at hand.
+fn go(
+    instance: &Instance,
+    node: Node,
+    path: &mut Path,
+    tally: &mut Tally,
+    scratch: &mut Scratch,
+) -> Result<(), Memory>
+    requires frame { path.old.frame ≡ frame_of instance.now }
+    requires waits { path.old.boxes ≢ [] }
+    requires passes { MayGo (top path.old.boxes) node }
+    requires few { tally.old.left < 2 ^ 64 - 1 }
+    requires room { HasRoom (length instance.now.items) scratch.old }
+    ensures frame { path.new.frame ≡ path.old.frame }
+    ensures boxes { OnOk result (path.new.boxes ≡ boxes_after node (top path.old.boxes) (below path.old.boxes)) }
+    ensures counts { OnOk result (Counts instance.now node (top path.old.boxes) tally.old tally.new) }
+    ensures room { HasRoom (length instance.now.items) scratch.new }
+{
+    match node {
+        Node::Split { step, var } => path.split(step, var),
+        Node::Closed(_) => path.leave(),
+        Node::Left => {
+            let bound = bound(instance, path.stored(), &mut scratch.steps);
+            tally.least = with_bound(tally.least, bound);
+            tally.left += 1;
+            path.leave()
+        }
+    }
+}
+
+/// Walks over the nodes of a certificate, up to the first that may not stand at its box.
+pub(crate) fn walk(
+    alloc: Global,
+    instance: &Instance,
+    defects: &DefectMap,
+    loss: Option<u64>,
+    cert: &Certificate,
+) -> Result<Walked, Memory>
+    requires defects { defects.now ≡ instance.now.defects }
+    requires tree { IsTree cert.now.nodes.items }
+    ensures { IfOk result (Finds instance.now (all_ranges (frame_of instance.now) []) loss cert.now) }
+{
+    let mut path = Path::new(alloc, instance)?;
+    let mut scratch = Scratch::new(alloc, instance.items().len())?;
+    let mut place = Place {
+        line: 1,
+        after_open: false,
+    };
+    let mut tally = Tally {
+        least: loss,
+        left: 0,
+    };
+    for node in cert.nodes.as_slice() {
+        place.read(cert.version, *node);
+        if let Some(why) = judge(instance, defects, loss, *node, &path, &mut scratch) {
+            return Ok(Walked::Fault(place.line, why));
+        }
+        go(instance, *node, &mut path, &mut tally, &mut scratch)?;
+    }
+    Ok(Walked::Whole(tally))
+}
