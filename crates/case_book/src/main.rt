@@ -44,7 +44,10 @@ use std::sync::Wait;
 use std::thread::Threads;
 
 /// Runs the cases one after another, and prints a paragraph for each that is not as it should be. Whether all are.
-fn run_cases(rt: &(impl Print + AllocGlobal + Threads + Wait + Sync), cases: &[Case]) -> anyhow::Result<bool> {
+fn run_cases(
+    rt: &(impl Print + AllocGlobal + Threads + Wait + Sync),
+    cases: &[Case],
+) -> anyhow::Result<bool> {
     let mut good: usize = 0;
     for case in cases {
         let differences = differences_of(rt, rt.alloc(), case)?;

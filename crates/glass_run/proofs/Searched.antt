@@ -144,6 +144,7 @@ found b budget h c plan problem is certifies has =
         let e = draft_loss b drafted.0 problem drafted.1 in
         let k = is.no_greater drafted.0 drafted.1 in
         subst (λ (f : Forest). is.to_beat ≤ plan_loss b f) (sym drafted.2) (omega (arith, e, k.0))
+
     reaches : (draft : Forest) → IsDraftPlan b draft → Reaches (loss_of h.best) (plan_loss b draft)
     reaches draft drafted =
         let k = is.no_greater drafted.0 drafted.1 in

@@ -123,7 +123,11 @@ fn history_of<R: Threads + Wait + Sync, G: Gate + Sync>(
 }
 
 /// The certificate of a history.
-fn certificate_of(alloc: Global, instance: &Instance, history: &History) -> Result<Certificate, Memory>
+fn certificate_of(
+    alloc: Global,
+    instance: &Instance,
+    history: &History,
+) -> Result<Certificate, Memory>
     requires { (budget : ℕ) × IsHistory instance.now budget history.now }
     ensures { IfOk result (λ c. (budget : ℕ) → (is : IsHistory instance.now budget history.now) → Certifies instance.now budget is.to_beat (known_loss history.now.best) c) }
 {

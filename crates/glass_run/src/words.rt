@@ -9,7 +9,9 @@ ghost use Rattle.glass_run.specs.inner.Forms.{line_in, pattern_in};
 ghost use Rattle.glass_base.specs.Roles.{is_role};
 ghost use Rattle.glass_run.specs.Grammar.{Pattern, are_options as are_options_of, has_leading_zero as has_leading_zero_of, is_command_option as is_command_option_of, is_number as is_number_of, is_count as is_count_of, is_count_once, is_some_count as is_some_count_of, number_upto as number_upto_of, count_value as count_value_of, is_once, is_option_for as is_option_for_of, is_some_option as is_some_option_of, is_name as is_name_of, is_option as is_option_of, line_if, line_of, line_with, option_name as option_name_of, option_names as option_names_of, verb_of};
 
-use crate::grammar::{Form, Count, VERBS, Verb, option_front, count_front, count_most, count_usual};
+use crate::grammar::{
+    Count, Form, VERBS, Verb, count_front, count_most, count_usual, option_front,
+};
 use glass_base::Role;
 
 /// A command with the names of its files, and its options, which name further files.
@@ -112,7 +114,13 @@ fn number_upto(most: u32, text: &str) -> Option<u32>
         return None;
     }
     match text.parse::<u32>() {
-        Ok(number) => { if 1 <= number && number <= most { Some(number) } else { None } }
+        Ok(number) => {
+            if 1 <= number && number <= most {
+                Some(number)
+            } else {
+                None
+            }
+        }
         Err(_) => None,
     }
 }
@@ -155,9 +163,7 @@ fn counts_of(count: Count, words: &[String]) -> usize
 fn are_counts_once(counts: &[Count], words: &[String]) -> bool
     ensures { result ≡ list_all (is_count_once (map string_bytes words.now)) counts.now }
 {
-    counts
-        .iter()
-        .all(|count| counts_of(*count, words) <= 1)
+    counts.iter().all(|count| counts_of(*count, words) <= 1)
 }
 
 /// Whether a word is one of the options of a command.
