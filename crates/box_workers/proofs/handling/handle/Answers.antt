@@ -1,6 +1,12 @@
-use Rattle.std.proofs.Common.{rules}
+use Rattle.std.proofs.Common.{rules, refl}
 use Rattle.box_workers.proofs.Steps.{answers}
 use Rattle.box_workers.proofs.handling.handle.Goals as goal
+
+pub returns-then-ticket-budget-clause-done : goal.returns-then-ticket-budget-clause-done
+returns-then-ticket-budget-clause-done c = (
+  refl,
+  record { ticket = c.draw-ticket.result; fresh = c.draw-ticket.ensures.above; spent = search rules; seat = c.draw-ticket.ensures.view; idle = c.prepare.ensures.idle },
+)
 
 pub returns-clause-done : goal.returns-clause-done
 returns-clause-done c =

@@ -40,7 +40,7 @@ returns-in-Some-clause-judges c =
 pub returns-then-bound_at-threshold-clause-judges : goal.returns-then-bound_at-threshold-clause-judges
 returns-then-bound_at-threshold-clause-judges c =
     let seen = c.look-seen.result in let l = c.look-seen.ensures in let i = c.improve-broken.ensures.improves in let same = c.improve-broken.ensures.same in
-    let unrefuted : ¬ IsRefuted c.args.instance.now c.args.bx.ranges = search rules in
+    let unrefuted : ¬ IsRefuted c.args.instance.now c.args.bx.ranges = c.in_default.ensures.first in
     let e : Event = record { box = c.args.bx; ticket = c.args.ticket; seen = seen; probed = i.0; act = Act.Closed c.min-threshold.result Cause.Bound } in (
       e,
       refl,
@@ -53,7 +53,7 @@ returns-then-bound_at-threshold-clause-judges c =
         whole = l.whole;
         probed = i.1.is_probed;
         seat = i.1.seat ∙ ap (λ (v : View). told c.args.hand.now.loss i.0 v) l.view;
-        act = (search rules, unrefuted, search rules);
+        act = (c.min-threshold.ensures, unrefuted, (let t = c.if-bound_at-threshold.true in let e = c.bound_at.ensures in omega arith));
         log = search rules;
         loss = i.1.loss;
         plan = i.1.plan;
@@ -66,12 +66,12 @@ returns-then-bound_at-threshold-clause-judges c =
 pub choose-step-requires : goal.choose-step-requires
 choose-step-requires c =
     let i = c.improve-broken.ensures.improves in
-    no_point c.args.instance.now c.args.bx c.look-seen.result i.0 c.improve-broken.new.hand.loss c.bound_at.result c.requires.frame c.frame-frame.ensures.rules c.params-params.ensures.rules.some (search rules) i.1.is_probed (let e = i.1.loss in omega arith) c.bound_at.ensures (search rules)
+    no_point c.args.instance.now c.args.bx c.look-seen.result i.0 c.improve-broken.new.hand.loss c.bound_at.result c.requires.frame c.frame-frame.ensures.rules c.params-params.ensures.rules.some c.in_default.ensures.first i.1.is_probed (let e = i.1.loss in omega arith) c.bound_at.ensures (let t = c.if-bound_at-threshold.false in let m = c.min-threshold.ensures in omega arith)
 
 pub returns-clause-judges : goal.returns-clause-judges
 returns-clause-judges c =
     let seen = c.look-seen.result in let l = c.look-seen.ensures in let i = c.improve-broken.ensures.improves in let same = c.improve-broken.ensures.same in
-    let unrefuted : ¬ IsRefuted c.args.instance.now c.args.bx.ranges = search rules in
+    let unrefuted : ¬ IsRefuted c.args.instance.now c.args.bx.ranges = c.in_default.ensures.first in
     let e : Event = record { box = c.args.bx; ticket = c.args.ticket; seen = seen; probed = i.0; act = Act.Split c.choose-step.result.0 c.choose-step.result.1 } in (
       e,
       refl,
@@ -84,7 +84,7 @@ returns-clause-judges c =
         whole = l.whole;
         probed = i.1.is_probed;
         seat = i.1.seat ∙ ap (λ (v : View). told c.args.hand.now.loss i.0 v) l.view;
-        act = (unrefuted, search rules, c.choose-step.ensures);
+        act = (unrefuted, (let t = c.if-bound_at-threshold.false in let e = c.bound_at.ensures in let m = c.min-threshold.ensures in omega arith), c.choose-step.ensures);
         log = search rules;
         loss = i.1.loss;
         plan = i.1.plan;
