@@ -4,11 +4,14 @@ use Rattle.std.specs.Prelude.{Option}
 use Rattle.glass_base.specs.Problem.{Problem}
 use Rattle.glass_base.specs.Run.{Listed}
 use Rattle.cut_model.specs.declared.steps.Trace.{Trace}
+use Rattle.plan_box.specs.declared.var.Var.{Var}
+use Rattle.plan_box.specs.Halves.{lower_half, upper_half, child_of}
 use Rattle.plan_box.specs.Ranges.{Ranges, PlainBox}
 use Rattle.plan_box.specs.declared.reason.Reason.{Reason}
 use Rattle.plan_box.specs.Reasons.{IsFirstReason}
 use Rattle.cert_log.specs.declared.history.Act.{Act}
 use Rattle.cert_log.specs.declared.history.Note.{Note}
+use Rattle.cert_log.specs.Levels.{lower_id, upper_id, made_of}
 use Rattle.box_levels.specs.Events.{Event, note_of}
 use Rattle.shared_best.specs.declared.view.View.{View}
 use Rattle.shared_best.specs.Seats.{Words, Seated}
@@ -23,6 +26,12 @@ use Rattle.box_workers.proofs.Probing.{improves_from}
 -- a refuted box has no probe
 pub refuted_fails : (b : Problem) (rs : List Ranges) (r : Reason) → IsFirstReason b rs r → ¬ Probes b rs
 refuted_fails b rs r first p = p.not_refuted (r, first.applies)
+
+-- what is made of a box that is split are its halves
+pub makes_halves : (starts ticket : ℕ) (act : Act) (step : ℕ) (v : Var) (x lower upper : PlainBox) → act ≡ Act.Split step v → lower ≡ child_of lower_half x step v (lower_id starts ticket) → upper ≡ child_of upper_half x step v (upper_id starts ticket)
+    → made_of starts ticket act x ≡ lower ∷ upper ∷ []
+makes_halves starts ticket act step v x lower upper is low high =
+    ap (λ (a : Act). made_of starts ticket a x) is ∙ sym (ap (λ (y : PlainBox). y ∷ upper ∷ []) low ∙ ap (λ (y : PlainBox). child_of lower_half x step v (lower_id starts ticket) ∷ y ∷ []) high)
 
 -- a draw leaves a whole seat whole
 draw_share : (v : View) (t : ℕ) → 1 ≤ v.allowance → share (drawn v t) ≡ share v
