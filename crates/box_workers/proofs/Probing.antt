@@ -1,6 +1,6 @@
 -- What the probe of a box comes to.
 use Rattle.std.proofs.Common.{◌≡◌, ℕ, ◌<◌, ◌≤◌, inl, inr, Bool, true, false, cond, nat_lt, List, length, min, sym, refl, ap, ◌∙◌, subst, arith, IsTrue, eqb-true}
-use Rattle.std.specs.Prelude.{Some}
+use Rattle.std.specs.Prelude.{Option, Some}
 use Rattle.std.proofs.lemmas.Bool.Decides.{nat_tests}
 use Rattle.std.proofs.lemmas.List.{length-map}
 use Rattle.glass_base.specs.Problem.{Problem}
@@ -23,8 +23,8 @@ use Rattle.cert_log.specs.Lawful.{no_loss, trace_loss}
 use Rattle.shared_best.specs.declared.view.View.{View}
 use Rattle.shared_best.specs.Words.{lowered}
 use Rattle.box_workers.specs.declared.hand.Hand.{Hand}
-use Rattle.box_workers.specs.Handling.{Probes, IsProbed, told}
-use Rattle.box_workers.specs.inner.Judging.{Improves}
+use Rattle.box_workers.specs.Handling.{Probes, IsProbed, told, IsPlanAfter}
+use Rattle.box_workers.specs.inner.Deciding.{Improves}
 
 not_less : (m n : ℕ) → n ≤ m → nat_lt m n ≡ false
 not_less m n h = grind (arith, nat_tests)
@@ -45,6 +45,15 @@ finds_none b rs v old new fails small loss plan = record {
   seat = told_none old.loss no_loss v small;
   loss = omega arith;
   plan = inr (small, plan);
+}
+
+-- what a hand improves on is its loss and its plan
+pub improves_from : (b : Problem) (rs : List Ranges) (probed : ℕ) (u v w : View) (old mid new : Hand) → v ≡ u → mid.loss ≡ old.loss → mid.plan ≡ old.plan → Improves b rs probed v w mid new → Improves b rs probed u w old new
+improves_from b rs probed u v w old mid new view loss plan i = record {
+  is_probed = i.is_probed;
+  seat = i.seat ∙ ap (λ (x : View). told mid.loss probed x) view ∙ ap (λ (n : ℕ). told n probed u) loss;
+  loss = i.loss ∙ ap (λ (n : ℕ). min n probed) loss;
+  plan = subst (λ (n : ℕ). IsPlanAfter b rs n probed old.plan new.plan) loss (subst (λ (p : Option Trace). IsPlanAfter b rs mid.loss probed p new.plan) plan i.plan);
 }
 
 -- the trace of a probe has a step for each item

@@ -1,3 +1,3 @@
 pub mod Hands
-pub mod Judging
+pub mod Deciding
 pub mod Rounds

@@ -4,12 +4,12 @@ ghost use Rattle.plan_box.specs.Decisions.{is_free, IsPoint};
 ghost use Rattle.plan_box.specs.Frames.{frame_of};
 ghost use Rattle.plan_box.specs.Reasons.{IsRefuted};
 ghost use Rattle.box_bound.specs.Leastings.{IsOf, IsFor};
-ghost use Rattle.box_levels.specs.Events.{Event};
+ghost use Rattle.box_levels.specs.Events.{SplitsFree};
 ghost use Rattle.shared_best.specs.Seats.{IsSeatOf};
 ghost use Rattle.shared_best.specs.Words.{share};
 ghost use Rattle.box_workers.specs.Handling.{IsIdle, Gives, Answers};
-ghost use Rattle.box_workers.specs.inner.Hands.{CanKeep};
-ghost use Rattle.box_workers.specs.inner.Judging.{Improves, Judges};
+ghost use Rattle.box_workers.specs.inner.Hands.{CanKeep, IsNoted};
+ghost use Rattle.box_workers.specs.inner.Deciding.{Improves, Decides};
 
 use crate::hand::{Hand, keep, prepare};
 use box_bound::{Leasts, bound_at, broken_at, choose_at, refuted_at};
@@ -87,66 +87,81 @@ fn improve(
     None
 }
 
-/// What is done with a box once its ticket is drawn. It is closed for the first reason by which it is refuted; else, after its probe, by
-/// its bound, where that reaches the lesser of what was seen and the hand's loss; else it is split.
-fn judge(
+/// What is to be done with a box, by what is seen and probed now. It is closed for the first reason by which it is refuted; else, after
+/// its probe, by its bound, where that reaches the lesser of what was seen and the hand's loss; else it is split.
+fn decide(
     instance: &Instance,
     map: &DefectMap,
     shared: &SharedBest,
     seat: &mut Seat,
     hand: &mut Hand,
-    starts: u64,
-    ticket: u64,
-    bx: PlanBox,
-    room: Room,
+    bx: &PlanBox,
     spare: Trace,
-) -> Done
+) -> Act
     requires map { map.now ≡ instance.now.defects }
-    requires frame { bx.frame ≡ frame_of instance.now }
+    requires frame { bx.now.frame ≡ frame_of instance.now }
     requires leasts { IsOf instance.now hand.old.leasts }
     requires scratch { length hand.old.scratch.steps.items ≡ length instance.now.items }
     requires trace { CanKeep instance.now hand.old.plan spare }
-    requires log { 1 ≤ hand.old.log.spare }
-    requires room { room ≡ bx.frame }
-    requires limits { (starts ≤ 160000000) × (ticket < 10000000) }
     requires seat { IsSeatOf shared.now seat.old }
     requires share { 0 < share seat.old.view }
     ensures seat { IsSeatOf shared.now seat.new }
     ensures scratch { length hand.new.scratch.steps.items ≡ length instance.now.items }
     ensures leasts { IsOf instance.now hand.new.leasts }
-    ensures judges { (e : Event) × (e.ticket ≡ ticket) × Judges instance.now shared.now bx seat.old seat.new hand.old hand.new e × Gives starts e result }
+    ensures decides { (seen : ℕ) × (probed : ℕ) × Decides instance.now shared.now bx.now seat.old seat.new hand.old hand.new seen probed result }
 {
-    let id = bx.id();
     // Read for their rules, and the last for its range.
     let _frame = bx.frame();
     let _params = instance.params();
     let _before = hand.loss;
     let seen = shared.look(seat);
-    hand.leasts.fill(instance, &bx);
-    if let Some(reason) = refuted_at(instance, map, &hand.leasts, &bx) {
-        let act = Act::Closed {
+    hand.leasts.fill(instance, bx);
+    if let Some(reason) = refuted_at(instance, map, &hand.leasts, bx) {
+        return Act::Closed {
             threshold: seen,
             cause: Cause::Reason(reason),
         };
-        hand.log.put(Note { id, ticket, act });
-        return Done::Closed;
     }
-    let broken = improve(instance, map, shared, seat, hand, &bx, spare);
+    let broken = improve(instance, map, shared, seat, hand, bx, spare);
     let threshold = seen.min(hand.loss);
-    if bound_at(instance, &hand.leasts, &bx) >= threshold {
-        let act = Act::Closed {
+    if bound_at(instance, &hand.leasts, bx) >= threshold {
+        return Act::Closed {
             threshold,
             cause: Cause::Bound,
         };
-        hand.log.put(Note { id, ticket, act });
-        return Done::Closed;
     }
-    let (step, var) = choose(&hand.leasts, &bx, broken);
-    let act = Act::Split { step, var };
+    let (step, var) = choose(&hand.leasts, bx, broken);
+    Act::Split { step, var }
+}
+
+/// Notes what is done with a box, and does it.
+fn carry_out(
+    instance: &Instance,
+    hand: &mut Hand,
+    starts: u64,
+    ticket: u64,
+    bx: PlanBox,
+    room: Room,
+    act: Act,
+) -> Done
+    requires frame { bx.frame ≡ frame_of instance.now }
+    requires free { SplitsFree bx.ranges act }
+    requires log { 1 ≤ hand.old.log.spare }
+    requires room { room ≡ bx.frame }
+    requires limits { (starts ≤ 160000000) × (ticket < 10000000) }
+    ensures noted { IsNoted record { id = bx.id; ticket = ticket; act = act } hand.old hand.new }
+    ensures gives { (seen : ℕ) → (probed : ℕ) → Gives starts record { box = bx; ticket = ticket; seen = seen; probed = probed; act = act } result }
+{
+    let id = bx.id();
     hand.log.put(Note { id, ticket, act });
-    let ids = (starts + 2 * ticket, starts + 2 * ticket + 1);
-    let (lower, upper) = bx.split_in(instance, step, var, ids, room);
-    Done::Split(lower, upper)
+    match act {
+        Act::Closed { .. } => Done::Closed,
+        Act::Split { step, var } => {
+            let ids = (starts + 2 * ticket, starts + 2 * ticket + 1);
+            let (lower, upper) = bx.split_in(instance, step, var, ids, room);
+            Done::Split(lower, upper)
+        }
+    }
 }
 
 /// Handles a box of this instance: draws a ticket for it, looks at the best loss, and closes the box or splits it into its halves, as the
@@ -187,7 +202,6 @@ pub fn handle(
     if ticket >= shared.budget() {
         return Ok(Done::Spent(bx));
     }
-    Ok(judge(
-        instance, map, shared, seat, hand, starts, ticket, bx, room, spare,
-    ))
+    let act = decide(instance, map, shared, seat, hand, &bx, spare);
+    Ok(carry_out(instance, hand, starts, ticket, bx, room, act))
 }

@@ -1,8 +1,9 @@
 -- What a hand holds.
-use Rattle.std.specs.Prelude.{◌≡◌, ℕ, ◌⊎◌, [], length, Option, Some, None}
+use Rattle.std.specs.Prelude.{◌≡◌, ℕ, ◌⊎◌, [], ◌∷◌, ◌++◌, length, Option, Some, None}
 use Rattle.glass_base.specs.Problem.{Problem}
 use Rattle.cut_model.specs.declared.steps.Trace.{Trace}
 use Rattle.box_bound.specs.Leastings.{IsOf}
+use Rattle.cert_log.specs.declared.history.Note.{Note}
 use Rattle.cert_log.specs.Lawful.{no_loss}
 use Rattle.box_workers.specs.declared.hand.Hand.{Hand}
 
@@ -31,3 +32,13 @@ pub record IsKept (b : Problem) (loss : ℕ) (old new : Hand) : Type 0 where
   pub worker : new.worker ≡ old.worker
   pub log : new.log ≡ old.log
   pub left : new.left ≡ old.left
+
+-- a note was written, and nothing else was done
+pub record IsNoted (n : Note) (old new : Hand) : Type 0 where
+  pub log : new.log.items ≡ old.log.items ++ n ∷ []
+  pub worker : new.worker ≡ old.worker
+  pub left : new.left ≡ old.left
+  pub plan : new.plan ≡ old.plan
+  pub loss : new.loss ≡ old.loss
+  pub scratch : new.scratch ≡ old.scratch
+  pub leasts : new.leasts ≡ old.leasts
