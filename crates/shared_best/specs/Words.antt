@@ -67,8 +67,7 @@ new_half v = seat_view v.live v.first v.seen none_known [] [] (v.allowance / 2)
 abbrev pub joined : View → View → View
 joined v w = seat_view v.live v.first (min v.seen w.seen) (min v.announced w.announced) (v.looks ++ w.looks) (v.tickets ++ w.tickets) (v.allowance + w.allowance)
 
--- what holds of a whole seat: the tickets drawn are those below their number, each once, and none of its looks found less than the
--- least of the first value and all that was announced
+-- a whole seat's tickets are those below their number, each once, and no look found less than the first value and all that was announced
 pub record Settles (v : View) : Type 0 where
   pub tickets : IsEachOnce v.tickets
   pub seen : min v.first v.announced ≤ v.seen

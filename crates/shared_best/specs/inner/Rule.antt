@@ -15,14 +15,13 @@ abbrev pub least : ℕ → List View → ℕ
 least n [] = n
 least n (v ∷ vs) = min v.announced (least n vs)
 
--- what holds of each view, where the best loss is now `best`: it saw nothing below, and a seat with no share announced nothing
+-- a view beside the best loss: it knows the first value, saw nothing below the best, and announced nothing where it has no share
 pub record Fits (first best : ℕ) (v : View) : Type 0 where
   pub of_first : v.live ≡ true → v.first ≡ first
   pub seen : best ≤ v.seen
   pub quiet : v.allowance ≡ 0 → v.tickets ≡ [] → v.announced ≡ none_known
 
--- the best loss is the least of the first value and all that was announced; the tickets of all seats are those below the next one, each once;
--- no draw is lost
+-- the best loss is the least of the first value and all announced, the tickets are those below the next one, each once, and no draw is lost
 pub record Sound (first best next : ℕ) (views : List View) : Type 0 where
   pub small : first ≤ none_known
   pub best_is : best ≡ least first views
