@@ -42,6 +42,8 @@ pub struct Hand {
     pub loss: u64,
     /// A trace with a step for each item, which a probe writes over.
     pub scratch: Trace,
+    /// A second one, where no plan has been found yet whose trace could be written over. It is made when the first box is handled.
+    pub spare: Option<Trace>,
     /// The least values of the box that it handled last.
     pub leasts: Leasts,
 }
@@ -73,62 +75,58 @@ impl Hand {
             plan: None,
             loss: NONE,
             scratch: blank_trace(alloc, instance)?,
+            spare: None,
             leasts: Leasts::new(alloc, instance)?,
         })
     }
 }
 
-/// Whether the trace of the plan has so many steps that it can serve as a scratch.
-fn can_serve(plan: &Option<Trace>, items: usize) -> bool
-    ensures { MatchBool result (Serves items plan.now) (Unit {0}) }
+/// Whether there is a trace that has so many steps that it can serve as a scratch.
+fn can_serve(trace: &Option<Trace>, items: usize) -> bool
+    ensures { MatchBool result (Serves items trace.now) (¬ Serves items trace.now) }
 {
-    match plan {
+    match trace {
         None => false,
         Some(trace) => trace.steps.len() == items,
     }
 }
 
-/// All memory that the handling of a box takes: a place in the log, room for its two halves, and a second trace where the plan's cannot
-/// serve as the next scratch.
+/// All memory that the handling of a box takes: a place in the log, room for its two halves, and, once for a hand, a second trace, where
+/// the plan's cannot serve as the next scratch.
 pub(crate) fn prepare(
     alloc: Global,
     instance: &Instance,
     hand: &mut Hand,
     bx: &PlanBox,
-) -> Result<(Room, Trace), Memory>
+) -> Result<Room, Memory>
     ensures idle { IsIdle hand.old hand.new }
     ensures leasts { hand.new.leasts ≡ hand.old.leasts }
     ensures log { OnOk result (1 ≤ hand.new.log.spare) }
-    ensures room { IfOk result (λ r. r.0 ≡ bx.now.frame) }
-    ensures trace { IfOk result (λ r. CanKeep instance.now hand.new.plan r.1) }
+    ensures room { IfOk result (λ room. room ≡ bx.now.frame) }
+    ensures trace { OnOk result (CanKeep instance.now hand.new.plan hand.new.spare) }
 {
     hand.log.reserve(1)?;
     let room = bx.room(alloc)?;
-    let spare = if can_serve(&hand.plan, instance.items().len()) {
-        Trace {
-            steps: Run::new(alloc),
-        }
-    } else {
-        blank_trace(alloc, instance)?
-    };
-    Ok((room, spare))
+    let items = instance.items().len();
+    if !can_serve(&hand.plan, items) && !can_serve(&hand.spare, items) {
+        hand.spare = Some(blank_trace(alloc, instance)?);
+    }
+    Ok(room)
 }
 
 /// The scratch becomes the plan, which has this loss. The trace of the plan before, or the spare one, becomes the scratch.
-pub(crate) fn keep(hand: &mut Hand, spare: Trace, loss: u64, instance: &Instance)
-    requires { CanKeep instance.now hand.old.plan spare }
+pub(crate) fn keep(hand: &mut Hand, loss: u64, instance: &Instance)
+    requires { CanKeep instance.now hand.old.plan hand.old.spare }
     ensures kept { IsKept instance.now loss hand.old hand.new }
     ensures leasts { hand.new.leasts ≡ hand.old.leasts }
 {
-    let scratch = match hand.plan.take() {
-        None => spare,
-        Some(old) => {
-            if old.steps.len() == instance.items().len() {
-                old
-            } else {
-                spare
-            }
-        }
+    let next = if can_serve(&hand.plan, instance.items().len()) {
+        hand.plan.take()
+    } else {
+        hand.spare.take()
+    };
+    let Some(scratch) = next else {
+        unreachable!();
     };
     hand.plan = Some(mem::replace(&mut hand.scratch, scratch));
     hand.loss = loss;

@@ -54,13 +54,12 @@ fn improve(
     seat: &mut Seat,
     hand: &mut Hand,
     bx: &PlanBox,
-    spare: Trace,
 ) -> Option<TraceBroken>
     requires map { map.now ≡ instance.now.defects }
     requires frame { bx.now.frame ≡ frame_of instance.now }
     requires leasts { IsFor instance.now bx.now hand.old.leasts }
     requires scratch { length hand.old.scratch.steps.items ≡ length instance.now.items }
-    requires trace { CanKeep instance.now hand.old.plan spare }
+    requires trace { CanKeep instance.now hand.old.plan hand.old.spare }
     requires unrefuted { ¬ IsRefuted instance.now bx.now.ranges }
     requires seat { IsSeatOf shared.now seat.old }
     requires share { 0 < share seat.old.view }
@@ -82,7 +81,7 @@ fn improve(
     if loss >= best {
         return None;
     }
-    keep(hand, spare, loss, instance);
+    keep(hand, loss, instance);
     shared.lower(seat, loss);
     None
 }
@@ -96,13 +95,12 @@ fn decide(
     seat: &mut Seat,
     hand: &mut Hand,
     bx: &PlanBox,
-    spare: Trace,
 ) -> Act
     requires map { map.now ≡ instance.now.defects }
     requires frame { bx.now.frame ≡ frame_of instance.now }
     requires leasts { IsOf instance.now hand.old.leasts }
     requires scratch { length hand.old.scratch.steps.items ≡ length instance.now.items }
-    requires trace { CanKeep instance.now hand.old.plan spare }
+    requires trace { CanKeep instance.now hand.old.plan hand.old.spare }
     requires seat { IsSeatOf shared.now seat.old }
     requires share { 0 < share seat.old.view }
     ensures seat { IsSeatOf shared.now seat.new }
@@ -122,7 +120,7 @@ fn decide(
             cause: Cause::Reason(reason),
         };
     }
-    let broken = improve(instance, map, shared, seat, hand, bx, spare);
+    let broken = improve(instance, map, shared, seat, hand, bx);
     let threshold = seen.min(hand.loss);
     if bound_at(instance, &hand.leasts, bx) >= threshold {
         return Act::Closed {
@@ -194,14 +192,14 @@ pub fn handle(
     ensures done { IfOk result (λ d. Answers instance.now shared.now starts bx seat.old seat.new hand.old hand.new d) }
     ensures refused { IfErr result (λ e. (e.0 ≡ bx) × (seat.new ≡ seat.old) × IsIdle hand.old hand.new) }
 {
-    let (room, spare) = match prepare(alloc, instance, hand, &bx) {
-        Ok(memory) => memory,
+    let room = match prepare(alloc, instance, hand, &bx) {
+        Ok(room) => room,
         Err(refused) => return Err((bx, refused)),
     };
     let ticket = shared.draw(seat);
     if ticket >= shared.budget() {
         return Ok(Done::Spent(bx));
     }
-    let act = decide(instance, map, shared, seat, hand, &bx, spare);
+    let act = decide(instance, map, shared, seat, hand, &bx);
     Ok(carry_out(instance, hand, starts, ticket, bx, room, act))
 }

@@ -141,6 +141,7 @@ pub fn search<R: Threads + Wait + Sync, G: Gate + Sync>(
         plan,
         loss,
         scratch: _,
+        spare: _,
         leasts,
     } = hand;
     let left = leave(alloc, instance, leasts, waiting)?;

@@ -15,14 +15,14 @@ pub record IsFresh (b : Problem) (k : Hand) : Type 0 where
   pub scratch : length k.scratch.steps.items ≡ length b.items
   pub leasts : IsOf b k.leasts
 
--- the plan's trace has so many steps
+-- there is a trace, and it has so many steps
 abbrev pub Serves : ℕ → Option Trace → Type 0
 Serves items None = ⊥
 Serves items (Some t) = length t.steps.items ≡ items
 
--- the plan's trace or this one can be the next scratch
-abbrev pub CanKeep : Problem → Option Trace → Trace → Type 0
-CanKeep b plan spare = Serves (length b.items) plan ⊎ (length spare.steps.items ≡ length b.items)
+-- the plan's trace or the spare one can be the next scratch
+abbrev pub CanKeep : Problem → Option Trace → Option Trace → Type 0
+CanKeep b plan spare = Serves (length b.items) plan ⊎ Serves (length b.items) spare
 
 -- the scratch is the plan, and has this loss
 pub record IsKept (b : Problem) (loss : ℕ) (old new : Hand) : Type 0 where
