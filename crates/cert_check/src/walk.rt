@@ -132,6 +132,7 @@ fn judge_reason(
         defects,
         ranges,
         &mut scratch.steps,
+        &mut scratch.taken,
         &mut scratch.numbers,
     ) {
         Some(first) => {
@@ -159,7 +160,7 @@ fn judge_bound(
     ensures judged { MatchOption result (Reaches loss (bound_of instance.now (map unpacked ranges.now))) (FailsToClose instance.now loss (map unpacked ranges.now) CauseOf.Bound) }
     ensures room { HasRoom (length instance.now.items) scratch.new }
 {
-    let bound = bound(instance, ranges, &mut scratch.steps);
+    let bound = bound(instance, ranges, &mut scratch.steps, &mut scratch.taken);
     if reaches(loss, bound) {
         None
     } else {
@@ -186,12 +187,10 @@ fn is_refuted(
         defects,
         ranges,
         &mut scratch.steps,
+        &mut scratch.taken,
         &mut scratch.numbers,
     );
-    match first {
-        Some(_) => true,
-        None => false,
-    }
+    first.is_some()
 }
 
 /// Why a box may not be closed for this cause, if it may not.
@@ -274,7 +273,12 @@ fn go(
         Node::Split { step, var } => path.split(step, var),
         Node::Closed(_) => path.leave(),
         Node::Left => {
-            let bound = bound(instance, path.stored(), &mut scratch.steps);
+            let bound = bound(
+                instance,
+                path.stored(),
+                &mut scratch.steps,
+                &mut scratch.taken,
+            );
             tally.least = with_bound(tally.least, bound);
             tally.left += 1;
             path.leave()

@@ -1,5 +1,5 @@
 -- Decided steps as code keeps them, and what is known of each.
-use Rattle.std.specs.Prelude.{◌≡◌, ℕ, ◌-◌, List, [], map, take, length, All, None}
+use Rattle.std.specs.Prelude.{◌≡◌, ℕ, ◌-◌, List, map, length, All, None}
 use Rattle.glass_base.specs.Problem.{Problem}
 use Rattle.plan_trace.specs.declared.level.Level.{Level}
 use Rattle.plan_trace.specs.declared.level.Level.TheVariants.{NewPlate}
@@ -58,10 +58,11 @@ pub record AreKnown (b : Problem) (rs : List Ranges) (steps : List Decided) : Ty
   pub values : map fixed_of steps ≡ known b rs
   pub within : All (λ k. AreWithin 40000000 (known_in k)) steps
 
--- the lists have a place for each of so many items
+-- the lists have a place for each of so many items, and for each stack
 pub record HasRoom (items : ℕ) (s : Scratch) : Type 0 where
   pub steps : length s.steps.items ≡ items
   pub numbers : length s.numbers.items ≡ items
+  pub taken : length s.taken.items ≡ 800
 
 -- what some steps begin
 abbrev pub levels_in : List Decided → List Level
