@@ -4,7 +4,7 @@ ghost use Rattle.std.specs.Prelude.{◌≡◌, ◌≢◌, ◌<◌, ◌≤◌, �
 ghost use Rattle.plan_box.specs.Packed.{unpacked};
 ghost use Rattle.cert_check.specs.inner.Paths.{AreStored};
 ghost use Rattle.plan_box.specs.Frames.{frame_of};
-ghost use Rattle.plan_box.specs.Packed.{all_ranges};
+ghost use Rattle.plan_box.specs.Ranges.{root_of};
 ghost use Rattle.cert_log.specs.Good.{Reaches, MayClose, lesser};
 ghost use Rattle.cert_log.specs.declared.history.Cause.{Cause as CauseOf};
 ghost use Rattle.plan_box.specs.Bounds.{bound as bound_of};
@@ -296,7 +296,7 @@ pub(crate) fn walk(
 ) -> Result<Walked, Memory>
     requires defects { defects.now ≡ instance.now.defects }
     requires tree { IsTree cert.now.nodes.items }
-    ensures { IfOk result (Finds instance.now (all_ranges (frame_of instance.now) []) loss cert.now) }
+    ensures { IfOk result (Finds instance.now (root_of (frame_of instance.now) 0).ranges loss cert.now) }
 {
     let mut path = Path::new(alloc, instance)?;
     let mut scratch = Scratch::new(alloc, instance.items().len())?;

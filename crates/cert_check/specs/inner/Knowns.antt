@@ -68,10 +68,11 @@ pub record HasRoom (items : ℕ) (s : Scratch) : Type 0 where
 abbrev pub levels_in : List Decided → List Level
 levels_in steps = map (λ k. k.level) steps
 
--- stand before the first step
+-- the ends that stand before the first step
 abbrev pub no_ends : Ends
 no_ends = record { least_a = 0; high_a = 0; least_b = 0; high_b = 0; least_c = 0; high_c = 0; least_d = 0; high_d = 0; least_e = 0; high_e = 0 }
 
+-- the place that stands before the first step
 abbrev pub no_placed : Placed
 no_placed = record {
   stack = 0;
@@ -90,6 +91,7 @@ no_placed = record {
   area = 0;
 }
 
+-- stands before the first step
 abbrev pub nothing : Decided
 nothing = record { level = NewPlate; place = no_placed; ends = no_ends }
 
