@@ -1,5 +1,5 @@
 -- The decided steps of a box are those of the definition, and none of their numbers is large.
-use Rattle.std.proofs.Common.{◌≡◌, ℕ, zero, suc, ◌+◌, ◌*◌, ◌<◌, ◌≤◌, List, [], ◌∷◌, length, map, take, refl, ap, sym, ◌∙◌, subst, arith, All}
+use Rattle.std.proofs.Common.{◌≡◌, ℕ, zero, suc, ◌+◌, ◌*◌, ◌≤◌, List, [], ◌∷◌, length, map, take, refl, ap, sym, ◌∙◌, subst, arith, All}
 use Rattle.std.proofs.lemmas.List.{length-map, length-take-le, take-map}
 use Rattle.std.proofs.lemmas.List.Elements.{All-head, All-tail}
 use Rattle.glass_base.specs.Problem.{Problem, IsProblem}
@@ -11,11 +11,11 @@ use Rattle.plan_box.specs.declared.frame.Frame.{Frame}
 use Rattle.plan_box.specs.declared.packed.Packed.{Packed}
 use Rattle.plan_box.specs.declared.var.Var.{Var}
 use Rattle.plan_box.specs.Decisions.{decided, draw_at}
-use Rattle.plan_box.specs.Leasts.{Known, Fixed, fixed, known, next_known, no_known, settle, settle_at, settled}
+use Rattle.plan_box.specs.Leasts.{Known, Fixed, fixed, next_known, no_known, settle, settle_at, settled}
 use Rattle.plan_box.specs.Packed.{unpacked}
 use Rattle.plan_box.proofs.Counts.{decided_few}
 use Rattle.plan_box.specs.Ranges.{Ranges, AreInFrame}
-use Rattle.plan_box.specs.Frames.{frame_of}
+use Rattle.plan_box.specs.Frames.{IsFrame, frame_of}
 use Rattle.cert_check.specs.declared.steps.Decided.{Decided}
 use Rattle.cert_check.specs.inner.Follows.{follow}
 use Rattle.cert_check.specs.inner.Knowns.{AreKnown, fixed_of, known_in}
@@ -124,11 +124,12 @@ known_within n (x ∷ steps) h = by h.0 (known_within n steps h.1)
     by here later (suc k) d lt = later k d (omega (arith, lt))
 
 -- ranges in the frame of an instance
-frame_within : (b : Problem) → IsProblem b → (f : Frame) (r : Ranges) → f ≡ frame_of b → AreInFrame f r → AreRangesWithin r
-frame_within b rules f r e h =
+frame_within : (b : Problem) → IsProblem b → (f : Frame) (r : Ranges) → f ≡ frame_of b → IsFrame f → AreInFrame f r → AreRangesWithin r
+frame_within b rules f r e frame h =
     let width : f.width ≤ 20000 = omega (arith, ap (λ (g : Frame). g.width) e, widest_within b rules) in
     let height : f.height ≤ 20000 = omega (arith, ap (λ (g : Frame). g.height) e, b.params.accepted.height_limit) in
     record {
+      stack = omega (arith, (h Var.Stack).0, (h Var.Stack).1, frame.stacks);
       lift = omega (arith, (h Var.Lift).0, (h Var.Lift).1);
       low_a = omega (arith, (h Var.A).0, (h Var.A).1);
       low_b = omega (arith, (h Var.B).0, (h Var.B).1);
@@ -143,12 +144,12 @@ frame_within b rules f r e h =
     }
 
 -- the ranges of the first steps of a box
-pub taken_within : (b : Problem) → IsProblem b → (stored : List Packed) (n : ℕ) → All (λ (x : Packed). AreInFrame (frame_of b) (unpacked x)) stored → All (λ (x : Packed). AreRangesWithin (unpacked x)) (take n stored)
-taken_within b rules stored zero h = λ k d lt. absurd (omega (arith, lt))
-taken_within b rules [] (suc n) h = λ k d lt. absurd (omega (arith, lt))
-taken_within b rules (x ∷ stored) (suc n) h =
-    by (frame_within b rules (frame_of b) (unpacked x) refl (All-head (λ (y : Packed). AreInFrame (frame_of b) (unpacked y)) x stored h))
-    (taken_within b rules stored n (All-tail (λ (y : Packed). AreInFrame (frame_of b) (unpacked y)) x stored h))
+pub taken_within : (b : Problem) → IsProblem b → IsFrame (frame_of b) → (stored : List Packed) (n : ℕ) → All (λ (x : Packed). AreInFrame (frame_of b) (unpacked x)) stored → All (λ (x : Packed). AreRangesWithin (unpacked x)) (take n stored)
+taken_within b rules frame stored zero h = λ k d lt. absurd (omega (arith, lt))
+taken_within b rules frame [] (suc n) h = λ k d lt. absurd (omega (arith, lt))
+taken_within b rules frame (x ∷ stored) (suc n) h =
+    by (frame_within b rules (frame_of b) (unpacked x) refl frame (All-head (λ (y : Packed). AreInFrame (frame_of b) (unpacked y)) x stored h))
+    (taken_within b rules frame stored n (All-tail (λ (y : Packed). AreInFrame (frame_of b) (unpacked y)) x stored h))
   where
     by : AreRangesWithin (unpacked x) → All (λ (y : Packed). AreRangesWithin (unpacked y)) (take n stored) → All (λ (y : Packed). AreRangesWithin (unpacked y)) (x ∷ take n stored)
     by here later zero d lt = here

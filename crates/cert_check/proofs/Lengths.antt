@@ -1,5 +1,5 @@
 -- How long traces can be, and how large the area of all items.
-use Rattle.std.proofs.Common.{◌≡◌, ℕ, suc, ◌+◌, ◌-◌, ◌*◌, ◌/◌, ◌<◌, ◌≤◌, List, [], ◌∷◌, length, map, get_or, max, refl, ap, sym, arith, All}
+use Rattle.std.proofs.Common.{◌≡◌, ℕ, suc, ◌+◌, ◌-◌, ◌*◌, ◌/◌, ◌≤◌, List, [], ◌∷◌, length, map, get_or, max, refl, ap, sym, arith, All}
 use Rattle.std.proofs.Math.Nat.{div-le_self, mul-le-mul_left, mul-le-mul_right}
 use Rattle.std.proofs.lemmas.List.Sums.{sum_by-le}
 use Rattle.glass_base.specs.declared.params.Params.{Params}
@@ -7,7 +7,7 @@ use Rattle.glass_base.specs.declared.item.Item.{Item}
 use Rattle.glass_base.specs.Items.{area_of}
 use Rattle.glass_base.specs.Problem.{Problem, IsProblem}
 use Rattle.plan_box.specs.Bounds.{reached, end_of_strip, end_of_items}
-use Rattle.plan_box.specs.Leasts.{Fixed, fixed, Known, last_known}
+use Rattle.plan_box.specs.Leasts.{Known, last_known}
 use Rattle.cert_check.specs.declared.steps.Decided.{Decided}
 use Rattle.cert_check.specs.inner.Knowns.{fixed_of, known_in}
 use Rattle.cert_check.proofs.Sizes.{area_small}

@@ -1,14 +1,13 @@
 -- Points, and what breaks a rule.
-use Rattle.std.proofs.Common.{◌≡◌, ℕ, ◌<◌, ◌≤◌, ◌↔◌, Bool, true, false, IsTrue, MatchBool, Option, Some, None, List, [], ◌∷◌, length, map, take, refl, inl, ap, sym, ◌∙◌, subst, arith}
+use Rattle.std.proofs.Common.{◌≡◌, ◌↔◌, Bool, true, false, IsTrue, MatchBool, Option, Some, None, List, [], ◌∷◌, map, refl, inl, ap, sym, ◌∙◌, subst}
 use Rattle.std.specs.Option.{MatchOption, is_some}
 use Rattle.glass_base.specs.Problem.{Problem}
 use Rattle.cut_model.specs.declared.steps.Step.{Step}
 use Rattle.plan_trace.specs.TraceRules.{Meets}
 use Rattle.plan_box.specs.Decisions.{IsPoint, numbers_of}
-use Rattle.plan_box.specs.declared.reason.Reason.{Reason}
 use Rattle.plan_box.specs.Leasts.{known, least_step, least_steps}
 use Rattle.plan_box.specs.Ranges.{Ranges}
-use Rattle.plan_box.specs.Reasons.{Applies, IsFirstReason, IsRefuted, R1, R7, reason_number}
+use Rattle.plan_box.specs.Reasons.{R1, R7}
 use Rattle.plan_box.proofs.Probe.{point_least}
 use Rattle.plan_box.proofs.Probed.{point_whole}
 use Rattle.cert_check.specs.declared.steps.Decided.{Decided}

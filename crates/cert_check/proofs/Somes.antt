@@ -1,14 +1,12 @@
 -- A fact at some of the decided steps, step by step.
-use Rattle.std.proofs.Common.{◌≡◌, ℕ, zero, suc, ◌+◌, ◌-◌, ◌<◌, ◌≤◌, ◌⊎◌, ◌↔◌, inl, inr, Bool, true, false, IsTrue, List, [], ◌∷◌, length, map, drop, take, get_or, refl, ap, sym, ◌∙◌, subst, arith, ◌==◌}
+use Rattle.std.proofs.Common.{◌≡◌, ℕ, zero, suc, ◌+◌, ◌-◌, ◌<◌, ◌≤◌, ◌⊎◌, ◌↔◌, inl, inr, Bool, true, false, IsTrue, List, [], ◌∷◌, length, map, drop, take, get_or, ap, sym, ◌∙◌, subst, arith, ◌==◌}
 use Rattle.std.proofs.lemmas.List.{drop_more, length-drop, length-map, take_all}
 use Rattle.glass_base.specs.Problem.{Problem}
 use Rattle.plan_trace.specs.declared.level.Level.{Level}
 use Rattle.plan_box.specs.declared.packed.Packed.{Packed}
-use Rattle.plan_box.specs.declared.reason.Reason.{Reason}
 use Rattle.plan_box.specs.Decisions.{all_decided, decided}
 use Rattle.plan_box.specs.Leasts.{Known, Fixed, known}
 use Rattle.plan_box.specs.Packed.{unpacked}
-use Rattle.plan_box.specs.Ranges.{Ranges}
 use Rattle.plan_box.specs.Reasons.{SomeFixed}
 use Rattle.plan_box.proofs.Counts.{known_count}
 use Rattle.cert_check.specs.declared.steps.Decided.{Decided}

@@ -1,6 +1,6 @@
 -- Stored ranges where one is replaced, and paths.
-use Rattle.std.proofs.Common.{◌≡◌, ℕ, zero, suc, ◌+◌, ◌-◌, ◌<◌, ◌≤◌, List, [], ◌∷◌, ◌++◌, length, map, replicate, slice_get, slice_set, slice_index_or, reverse, cond, nat_lt, None, Bool, true, false, Some, not, refl, sym, ap, ◌∙◌, subst, arith, All, IsTrue}
-use Rattle.std.proofs.lemmas.List.{append-nil, length-map, reverse-append}
+use Rattle.std.proofs.Common.{◌≡◌, ℕ, zero, suc, ◌+◌, ◌<◌, ◌≤◌, List, [], ◌∷◌, ◌++◌, length, map, replicate, slice_get, slice_set, slice_index_or, reverse, cond, nat_lt, None, Bool, true, false, Some, not, refl, sym, ap, ◌∙◌, subst, arith, All, IsTrue}
+use Rattle.std.proofs.lemmas.List.{length-map, reverse-append}
 use Rattle.std.proofs.lemmas.List.Elements.{All-append, All-cons, All-head, All-map, All-nil, All-tail}
 use Rattle.plan_box.specs.declared.frame.Frame.{Frame}
 use Rattle.plan_box.specs.declared.packed.Packed.{Packed}

@@ -87,14 +87,22 @@ fn loss_of_length(instance: &Instance, length: u64) -> u64
     (u64::from(instance.params().height) * length).saturating_sub(instance.area())
 }
 
-/// The bound on the loss of the traces in the box of these ranges, in mm². The decided steps are written over `steps`.
-pub fn bound(instance: &Instance, ranges: &[Packed], steps: &mut Run<Decided>) -> u64
+/// The bound on the loss of the traces in the box of these ranges, in mm². The decided steps are written over `steps`, and the
+/// counts of drawn items over `taken`.
+pub fn bound(
+    instance: &Instance,
+    ranges: &[Packed],
+    steps: &mut Run<Decided>,
+    taken: &mut Run<u32>,
+) -> u64
     requires stored { AreStored (frame_of instance.now) ranges.now }
     requires room { length ranges.now ≤ length steps.old.items }
+    requires taken { length taken.old.items ≡ 800 }
     ensures value { result ≡ bound_of instance.now (map unpacked ranges.now) }
     ensures room { length steps.new.items ≡ length steps.old.items }
+    ensures taken { length taken.new.items ≡ 800 }
 {
-    let count = fill(instance, ranges, steps);
+    let count = fill(instance, ranges, steps, taken);
     let length = least_length(instance, ranges, &steps.as_slice()[..count]);
     loss_of_length(instance, length)
 }

@@ -1,7 +1,7 @@
 //! The check of a certificate.
 ghost use Rattle.std.specs.Prelude.{◌≡◌, ◌⊎◌, [], IfOk};
 ghost use Rattle.plan_box.specs.Frames.{frame_of};
-ghost use Rattle.plan_box.specs.Packed.{all_ranges};
+ghost use Rattle.plan_box.specs.Ranges.{root_of};
 ghost use Rattle.cert_log.specs.Trees.{IsTree};
 ghost use Rattle.cert_check.specs.Faults.{Answers};
 ghost use Rattle.cert_check.specs.inner.Walks.{Closes};
@@ -35,7 +35,10 @@ fn judge_counts(cert: &Certificate, tally: Tally) -> Verdict
     }
 }
 
-/// Whether a certificate is right for the root box, where this is the loss of the best plan that is known.
+/// Whether a certificate is right for the box of all plans, where this is the loss in mm² of the best plan that is known.
+///
+/// Where it is, each lawful plan loses at least its bound (`cert_log::laws::good_certificates_bound_each_plan`). Only want of memory is
+/// refused; how much is taken depends on the instance and the depth of the tree, and not on the number of nodes.
 pub fn check_cert(
     alloc: Global,
     instance: &Instance,
@@ -46,7 +49,7 @@ pub fn check_cert(
     requires map { map.now ≡ instance.now.defects }
     requires tree { IsTree cert.now.nodes.items }
     requires version { (cert.now.version ≡ 1) ⊎ (cert.now.version ≡ 2) }
-    ensures { IfOk result (Answers instance.now (all_ranges (frame_of instance.now) []) loss cert.now) }
+    ensures { IfOk result (Answers instance.now (root_of (frame_of instance.now) 0).ranges loss cert.now) }
 {
     if cert.loss != loss {
         return Ok(Verdict::Refuse {

@@ -13,23 +13,27 @@ ghost use Rattle.cert_check.specs.inner.Within.{AreRangesWithin};
 use crate::ends::Ends;
 use crate::free::count_decided;
 use crate::placed::Placed;
-use crate::steps::{Decided, drawn};
+use crate::steps::Decided;
+use crate::taken::{clear, draw};
 use glass_base::{Instance, Run};
-use plan_box::{Packed, Var};
+use plan_box::Packed;
 
 /// Writes the decided steps of these ranges, each as it and the earlier ones give it.
-fn follow(instance: &Instance, ranges: &[Packed], steps: &mut Run<Decided>)
+fn follow(instance: &Instance, ranges: &[Packed], steps: &mut Run<Decided>, taken: &mut Run<u32>)
     requires room { length ranges.now ≤ length steps.old.items }
     requires few { length ranges.now ≤ 800 }
     requires within { All (λ x. AreRangesWithin (unpacked x)) ranges.now }
+    requires taken { length taken.old.items ≡ 800 }
     ensures many { length steps.new.items ≡ length steps.old.items }
+    ensures taken { length taken.new.items ≡ 800 }
     ensures steps { map fixed_of (take (length ranges.now) steps.new.items) ≡ follow_of instance.now [] no_known (map unpacked ranges.now) }
 {
     let _items = instance.items();
+    clear(taken);
     let mut last = Decided::none();
     for (i, here) in ranges.iter().enumerate() {
-        let taken = drawn(&ranges[..i], here.range(Var::Stack).0);
-        last = last.next(instance, &ranges[..i], taken, here);
+        let count = draw(taken, &ranges[..i], here);
+        last = last.next(instance, &ranges[..i], count, here);
         steps.set(i, last);
     }
 }
@@ -60,18 +64,26 @@ fn settle(steps: &mut Run<Decided>, count: usize)
     }
 }
 
-/// Writes the decided steps of a box, with what is known of each, and tells how many there are.
-pub fn fill(instance: &Instance, ranges: &[Packed], steps: &mut Run<Decided>) -> usize
+/// Writes the decided steps of a box, with what is known of each, and tells how many there are. The counts of drawn items are written
+/// over `taken`.
+pub fn fill(
+    instance: &Instance,
+    ranges: &[Packed],
+    steps: &mut Run<Decided>,
+    taken: &mut Run<u32>,
+) -> usize
     requires stored { AreStored (frame_of instance.now) ranges.now }
     requires room { length ranges.now ≤ length steps.old.items }
+    requires taken { length taken.old.items ≡ 800 }
     ensures many { length steps.new.items ≡ length steps.old.items }
+    ensures taken { length taken.new.items ≡ 800 }
     ensures count { result ≡ length (decided (map unpacked ranges.now)) }
     ensures inside { result ≤ length ranges.now }
     ensures known { AreKnown instance.now (map unpacked ranges.now) (take result steps.new.items) }
 {
     let _items = instance.items();
     let count = count_decided(ranges);
-    follow(instance, &ranges[..count], steps);
+    follow(instance, &ranges[..count], steps, taken);
     settle(steps, count);
     count
 }

@@ -37,7 +37,7 @@ fn is_wedged(
     is_tight(waste, before, begins) || (is_last && is_tight(waste, ends, room))
 }
 
-/// A number as a cut that can lie nowhere else, or two numbers as the ends of one.
+/// A cut with this least value and this high end.
 fn cut(least: u32, high: u32) -> (u64, u64)
     ensures least { result.0 ≡ least }
     ensures high { result.1 ≡ high }
@@ -46,7 +46,7 @@ fn cut(least: u32, high: u32) -> (u64, u64)
     (u64::from(least), u64::from(high))
 }
 
-/// The cut so far behind another one.
+/// The cut that lies so far behind this one.
 fn cut_behind(least: u32, high: u32, by: u32) -> (u64, u64)
     ensures least { result.0 ≡ least + by }
     ensures high { result.1 ≡ high + by }

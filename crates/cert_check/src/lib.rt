@@ -15,6 +15,7 @@ mod placed;
 mod refuting;
 mod scratch;
 mod steps;
+mod taken;
 pub mod verdict;
 mod walk;
 

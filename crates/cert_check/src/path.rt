@@ -6,7 +6,7 @@ ghost use Rattle.plan_box.specs.Packed.{unpacked};
 ghost use Rattle.plan_box.specs.Frames.{IsFrame};
 ghost use Rattle.cert_check.specs.inner.Paths.{AreStored};
 ghost use Rattle.plan_box.specs.Ranges.{span_of, full_ranges};
-ghost use Rattle.plan_box.specs.Packed.{all_ranges};
+ghost use Rattle.plan_box.specs.Ranges.{root_of};
 ghost use Rattle.cert_check.specs.inner.Paths.{beside, boxes_of, IsPathOf};
 
 use glass_base::{Instance, Memory, Run, append};
@@ -53,7 +53,7 @@ fn full(alloc: Global, frame: Frame) -> Result<Run<Packed>, Memory>
     requires { IsFrame frame }
     ensures stored { IfOk result (λ run. AreStored frame run.items) }
     ensures each_step { IfOk result (λ run. length run.items ≡ frame.items) }
-    ensures ranges { IfOk result (λ run. map unpacked run.items ≡ all_ranges frame []) }
+    ensures ranges { IfOk result (λ run. map unpacked run.items ≡ (root_of frame 0).ranges) }
 {
     let mut run = Run::new(alloc);
     for _ in 0..frame.items {
@@ -136,13 +136,13 @@ impl Path {
     ghost use Rattle.plan_box.specs.Packed.{unpacked};
     ghost use Rattle.cert_check.specs.inner.Paths.{AreStored};
     ghost use Rattle.plan_box.specs.Frames.{frame_of};
-    ghost use Rattle.plan_box.specs.Packed.{all_ranges};
+    ghost use Rattle.plan_box.specs.Ranges.{root_of};
     ghost use Rattle.cert_check.specs.inner.Paths.{top, below};
 
     /// The path to the root box, whose ranges are full.
     pub fn new(alloc: Global, instance: &Instance) -> Result<Path, Memory>
         ensures frame { IfOk result (λ p. p.frame ≡ frame_of instance.now) }
-        ensures boxes { IfOk result (λ p. p.boxes ≡ all_ranges (frame_of instance.now) [] ∷ []) }
+        ensures boxes { IfOk result (λ p. p.boxes ≡ (root_of (frame_of instance.now) 0).ranges ∷ []) }
     {
         let frame = Frame::of(instance);
         Ok(Path {

@@ -224,17 +224,20 @@ pub fn first_reason(
     defects: &DefectMap,
     ranges: &[Packed],
     steps: &mut Run<Decided>,
+    taken: &mut Run<u32>,
     numbers: &mut Run<Step>,
 ) -> Option<Reason>
     requires defects { defects.now ≡ instance.now.defects }
     requires stored { AreStored (frame_of instance.now) ranges.now }
     requires steps { length ranges.now ≤ length steps.old.items }
+    requires taken { length taken.old.items ≡ 800 }
     requires numbers { length ranges.now ≤ length numbers.old.items }
     ensures first { MatchOption result (¬ IsRefuted instance.now (map unpacked ranges.now)) (λ r. IsFirstReason instance.now (map unpacked ranges.now) r) }
     ensures steps { length steps.new.items ≡ length steps.old.items }
+    ensures taken { length taken.new.items ≡ 800 }
     ensures numbers { length numbers.new.items ≡ length numbers.old.items }
 {
-    let count = fill(instance, ranges, steps);
+    let count = fill(instance, ranges, steps, taken);
     first_of(
         instance,
         defects,

@@ -37,21 +37,6 @@ fn level_behind(before: &[Packed], kind: u32) -> Level
     }
 }
 
-/// How many of these steps draw from a stack.
-#[tactic(auto, using(crate::proofs::Draws::draws_more))]
-pub fn drawn(before: &[Packed], stack: u32) -> u32
-    requires { length before.now ≤ 800 }
-    ensures { result ≡ drawn_of (draws_of before.now) stack }
-{
-    let mut count = 0;
-    for ranges in before {
-        if ranges.range(Var::Stack).0 == stack {
-            count += 1;
-        }
-    }
-    count
-}
-
 /// The next item of a stack of which so many are drawn.
 fn next_item(instance: &Instance, stack: u32, taken: u32) -> Option<Item>
     ensures value { result ≡ item_at instance.now stack taken }

@@ -4,7 +4,7 @@ ghost use Rattle.std.specs.Prelude.{◌≡◌, ◌≢◌, ◌<◌, ◌≤◌, �
 ghost use Rattle.plan_box.specs.Packed.{unpacked};
 ghost use Rattle.cert_check.specs.inner.Paths.{AreStored};
 ghost use Rattle.plan_box.specs.Frames.{frame_of};
-ghost use Rattle.plan_box.specs.Packed.{all_ranges};
+ghost use Rattle.plan_box.specs.Ranges.{root_of};
 ghost use Rattle.cert_log.specs.Good.{Reaches, MayClose, lesser};
 ghost use Rattle.cert_log.specs.declared.history.Cause.{Cause as CauseOf};
 ghost use Rattle.plan_box.specs.Bounds.{bound as bound_of};
@@ -132,6 +132,7 @@ fn judge_reason(
         defects,
         ranges,
         &mut scratch.steps,
+        &mut scratch.taken,
         &mut scratch.numbers,
     ) {
         Some(first) => {
@@ -159,7 +160,7 @@ fn judge_bound(
     ensures judged { MatchOption result (Reaches loss (bound_of instance.now (map unpacked ranges.now))) (FailsToClose instance.now loss (map unpacked ranges.now) CauseOf.Bound) }
     ensures room { HasRoom (length instance.now.items) scratch.new }
 {
-    let bound = bound(instance, ranges, &mut scratch.steps);
+    let bound = bound(instance, ranges, &mut scratch.steps, &mut scratch.taken);
     if reaches(loss, bound) {
         None
     } else {
@@ -186,12 +187,10 @@ fn is_refuted(
         defects,
         ranges,
         &mut scratch.steps,
+        &mut scratch.taken,
         &mut scratch.numbers,
     );
-    match first {
-        Some(_) => true,
-        None => false,
-    }
+    first.is_some()
 }
 
 /// Why a box may not be closed for this cause, if it may not.
@@ -274,7 +273,12 @@ fn go(
         Node::Split { step, var } => path.split(step, var),
         Node::Closed(_) => path.leave(),
         Node::Left => {
-            let bound = bound(instance, path.stored(), &mut scratch.steps);
+            let bound = bound(
+                instance,
+                path.stored(),
+                &mut scratch.steps,
+                &mut scratch.taken,
+            );
             tally.least = with_bound(tally.least, bound);
             tally.left += 1;
             path.leave()
@@ -292,7 +296,7 @@ pub(crate) fn walk(
 ) -> Result<Walked, Memory>
     requires defects { defects.now ≡ instance.now.defects }
     requires tree { IsTree cert.now.nodes.items }
-    ensures { IfOk result (Finds instance.now (all_ranges (frame_of instance.now) []) loss cert.now) }
+    ensures { IfOk result (Finds instance.now (root_of (frame_of instance.now) 0).ranges loss cert.now) }
 {
     let mut path = Path::new(alloc, instance)?;
     let mut scratch = Scratch::new(alloc, instance.items().len())?;

@@ -1,8 +1,8 @@
 -- Steps that are decided, one after another.
-use Rattle.std.specs.Prelude.{ℕ, ◌+◌, ◌*◌, List, [], ◌∷◌}
+use Rattle.std.specs.Prelude.{◌≡◌, ℕ, ◌+◌, ◌*◌, ◌<◌, List, [], ◌∷◌, length, slice_index_or}
 use Rattle.glass_base.specs.Problem.{Problem}
 use Rattle.plan_trace.specs.declared.level.Level.{Level}
-use Rattle.plan_trace.specs.Marks.{Draw, Place, begins, place_of, band_width, cell_width, cell_height, strip_width, band_total}
+use Rattle.plan_trace.specs.Marks.{Draw, Place, begins, drawn, place_of, band_width, cell_width, cell_height, strip_width, band_total}
 use Rattle.plan_box.specs.Decisions.{draw_at}
 use Rattle.plan_box.specs.declared.packed.Packed.{Packed}
 use Rattle.plan_box.specs.Leasts.{Known, Fixed, fixed, next_known}
@@ -17,6 +17,11 @@ draws_before (r ∷ later) done = draws_before later (draw_at (unpacked r) ∷ d
 -- the draws of decided steps of these ranges, the newest first
 abbrev pub draws_of : List Packed → List Draw
 draws_of ranges = draws_before ranges []
+
+-- how many items of each stack are drawn; there are no more than 800 stacks
+pub record HaveDrawn (draws : List Draw) (counts : List ℕ) : Type 0 where
+  pub many : length counts ≡ 800
+  pub each : (stack : ℕ) → stack < 800 → slice_index_or counts stack 0 ≡ drawn draws stack
 
 -- the step of these ranges behind one that is known
 abbrev pub next_fixed : Problem → List Draw → Known → Ranges → Fixed

@@ -1,5 +1,5 @@
 -- Decided steps as code keeps them, and what is known of each.
-use Rattle.std.specs.Prelude.{◌≡◌, ℕ, ◌-◌, List, [], map, take, length, All, None}
+use Rattle.std.specs.Prelude.{◌≡◌, ℕ, ◌-◌, List, map, length, All, None}
 use Rattle.glass_base.specs.Problem.{Problem}
 use Rattle.plan_trace.specs.declared.level.Level.{Level}
 use Rattle.plan_trace.specs.declared.level.Level.TheVariants.{NewPlate}
@@ -58,19 +58,21 @@ pub record AreKnown (b : Problem) (rs : List Ranges) (steps : List Decided) : Ty
   pub values : map fixed_of steps ≡ known b rs
   pub within : All (λ k. AreWithin 40000000 (known_in k)) steps
 
--- the lists have a place for each of so many items
+-- the lists have a place for each of so many items, and for each stack
 pub record HasRoom (items : ℕ) (s : Scratch) : Type 0 where
   pub steps : length s.steps.items ≡ items
   pub numbers : length s.numbers.items ≡ items
+  pub taken : length s.taken.items ≡ 800
 
 -- what some steps begin
 abbrev pub levels_in : List Decided → List Level
 levels_in steps = map (λ k. k.level) steps
 
--- stand before the first step
+-- the ends that stand before the first step
 abbrev pub no_ends : Ends
 no_ends = record { least_a = 0; high_a = 0; least_b = 0; high_b = 0; least_c = 0; high_c = 0; least_d = 0; high_d = 0; least_e = 0; high_e = 0 }
 
+-- the place that stands before the first step
 abbrev pub no_placed : Placed
 no_placed = record {
   stack = 0;
@@ -89,6 +91,7 @@ no_placed = record {
   area = 0;
 }
 
+-- stands before the first step
 abbrev pub nothing : Decided
 nothing = record { level = NewPlate; place = no_placed; ends = no_ends }
 

@@ -45,11 +45,12 @@ pub record IsPathOf (f : Frame) (ranges : List Packed) (turns : List Turn) : Typ
   pub each_step : length ranges ≡ f.items
   pub each_turn : All (IsTurn f) turns
 
--- the box at hand, and those behind it
+-- the box at hand
 abbrev pub top : List (List Ranges) → List Ranges
 top [] = []
 top (rs ∷ boxes) = rs
 
+-- the boxes that wait behind it
 abbrev pub below : List (List Ranges) → List (List Ranges)
 below [] = []
 below (rs ∷ boxes) = boxes

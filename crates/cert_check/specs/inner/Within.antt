@@ -1,5 +1,5 @@
 -- How large the numbers of decided steps can be.
-use Rattle.std.specs.Prelude.{ℕ, ◌+◌, ◌*◌, ◌≤◌}
+use Rattle.std.specs.Prelude.{ℕ, ◌+◌, ◌*◌, ◌≤◌, ◌<◌}
 use Rattle.plan_box.specs.Leasts.{Known}
 use Rattle.plan_box.specs.Ranges.{Ranges}
 
@@ -29,8 +29,9 @@ pub record AreWithin (n : ℕ) (k : Known) : Type 0 where
 abbrev pub limit : ℕ → ℕ
 limit count = 20000 + 40000 * count
 
--- ranges of which no end is above 20,000
+-- ranges of stacks that there can be, and of which no other end is above 20,000
 pub record AreRangesWithin (r : Ranges) : Type 0 where
+  pub stack : r.stack.low < 800
   pub lift : r.lift.low ≤ 1
   pub low_a : r.a.low ≤ 20000
   pub low_b : r.b.low ≤ 20000

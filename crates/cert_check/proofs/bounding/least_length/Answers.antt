@@ -1,4 +1,4 @@
-use Rattle.std.proofs.Common.{◌≡◌, ℕ, ◌∙◌, ap, sym, arith, max, List, map}
+use Rattle.std.proofs.Common.{◌≡◌, ℕ, ◌∙◌, ap, arith, List, map}
 use Rattle.glass_base.specs.declared.params.Params.{Params}
 use Rattle.glass_base.specs.Items.{area_of}
 use Rattle.plan_box.specs.Bounds.{ceil_div, reached}

@@ -1,4 +1,4 @@
-use Rattle.std.proofs.Common.{◌≡◌, ℕ, sym, ap, ◌∙◌, arith, max, map, get_or, length, ◌-◌}
+use Rattle.std.proofs.Common.{◌≡◌, arith, max, map, get_or, length, ◌-◌}
 use Rattle.plan_box.specs.Bounds.{reached, end_of_strip, end_of_items}
 use Rattle.plan_box.specs.Leasts.{Known}
 use Rattle.cert_check.specs.inner.Knowns.{fixed_of, known_in, nothing}

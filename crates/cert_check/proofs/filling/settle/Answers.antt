@@ -1,4 +1,4 @@
-use Rattle.std.proofs.Common.{◌≡◌, ◌+◌, ◌-◌, ◌<◌, ℕ, List, length, map, take, drop, get_or, refl, ap, sym, ◌∙◌, subst, arith}
+use Rattle.std.proofs.Common.{◌≡◌, ◌+◌, ◌-◌, ◌<◌, List, length, map, take, drop, get_or, refl, ap, sym, ◌∙◌, subst, arith}
 use Rattle.std.proofs.Math.ListN.{set, length-set}
 use Rattle.plan_box.specs.Leasts.{settle, settle_at}
 use Rattle.cert_check.specs.declared.steps.Decided.{Decided}

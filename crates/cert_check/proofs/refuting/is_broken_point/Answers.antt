@@ -1,6 +1,5 @@
-use Rattle.std.proofs.Common.{◌≡◌, ◌∙◌, List, length, map, take, ap, subst, MatchBool}
+use Rattle.std.proofs.Common.{◌≡◌, ◌∙◌, List, length, map, take, ap}
 use Rattle.cut_model.specs.declared.steps.Step.{Step}
-use Rattle.plan_trace.specs.TraceRules.{Meets}
 use Rattle.plan_box.specs.Leasts.{known, least_steps}
 use Rattle.plan_box.specs.Packed.{unpacked}
 use Rattle.cert_check.proofs.Points.{least_written, point_test}

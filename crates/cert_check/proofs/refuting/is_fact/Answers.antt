@@ -1,7 +1,7 @@
 use Rattle.std.proofs.Common.{◌↔◌, Bool, IsTrue, List, map, subst}
 use Rattle.plan_trace.specs.declared.level.Level.TheVariants.{NewPlate}
 use Rattle.plan_box.specs.Decisions.{all_decided}
-use Rattle.plan_box.specs.Leasts.{Fixed, known, no_known}
+use Rattle.plan_box.specs.Leasts.{Fixed, no_known}
 use Rattle.plan_box.specs.Packed.{unpacked}
 use Rattle.plan_box.specs.Reasons.{SomeFixed}
 use Rattle.cert_check.specs.inner.Facts.{FactOf}

@@ -1,6 +1,6 @@
 use Rattle.std.proofs.Common.{rules, ℕ, ◌<◌, List, [], length, get_or, sym, ap, ◌∙◌, subst, arith, All}
 use Rattle.plan_box.specs.Frames.{frame_of}
-use Rattle.plan_box.specs.Packed.{all_ranges}
+use Rattle.plan_box.specs.Ranges.{root_of}
 use Rattle.plan_box.specs.declared.var.Var.{Var}
 use Rattle.cert_log.specs.declared.certificate.Node.{Node}
 use Rattle.cert_log.specs.Good.{least_of}
@@ -16,7 +16,7 @@ no_node = Node.Split 0 Var.Stack
 
 pub loop-node-init : goal.loop-node-init
 loop-node-init c = record {
-  walking = starts c.args.instance.now (all_ranges (frame_of c.args.instance.now) []) c.args.loss c.args.cert.now c.in_ok-path.path.boxes c.in_ok-path.ensures.boxes;
+  walking = starts c.args.instance.now (root_of (frame_of c.args.instance.now) 0).ranges c.args.loss c.args.cert.now c.in_ok-path.path.boxes c.in_ok-path.ensures.boxes;
   room = subst (λ (n : ℕ). HasRoom n c.in_ok-scratch.scratch) (ap (λ (xs : _). length xs) c.items.ensures.value) c.in_ok-scratch.ensures;
   frame = c.in_ok-path.ensures.frame;
   line = omega arith;

@@ -1,13 +1,13 @@
 use Rattle.std.proofs.Common.{◌≡◌, ◌≤◌, ◌+◌, [], length}
 use Rattle.plan_box.specs.Frames.{frame_of}
-use Rattle.plan_box.specs.Packed.{all_ranges}
+use Rattle.plan_box.specs.Ranges.{root_of}
 use Rattle.cert_check.specs.inner.Knowns.{HasRoom}
 use Rattle.cert_check.specs.inner.Walks.{IsWalking}
 use Rattle.cert_check.proofs.walk.walk.Given as goal
 
 abbrev pub invariant-loop-node : goal.invariant-loop-node
 invariant-loop-node l = record {
-  walking : IsWalking l.instance (all_ranges (frame_of l.instance) []) l.loss l.cert l.node-index l.path.boxes l.place l.tally;
+  walking : IsWalking l.instance (root_of (frame_of l.instance) 0).ranges l.loss l.cert l.node-index l.path.boxes l.place l.tally;
   room : HasRoom (length l.instance.items) l.scratch;
   frame : l.path.frame ≡ frame_of l.instance;
   line : l.place.line ≤ l.node-index + 1;

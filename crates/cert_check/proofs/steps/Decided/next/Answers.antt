@@ -1,8 +1,8 @@
-use Rattle.std.proofs.Common.{◌≡◌, ◌+◌, ◌*◌, ◌≤◌, IfSome, Option, arith, ap, subst}
+use Rattle.std.proofs.Common.{◌+◌, ◌*◌, IfSome, Option, arith, ap, subst}
 use Rattle.glass_base.specs.declared.item.Item.{Item}
 use Rattle.glass_base.specs.Items.{IsItemInRange}
 use Rattle.glass_base.specs.Problem.{item_at}
-use Rattle.plan_trace.specs.Marks.{Draw, Place, begins, drawn, item_height}
+use Rattle.plan_trace.specs.Marks.{Place, begins, drawn, item_height}
 use Rattle.plan_box.specs.Decisions.{draw_at}
 use Rattle.plan_box.specs.Packed.{unpacked}
 use Rattle.cert_check.specs.inner.Follows.{draws_of}

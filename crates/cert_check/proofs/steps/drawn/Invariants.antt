@@ -1,7 +1,0 @@
-use Rattle.std.proofs.Common.{◌≡◌, ◌≤◌, take}
-use Rattle.plan_trace.specs.Marks.{drawn}
-use Rattle.cert_check.specs.inner.Follows.{draws_of}
-use Rattle.cert_check.proofs.steps.drawn.Given as goal
-
-abbrev pub invariant-loop-ranges : goal.invariant-loop-ranges
-invariant-loop-ranges l = (l.count ≡ drawn (draws_of (take l.ranges-index l.before)) l.stack) × (l.count ≤ l.ranges-index)
