@@ -1,14 +1,13 @@
 -- Words that set a count.
-use Rattle.std.proofs.Common.{◌≡◌, ◌<◌, ◌≤◌, ◌^◌, ◌&&◌, ℕ, List, [], ◌∷◌, ◌++◌, Bool, true, false, cond, length, take, drop, arith, refl, sym, subst, inl, inr, Option, None, Some}
-use Rattle.std.specs.Prelude.{nat_le, nat_lt, not, Result, Ok, Err}
+use Rattle.std.proofs.Common.{◌≡◌, ◌<◌, ◌≤◌, ◌^◌, ◌&&◌, ℕ, List, Bool, true, false, cond, length, arith, refl, subst, inl, inr, Option, None, Some}
+use Rattle.std.specs.Prelude.{nat_le, nat_lt, not, Result, Err}
 use Rattle.std.specs.Char.{is_ascii_digit}
 use Rattle.std.specs.Int.{IsInRange}
 use Rattle.std.specs.List.{list_all}
-use Rattle.std.specs.Str.{bytes_eq}
 use Rattle.std.specs.Str.Parse.{ParsesUnsigned, digits_value}
 use Rattle.std.specs.Str.Pattern.{LacksTextAt}
 use Rattle.std.proofs.lemmas.Bool.{cases_Bool}
-use Rattle.std.proofs.lemmas.Str.Parse.{IsDigitsTest, IsNumeralModel, numerals_by_value, parse_digits}
+use Rattle.std.proofs.lemmas.Str.Parse.{IsDigitsTest, numerals_by_value, parse_digits}
 use Rattle.glass_run.specs.Grammar.{count_front, count_value, has_leading_zero, is_number, number_upto}
 use Rattle.glass_run.specs.declared.grammar.Count.{Count}
 use Rattle.glass_run.proofs.Prefixes.{front_differs}

@@ -1,9 +1,8 @@
 -- What a user may conclude from how a search ended.
-use Rattle.std.proofs.Common.{◌≡◌, ◌≢◌, ℕ, zero, suc, ◌<◌, ◌≤◌, ◌+◌, ◌-◌, ◌^◌, List, [], ◌∷◌, length, Bool, true, false, cond, arith, refl, sym, ap, subst, ◌∙◌, inl, inr, Option, Some, None}
-use Rattle.std.specs.Prelude.{◌==◌, ◌↔◌, is_some, option_map}
+use Rattle.std.proofs.Common.{◌≡◌, ℕ, zero, suc, ◌<◌, ◌≤◌, ◌+◌, ◌-◌, ◌^◌, List, [], ◌∷◌, length, Bool, true, false, cond, arith, refl, sym, ap, subst, ◌∙◌, inl, inr, Option}
+use Rattle.std.specs.Prelude.{◌==◌, is_some}
 use Rattle.glass_base.specs.Problem.{Problem}
 use Rattle.glass_io.specs.Told.{Contents}
-use Rattle.cut_model.specs.Tree.{Forest, neighbour_count}
 use Rattle.plan_box.specs.Frames.{frame_of}
 use Rattle.plan_box.specs.Halves.{IsDepth}
 use Rattle.plan_box.specs.Ranges.{Ranges}
@@ -14,7 +13,7 @@ use Rattle.glass_run.specs.Answers.{Answer}
 use Rattle.glass_run.specs.Commands.{AnswersInstance, out_of, second_out_of}
 use Rattle.glass_run.specs.Grammar.{Line, count_in}
 use Rattle.glass_run.specs.Headlines.{Ended, IsSearchEnd, StoresSearch}
-use Rattle.glass_run.specs.Plans.{PlansWithin, Plans, IsFound, ending, handled, planned, root_ranges}
+use Rattle.glass_run.specs.Plans.{PlansWithin, ending, handled, planned, root_ranges}
 use Rattle.glass_run.specs.Runs.{Completes, LineRun, Prints, RunsTo, Stands, World}
 use Rattle.glass_run.specs.declared.grammar.Count.TheVariants as count
 use Rattle.glass_run.specs.declared.grammar.Verb.{Verb}

@@ -1,21 +1,19 @@
 -- What a search finds, from its lawful history.
-use Rattle.std.proofs.Common.{◌≡◌, ◌≢◌, ℕ, ◌<◌, ◌≤◌, ◌+◌, ◌-◌, ◌*◌, ◌^◌, List, [], ◌∷◌, ◌++◌, length, Bool, true, cond, arith, refl, sym, ap, ◌∙◌, subst, inl, inr, Option, Some, None}
-use Rattle.std.specs.Prelude.{All, IfNone, IfSome, nat_lt, option_map, option_to_list, sum_by, count_by, not}
+use Rattle.std.proofs.Common.{◌≡◌, ◌≢◌, ℕ, ◌<◌, ◌≤◌, ◌+◌, ◌*◌, List, [], ◌∷◌, ◌++◌, length, arith, refl, sym, ◌∙◌, subst, inl, inr, Option, Some, None}
+use Rattle.std.specs.Prelude.{All, IfNone, IfSome, nat_lt, sum_by}
 use Rattle.std.specs.List.{AllZip}
 use Rattle.std.proofs.lemmas.Bool.{cases_Bool}
 use Rattle.std.proofs.lemmas.List.Elements.{All-head}
 use Rattle.std.proofs.Math.Nat.{mul-le-mul_left}
 use Rattle.glass_base.specs.Items.{area_of}
 use Rattle.glass_base.specs.Problem.{Problem, IsProblem}
-use Rattle.cut_model.specs.declared.plan.Plan.{Plan}
 use Rattle.cut_model.specs.declared.steps.Step.{Step}
 use Rattle.cut_model.specs.declared.steps.Trace.{Trace}
 use Rattle.cut_model.specs.Lawful.{IsLawful as IsLawfulPlan}
 use Rattle.cut_model.specs.Loss.{loss_of as plan_loss}
 use Rattle.cut_model.specs.Steps.{length_of}
-use Rattle.cut_model.specs.Tree.{Forest, tree}
+use Rattle.cut_model.specs.Tree.{Forest}
 use Rattle.plan_trace.specs.Canonical.{canonical}
-use Rattle.plan_trace.specs.Claims.{IsComplete}
 use Rattle.plan_trace.proofs.Good.{canonical_loses}
 use Rattle.plan_draft.specs.Drafts.{HasNoDraft, IsDraft, IsDraftPlan}
 use Rattle.plan_draft.proofs.Complete.{draft_complete}
@@ -26,9 +24,8 @@ use Rattle.cert_log.specs.declared.certificate.Certificate.{Certificate}
 use Rattle.cert_log.specs.declared.history.History.{History}
 use Rattle.cert_log.specs.declared.history.Left.{Left}
 use Rattle.cert_log.specs.Good.{AreGood, IsGood, IsVersion, Reaches}
-use Rattle.cert_log.specs.Lawful.{IsBest, IsLawful, loss_of, no_loss, trace_loss}
+use Rattle.cert_log.specs.Lawful.{IsLawful, loss_of, no_loss, trace_loss}
 use Rattle.cert_log.specs.Splits.{AreSearched, IsSearched}
-use Rattle.cert_log.specs.Trees.{is_left}
 use Rattle.cert_log.proofs.Covers.{bounds_each_plan}
 use Rattle.cert_log.proofs.GoodNodes.{good_counts}
 use Rattle.box_workers.specs.Runs.{first_loss}

@@ -1,4 +1,4 @@
-use Rattle.std.proofs.Common.{rules, [], ◌≡◌, inl, inr}
+use Rattle.std.proofs.Common.{rules, ◌≡◌, inl, inr}
 use Rattle.plan_box.specs.Frames.{frame_of}
 use Rattle.plan_box.specs.Ranges.{root_of}
 use Rattle.cert_check.specs.declared.walk.Walked.{Walked}

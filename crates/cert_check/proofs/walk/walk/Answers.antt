@@ -1,4 +1,4 @@
-use Rattle.std.proofs.Common.{rules, ℕ, ◌<◌, List, [], length, get_or, sym, ap, ◌∙◌, subst, arith, All}
+use Rattle.std.proofs.Common.{rules, ℕ, ◌<◌, List, length, get_or, sym, ap, ◌∙◌, subst, arith, All}
 use Rattle.plan_box.specs.Frames.{frame_of}
 use Rattle.plan_box.specs.Ranges.{root_of}
 use Rattle.plan_box.specs.declared.var.Var.{Var}

@@ -1,4 +1,4 @@
-use Rattle.std.proofs.Common.{arith, sym}
+use Rattle.std.proofs.Common.{arith}
 use Rattle.cut_model.specs.Tree.{tree}
 use Rattle.glass_run.proofs.Searched.{best_plan}
 use Rattle.glass_run.proofs.planning.best_plan.Goals as goal

@@ -1,4 +1,3 @@
-use Rattle.std.proofs.Common.{refl}
 use Rattle.glass_run.proofs.Searched.{found}
 use Rattle.glass_run.proofs.planning.find.Goals as goal
 

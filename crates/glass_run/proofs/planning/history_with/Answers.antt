@@ -1,6 +1,4 @@
-use Rattle.std.proofs.Common.{subst, sym}
 use Rattle.std.proofs.lemmas.Result.{IfOk-weaker}
-use Rattle.glass_run.specs.inner.Searches.{IsHistory}
 use Rattle.glass_run.proofs.Searched.{from_first}
 use Rattle.glass_run.proofs.planning.history_with.Goals as goal
 

@@ -1,7 +1,7 @@
 use Rattle.std.proofs.Common.{ℕ, subst, sym}
 use Rattle.std.proofs.lemmas.Result.{IfOk-weaker}
 use Rattle.glass_run.specs.Answers.{Answer}
-use Rattle.glass_run.specs.Commands.{AnswersInstance, out_of, second_out_of}
+use Rattle.glass_run.specs.Commands.{out_of, second_out_of}
 use Rattle.glass_run.specs.Grammar.{stored_names}
 use Rattle.glass_run.specs.Judgements.{JudgesText}
 use Rattle.glass_base.specs.declared.role.Role.TheVariants as role

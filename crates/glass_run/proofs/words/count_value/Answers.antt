@@ -1,4 +1,3 @@
-use Rattle.std.proofs.Common.{sym}
 use Rattle.glass_run.proofs.Counts.{sets_none}
 use Rattle.glass_run.proofs.words.count_value.Goals as goal
 
