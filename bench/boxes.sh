@@ -1,7 +1,8 @@
 #!/usr/bin/env bash
 # Prints how many boxes are handled in a second of processor time: the time of a search less that of the same search with a budget of one
-# box, each the least of three runs. WORD START ITEMS DEFECTS BUDGET as arguments ask for another search than those of the table
-# (crates/box_speed/src/main.rt has the words). The program is proved and built first, which takes some minutes where crates changed.
+# box, each the least of three runs; beside other work it varies by a factor of two. WORD START ITEMS DEFECTS BUDGET as arguments ask for
+# another search than those of the table (crates/box_speed/src/main.rt has the words). The program is proved and built first, which takes
+# some minutes where crates changed.
 set -eu
 top=$(cd "$(dirname "$(readlink -f "$0")")/.." && pwd)
 work=$(mktemp -d)

@@ -11,17 +11,18 @@ mod searching;
 
 use crate::searching::{Choice, Count, search};
 use anyhow::{bail, ensure};
+use defect_map::DefectMap;
+use glass_base::Instance;
 use glass_gen::generate;
 use std::alloc::Global;
-use std::io;
 
 /// The choice with this word.
-fn choice_of(word: &str) -> Option<Choice> {
+fn choice_of(word: &str) -> anyhow::Result<Choice> {
     match word {
-        "speed" => Some(Choice::NoProbe),
-        "first" => Some(Choice::First),
-        "broken" => Some(Choice::Broken),
-        _ => None,
+        "speed" => Ok(Choice::NoProbe),
+        "first" => Ok(Choice::First),
+        "broken" => Ok(Choice::Broken),
+        _ => bail!("{word} is no search"),
     }
 }
 
@@ -34,30 +35,39 @@ fn numbers_of(alloc: Global, written: &str) -> anyhow::Result<Vec<u32>> {
     Ok(numbers)
 }
 
+/// The start, the numbers of items and of defects, and the budget that are written so.
+fn asked_by(alloc: Global, written: &str) -> anyhow::Result<(u32, u32, u32, u32)> {
+    let numbers = numbers_of(alloc, written)?;
+    match numbers.as_slice() {
+        [start, items, defects, budget] => Ok((*start, *items, *defects, *budget)),
+        _ => bail!("a search has four numbers"),
+    }
+}
+
+/// The instance that is drawn.
+fn drawn(alloc: Global, start: u32, items: u32, defects: u32) -> anyhow::Result<Instance> {
+    ensure!(1 <= items && items <= 800, "1 to 800 items are drawn");
+    ensure!(defects <= 20_000, "at most 20,000 defects are drawn");
+    Ok(generate(alloc, start, items, defects)?)
+}
+
 /// How the search goes that a line asks for.
 fn count_of(alloc: Global, line: &str) -> anyhow::Result<Count> {
     let (word, written) = line.split_once(' ').unwrap_or((line, ""));
-    let Some(choice) = choice_of(word) else {
-        bail!("{word} is no search");
-    };
-    let numbers = numbers_of(alloc, written)?;
-    let [start, items, defects, budget] = *numbers.as_slice() else {
-        bail!("a search has four numbers");
-    };
-    ensure!(1 <= items && items <= 800, "1 to 800 items are drawn");
-    ensure!(defects <= 20_000, "at most 20,000 defects are drawn");
-    let instance = generate(alloc, start, items, defects)?;
-    Ok(search(alloc, &instance, choice, budget)?)
+    let choice = choice_of(word)?;
+    let (start, items, defects, budget) = asked_by(alloc, written)?;
+    let instance = drawn(alloc, start, items, defects)?;
+    let map = DefectMap::new(alloc, &instance)?;
+    search(alloc, &instance, &map, choice, budget)
 }
 
 fn main(rt: HostRuntime) -> anyhow::Result<()> {
-    let asked = io::read_to_string(rt.alloc(), rt.reader())?;
-    for line in asked.as_str().lines() {
-        let count = count_of(rt.alloc(), line)?;
-        print!(rt; "{line}: {} boxes, {} open", count.boxes, count.open)?;
-        match count.loss {
-            Some(loss) => println!(rt; ", loss {loss}")?,
-            None => println!(rt)?,
+    for line in rt.lines(rt.alloc()) {
+        let line = line?;
+        let Count { boxes, open, loss } = count_of(rt.alloc(), line.as_str())?;
+        match loss {
+            Some(loss) => println!(rt; "{line}: {boxes} boxes, {open} open, loss {loss}")?,
+            None => println!(rt; "{line}: {boxes} boxes, {open} open")?,
         }
     }
     Ok(())

@@ -1,7 +1,7 @@
 //! A search with one worker, last in first out.
 
-ghost use Rattle.std.specs.Prelude.{◌≡◌, All, IfSome, IsTrue, OnOk};
-ghost use Rattle.box_bound.specs.Leastings.{IsFor, IsOf};
+ghost use Rattle.std.specs.Prelude.{◌≡◌, All, IfOk, IfSome, IsTrue, OnOk};
+ghost use Rattle.box_bound.specs.Leastings.{IsOf};
 ghost use Rattle.plan_box.specs.Decisions.{is_free};
 ghost use Rattle.plan_box.specs.Frames.{frame_of};
 ghost use Rattle.plan_trace.specs.TraceRules.{Meets};
@@ -14,8 +14,8 @@ use first_plan::first_plan;
 use glass_base::{Instance, Memory, Run, append};
 use loss_area::length;
 use plan_box::{PlanBox, Var};
+use plan_trace::first_broken;
 use plan_trace::laws::traces_keep_their_kinds;
-use plan_trace::{TraceBroken, first_broken};
 use std::alloc::Global;
 
 /// Where a box is split, and whether it is probed.
@@ -30,7 +30,6 @@ pub enum Choice {
 }
 
 /// How a search went.
-#[derive(Clone, Copy)]
 pub struct Count {
     /// How many boxes were handled.
     pub boxes: u32,
@@ -60,7 +59,7 @@ fn loss(instance: &Instance, trace: &Trace) -> u64
     glass.saturating_sub(instance.area())
 }
 
-/// What a search begins with: nothing is known where nothing is probed, and else the first plan.
+/// What a search begins with: the first plan, or nothing where nothing is to be probed.
 fn first_hand(
     alloc: Global,
     instance: &Instance,
@@ -81,41 +80,7 @@ fn first_hand(
     Ok(Hand { best, trace })
 }
 
-/// Whether no plan in the box is better than the best.
-fn is_closed(instance: &Instance, map: &DefectMap, leasts: &Leasts, bx: &PlanBox, best: u64) -> bool
-    requires map { map.now ≡ instance.now.defects }
-    requires instance { bx.now.frame ≡ frame_of instance.now }
-    requires leasts { IsFor instance.now bx.now leasts.now }
-{
-    refuted_at(instance, map, leasts, bx).is_some() || bound_at(instance, leasts, bx) >= best
-}
-
-/// Probes a box whose steps are all decided. Where its least values meet the rules, the best loss falls; else the rule that they break.
-fn probed(
-    instance: &Instance,
-    map: &DefectMap,
-    leasts: &Leasts,
-    bx: &PlanBox,
-    hand: &mut Hand,
-) -> Option<TraceBroken>
-    requires map { map.now ≡ instance.now.defects }
-    requires instance { bx.now.frame ≡ frame_of instance.now }
-    requires leasts { IsFor instance.now bx.now leasts.now }
-{
-    let Hand { best, trace } = hand;
-    let items = instance.items().len();
-    // The trace has a step for each item, as the first plan has.
-    if !bx.is_decided() || trace.steps.len() != items {
-        return None;
-    }
-    if probe_at(instance, map, leasts, bx, trace) {
-        *best = (*best).min(loss(instance, trace));
-        return None;
-    }
-    first_broken(instance, map, trace.steps.as_slice().get(..items)?)
-}
-
-/// Where a box is to be split; None where it is closed.
+/// Where a box is to be split; None where it is closed. It is probed where all its steps are decided and the hand has a trace.
 fn handled(
     instance: &Instance,
     map: &DefectMap,
@@ -130,21 +95,26 @@ fn handled(
     ensures leasts { IsOf instance.now leasts.new }
     ensures free { IfSome result (λ p. IsTrue (is_free bx.now.ranges p.0 p.1)) }
 {
+    let Hand { best, trace } = hand;
+    let items = instance.items().len();
     leasts.fill(instance, bx);
-    if is_closed(instance, map, leasts, bx, hand.best) {
+    if refuted_at(instance, map, leasts, bx).is_some() || bound_at(instance, leasts, bx) >= *best {
         return None;
     }
-    if choice == Choice::NoProbe {
+    if !bx.is_decided() || trace.steps.len() != items {
         return choose(bx);
     }
-    let broken = probed(instance, map, leasts, bx, hand);
-    if bound_at(instance, leasts, bx) >= hand.best {
-        None
-    } else if choice == Choice::First {
-        choose(bx)
-    } else {
-        choose_at(leasts, bx, broken)
+    if probe_at(instance, map, leasts, bx, trace) {
+        // No plan in the box loses less.
+        *best = (*best).min(loss(instance, trace));
+        return None;
     }
+    if choice == Choice::First {
+        return choose(bx);
+    }
+    // The slice is the whole trace: it only says that there are few steps.
+    let broken = first_broken(instance, map, trace.steps.as_slice().get(..items)?);
+    choose_at(leasts, bx, broken)
 }
 
 /// Puts the halves of a box where it is split, if it is, the lower one last.
@@ -169,30 +139,81 @@ fn split(
     append(waiting, lower)
 }
 
-/// A search of so many boxes at the most, the last one first.
+/// Handles so many waiting boxes at the most, the last one first, and tells how many.
+fn handle_all(
+    alloc: Global,
+    instance: &Instance,
+    map: &DefectMap,
+    leasts: &mut Leasts,
+    hand: &mut Hand,
+    choice: Choice,
+    waiting: &mut Run<PlanBox>,
+    budget: u32,
+) -> Result<u32, Memory>
+    requires map { map.now ≡ instance.now.defects }
+    requires leasts { IsOf instance.now leasts.old }
+    requires waiting { All (λ x. x.frame ≡ frame_of instance.now) waiting.old.items }
+{
+    for number in 0..budget {
+        let Some(bx) = waiting.pop() else {
+            return Ok(number);
+        };
+        let chosen = handled(instance, map, leasts, &bx, hand, choice);
+        split(alloc, instance, bx, chosen, waiting)?;
+    }
+    Ok(budget)
+}
+
+/// The box of all plans, as the only one that waits.
+fn first_boxes(alloc: Global, instance: &Instance) -> Result<Run<PlanBox>, Memory>
+    ensures { IfOk result (λ waiting. All (λ x. x.frame ≡ frame_of instance.now) waiting.items) }
+{
+    let mut waiting = Run::new(alloc);
+    append(&mut waiting, PlanBox::root(alloc, instance, 0)?)?;
+    Ok(waiting)
+}
+
+/// How many boxes are handled from the box of all plans on, and how many are left.
+fn boxes_from(
+    alloc: Global,
+    instance: &Instance,
+    map: &DefectMap,
+    hand: &mut Hand,
+    choice: Choice,
+    budget: u32,
+) -> Result<(u32, usize), Memory>
+    requires map { map.now ≡ instance.now.defects }
+{
+    let mut leasts = Leasts::new(alloc, instance)?;
+    let mut waiting = first_boxes(alloc, instance)?;
+    let boxes = handle_all(
+        alloc,
+        instance,
+        map,
+        &mut leasts,
+        hand,
+        choice,
+        &mut waiting,
+        budget,
+    )?;
+    Ok((boxes, waiting.len()))
+}
+
+/// A search of so many boxes at the most.
 pub fn search(
     alloc: Global,
     instance: &Instance,
+    map: &DefectMap,
     choice: Choice,
     budget: u32,
-) -> anyhow::Result<Count> {
-    let map = DefectMap::new(alloc, instance)?;
-    let mut hand = first_hand(alloc, instance, &map, choice)?;
-    let mut leasts = Leasts::new(alloc, instance)?;
-    let mut waiting = Run::new(alloc);
-    append(&mut waiting, PlanBox::root(alloc, instance, 0)?)?;
-    let mut boxes = 0;
-    for number in 0..budget {
-        let Some(bx) = waiting.pop() else {
-            break;
-        };
-        boxes = number + 1;
-        let chosen = handled(instance, &map, &mut leasts, &bx, &mut hand, choice);
-        split(alloc, instance, bx, chosen, &mut waiting)?;
-    }
+) -> anyhow::Result<Count>
+    requires map { map.now ≡ instance.now.defects }
+{
+    let mut hand = first_hand(alloc, instance, map, choice)?;
+    let (boxes, open) = boxes_from(alloc, instance, map, &mut hand, choice, budget)?;
     Ok(Count {
         boxes,
-        open: waiting.len(),
+        open,
         loss: (choice != Choice::NoProbe).then_some(hand.best),
     })
 }
