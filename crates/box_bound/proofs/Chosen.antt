@@ -3,8 +3,7 @@ use Rattle.std.proofs.Common.{◌≡◌, ℕ, ◌<◌, List, length, inl, inr, B
 use Rattle.std.proofs.lemmas.Bool.{cases_lt, cases_order}
 use Rattle.plan_trace.specs.declared.level.Level.{Level}
 use Rattle.plan_box.specs.declared.var.Var.{Var}
-use Rattle.plan_box.specs.Decisions.{IsPoint, decided, is_discrete, is_free, is_single, opens}
-use Rattle.plan_box.specs.inner.Openings.{level_at}
+use Rattle.plan_box.specs.Decisions.{IsPoint, decided, is_discrete, is_free, is_single, level_at, opens}
 use Rattle.plan_box.specs.Packed.{unpacked}
 use Rattle.plan_box.specs.Ranges.{Ranges, span_of}
 use Rattle.box_bound.specs.Kept.{blank}

@@ -9,7 +9,8 @@ use Rattle.plan_box.specs.declared.reason.Reason.{Reason}
 use Rattle.plan_box.specs.Leasts.{Fixed, fixed, Known}
 use Rattle.plan_box.specs.Ranges.{Ranges}
 use Rattle.plan_box.specs.Reasons.{Applies, AtSome, IsFirstReason, IsRefuted, R7, SomeFixed, reason_number}
-use Rattle.box_bound.specs.inner.Seen.{AppliesEarly, IsFirstIfAny, StepOf}
+use Rattle.box_bound.specs.inner.Seen.{AppliesEarly, IsFirstIfAny}
+use Rattle.plan_box.specs.inner.Facts.{FactOf}
 use Rattle.box_bound.proofs.Seeing.{first_same}
 
 none_at : (m : Level) (j : Known) (ks : List Fixed) → SomeFixed (λ _ _ _ _ _. ⊥) m j ks → ⊥
@@ -21,7 +22,7 @@ none_at m j (fixed l k ∷ ks) h =
     ]
 
 -- where no more glass is needed than there is
-short_same : (b : Problem) (rs : List Ranges) → ¬ (Before b b.params.plates < least_length b rs) → (r : Reason) → AtSome (StepOf b (all_decided rs) r) b rs ↔ AppliesEarly b rs r
+short_same : (b : Problem) (rs : List Ranges) → ¬ (Before b b.params.plates < least_length b rs) → (r : Reason) → AtSome (FactOf b (all_decided rs) r) b rs ↔ AppliesEarly b rs r
 short_same b rs short Reason.R1 = (
   (λ h. inl h),
   (λ h. elim h [
@@ -46,13 +47,13 @@ none_less P Reason.R6 lt = absurd (omega (arith, lt))
 none_less P Reason.R7 lt = absurd (omega (arith, lt))
 
 -- the first reason before R7, by what was seen at the steps and by the length
-pub early_first : (b : Problem) (rs : List Ranges) (seen result : Option Reason) (length : ℕ) (long : Bool) → IsFirstIfAny (λ r. AtSome (StepOf b (all_decided rs) r) b rs) seen → length ≡ least_length b rs →
+pub early_first : (b : Problem) (rs : List Ranges) (seen result : Option Reason) (length : ℕ) (long : Bool) → IsFirstIfAny (λ r. AtSome (FactOf b (all_decided rs) r) b rs) seen → length ≡ least_length b rs →
     (IsTrue long ↔ (Before b b.params.plates < length)) → (long ≡ true → result ≡ Some Reason.R1) → (long ≡ false → result ≡ seen) → IsFirstIfAny (AppliesEarly b rs) result
 early_first b rs seen result length true h same test is_long is_short =
     rw (is_long refl) (inr (subst (λ (n : ℕ). Before b b.params.plates < n) same (test.0 refl)), λ other lt. none_less (AppliesEarly b rs) other lt)
 early_first b rs seen result length false h same test is_long is_short =
     let short : ¬ (Before b b.params.plates < least_length b rs) = λ more. absurd (cc (test.1 (subst (λ (n : ℕ). Before b b.params.plates < n) (sym same) more))) in
-    rw (is_short refl) (first_same (λ r. AtSome (StepOf b (all_decided rs) r) b rs) (AppliesEarly b rs) seen (short_same b rs short) h)
+    rw (is_short refl) (first_same (λ r. AtSome (FactOf b (all_decided rs) r) b rs) (AppliesEarly b rs) seen (short_same b rs short) h)
 
 early_other : (b : Problem) (rs : List Ranges) (r : Reason) → reason_number r < 7 → Applies r b rs → AppliesEarly b rs r
 early_other b rs Reason.R1 lt h = h
@@ -71,11 +72,6 @@ early_applies b rs Reason.R4 h = (h, omega arith)
 early_applies b rs Reason.R5 h = (h, omega arith)
 early_applies b rs Reason.R6 h = (h, omega arith)
 early_applies b rs Reason.R7 h = absurd h
-
-pub first_early : (b : Problem) (rs : List Ranges) (r : Reason) → IsFirstIfAny (AppliesEarly b rs) (Some r) → IsFirstReason b rs r
-first_early b rs r h =
-    let here = early_applies b rs r h.0 in
-    record { applies = here.0; none_before = λ other lt applied. h.1 other lt (early_other b rs other (omega (arith, lt, here.1)) applied) }
 
 pub first_seventh : (b : Problem) (rs : List Ranges) → IsFirstIfAny (AppliesEarly b rs) None → R7 b rs → IsFirstReason b rs Reason.R7
 first_seventh b rs h broken = record { applies = broken; none_before = λ other lt applied. h other (early_other b rs other lt applied) }

@@ -1,11 +1,6 @@
-pub mod Draws
-pub mod Sizes
-pub mod Levels
 pub mod Seeing
 pub mod Settling
-pub mod Following
 pub mod Lengths
-pub mod Pointed
 pub mod Firsts
 pub mod Writing
 pub mod Extending

@@ -2,7 +2,7 @@
 use Rattle.std.proofs.Common.{◌≡◌, ℕ, suc, ◌+◌, ◌<◌, ◌≤◌, List, [], ◌∷◌, ◌++◌, length, map, take, drop, get_or, refl, ap, sym, ◌∙◌, subst, arith, append_assoc, All, IfSome, Option, Some, None}
 use Rattle.std.proofs.Math.ListN.{set}
 use Rattle.std.proofs.lemmas.List.{drop_more, length-drop, length-map, length-take-le, set_at, take_more}
-use Rattle.std.proofs.lemmas.List.Elements.{All-drop, All-get_or}
+use Rattle.std.proofs.lemmas.List.Elements.{All-drop, All-get_or, All-map}
 use Rattle.glass_base.specs.Problem.{Problem, IsProblem}
 use Rattle.cut_model.specs.declared.steps.Step.{Step}
 use Rattle.plan_trace.specs.declared.level.Level.{Level}
@@ -16,16 +16,16 @@ use Rattle.plan_box.specs.Ranges.{Ranges}
 use Rattle.plan_box.specs.Reasons.{SomeFixed, fixed_levels}
 use Rattle.box_bound.specs.declared.ends.Ends.{Ends}
 use Rattle.box_bound.specs.declared.kept.Kept.{Kept}
-use Rattle.box_bound.specs.Kept.{early, early_fixed, follow, late, with_ends}
-use Rattle.box_bound.specs.inner.Drawn.{draws_of, levels_of, next_fixed}
+use Rattle.box_bound.specs.Kept.{early, early_fixed, late, with_ends}
+use Rattle.plan_box.specs.inner.Follows.{follow, draws_of, next_fixed}
+use Rattle.box_bound.specs.inner.Drawn.{levels_of}
 use Rattle.box_bound.specs.inner.Seen.{IsFirstIfAny, earlier}
 use Rattle.box_bound.specs.inner.Walks.{AreLevels, IsHead, SomeBehind, steps_from}
-use Rattle.box_bound.specs.inner.Within.{AreRangesWithin, AreWithin, limit}
-use Rattle.box_bound.proofs.Draws.{draws_more}
-use Rattle.box_bound.proofs.Extending.{item_within}
-use Rattle.box_bound.proofs.Filled.{AllFixed, all_unpacked, follow_within, settle_within}
+use Rattle.plan_box.specs.inner.Within.{AreRangesWithin, AreWithin, limit, AllFixed}
+use Rattle.plan_box.proofs.Draws.{draws_more}
+use Rattle.plan_box.proofs.Limits.{item_within, follow_within, settle_within}
 use Rattle.box_bound.proofs.Seeing.{Reasoning, first_or}
-use Rattle.box_bound.proofs.Sizes.{next_within, within_same}
+use Rattle.plan_box.proofs.Sizes.{next_within, within_same}
 
 -- the steps from one on are this one, with the values that it takes over, and those behind it
 pub steps_one : (b : Problem) (ranges : List Packed) (at : ℕ) (k : Known) (y : Kept) (d : Packed) → at < length ranges → early_fixed y ≡ next_fixed b (draws_of (take at ranges)) k (unpacked (get_or ranges at d)) →
@@ -99,10 +99,6 @@ seen_first R l k (fixed m j ∷ ks) next ranges later first now seen head levels
     (subst (λ (ls : List Level). IsFirstIfAny (λ r. R r l k next.level (late next) ls) now) ahead h)) in
     first_or (λ r. R r l k m j (fixed_levels ks)) (λ r. SomeFixed (R r) m j ks) now seen here g
 
-pub seen_none : (R : Reason → Reasoning) (l : Level) (k : Known) (ks : List Fixed) (next : Kept) (ranges : List Packed) (P : Type 0) → IsHead (Some next) ks → AreLevels ks ranges → ranges ≡ [] → P
-seen_none R l k [] next ranges P head levels is = absurd head
-seen_none R l k (x ∷ ks) next ranges P head levels is = absurd (omega (arith, levels.count, ap length is))
-
 -- the next step is within the next limit
 pub step_within : (b : Problem) → IsProblem b → (ranges : List Packed) (at n : ℕ) (k : Known) (y : Kept) (d : Packed) → at < length ranges → n ≡ at + 1 → All (λ x. AreRangesWithin (unpacked x)) ranges → AreWithin (limit at) k →
     early_fixed y ≡ next_fixed b (draws_of (take at ranges)) k (unpacked (get_or ranges at d)) → AreWithin (limit n) (early y)
@@ -127,7 +123,7 @@ pub head_within : (b : Problem) → IsProblem b → (ranges : List Packed) (at :
     IsHead first (steps_from b ranges at k) → IfSome first (λ (x : Kept). AreWithin 40000000 (late x))
 head_within b rules ranges at k first le few within h head =
     let rest : List Packed = drop at ranges in
-    let all = follow_within b rules (draws_of (take at ranges)) k (limit at) 40000000 (map unpacked rest) h (omega arith) (all_unpacked rest (All-drop (λ (x : Packed). AreRangesWithin (unpacked x)) at ranges within))
+    let all = follow_within b rules (draws_of (take at ranges)) k (limit at) 40000000 (map unpacked rest) h (omega arith) (All-map AreRangesWithin unpacked rest (All-drop (λ (x : Packed). AreRangesWithin (unpacked x)) at ranges within))
     (omega (arith, few, le, length-map rest unpacked, length-drop at ranges)) in
     first_of 40000000 (steps_from b ranges at k) first (settle_within 40000000 (follow b (draws_of (take at ranges)) k (map unpacked rest)) all) head
 

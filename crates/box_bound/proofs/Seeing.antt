@@ -1,5 +1,5 @@
 -- The first reason that is a fact at some decided step, step by step.
-use Rattle.std.proofs.Common.{subst, ◌≡◌, ℕ, zero, suc, ◌+◌, ◌-◌, ◌<◌, ◌≤◌, ◌⊎◌, ◌↔◌, Bool, true, false, IsTrue, List, [], ◌∷◌, length, map, drop, take, get_or, refl, ap, sym, ◌∙◌, inl, inr, arith, Option, Some, None, cond, nat_lt, rules, tests}
+use Rattle.std.proofs.Common.{subst, ◌≡◌, ℕ, zero, suc, ◌+◌, ◌-◌, ◌<◌, ◌≤◌, ◌⊎◌, ◌↔◌, Bool, true, false, List, [], ◌∷◌, length, map, drop, take, get_or, refl, ap, sym, ◌∙◌, inl, inr, arith, Option, Some, None, cond, nat_lt, rules, tests}
 use Rattle.std.proofs.Math.ListN.{set}
 use Rattle.std.proofs.lemmas.Bool.{cases_lt}
 use Rattle.std.proofs.lemmas.Grind.{get_or-set_at}
@@ -16,16 +16,14 @@ use Rattle.plan_box.specs.Leasts.{Known, Fixed, fixed, known, next_known, no_kno
 use Rattle.plan_box.specs.Packed.{unpacked}
 use Rattle.plan_box.specs.Reasons.{AtSome, SomeFixed, fixed_levels, reason_number}
 use Rattle.box_bound.specs.declared.kept.Kept.{Kept}
-use Rattle.box_bound.specs.Kept.{early_fixed, follow, late_fixed}
+use Rattle.box_bound.specs.Kept.{early_fixed, late_fixed}
+use Rattle.plan_box.specs.inner.Follows.{follow}
 use Rattle.box_bound.specs.inner.Drawn.{HaveLevels, levels_of}
-use Rattle.box_bound.specs.inner.Seen.{AmongFixed, AreSeen, StepOf, before_fixed, IsFirstIfAny, earlier}
+use Rattle.box_bound.specs.inner.Seen.{AmongFixed, AreSeen, before_fixed, IsFirstIfAny, earlier}
+use Rattle.plan_box.specs.inner.Facts.{FactOf}
 
 abbrev pub Reasoning : Type 1
 Reasoning = Level → Known → Level → Known → List Level → Type 0
-
-pub late_levels : (steps : List Kept) → fixed_levels (map late_fixed steps) ≡ map (λ (k : Kept). k.level) steps
-late_levels [] = refl
-late_levels (k ∷ steps) = ap (λ (ls : List Level). k.level ∷ ls) (late_levels steps)
 
 follow_levels : (b : Problem) (d : Draw) (before : List Draw) (k : Known) (steps : List Kept) (ranges : List Packed) →
     map early_fixed steps ≡ follow b (d ∷ before) k (map unpacked ranges) → levels_of ranges ≡ map (λ (x : Kept). x.level) steps
@@ -178,10 +176,6 @@ seen_more R ks i n last y rest later found seen more e before ahead h g =
     (first_or (λ r. AmongFixed (R r) NewPlate no_known ks i) (λ r. Between (R r) last y later) found seen h g)
     )
 
-pub not_both : (r : Bool) (P : Type 0) → r ≡ false → (IsTrue r ↔ P) → P → ⊥
-not_both true P e h p = cc
-not_both false P e h p = absurd (cc (h.1 p))
-
 -- none of the reasons before one of this number
 pub none_below : (P : Reason → Type 0) (n : ℕ) → (1 < n → ¬ P Reason.R1) → (2 < n → ¬ P Reason.R2) → (3 < n → ¬ P Reason.R3) → (4 < n → ¬ P Reason.R4) → (5 < n → ¬ P Reason.R5) → (6 < n → ¬ P Reason.R6) → n ≤ 7 →
     (other : Reason) → reason_number other < n → ¬ P other
@@ -195,41 +189,41 @@ none_below P n r1 r2 r3 r4 r5 r6 le Reason.R7 lt = absurd (omega (arith, lt, le)
 
 -- what is seen at one more step is put
 pub seen_put : (b : Problem) (whole : Bool) (ks : List Fixed) (seen : List (Option Reason)) (i n : ℕ) (found : Option Reason) → i < length seen → n ≡ suc i → AreSeen b whole ks seen i →
-    IsFirstIfAny (λ r. AmongFixed (StepOf b whole r) NewPlate no_known ks n) found → AreSeen b whole ks (set seen i found) n
+    IsFirstIfAny (λ r. AmongFixed (FactOf b whole r) NewPlate no_known ks n) found → AreSeen b whole ks (set seen i found) n
 seen_put b whole ks seen i n found lt more before here j below =
     elim (cases_lt j i) [
-      | inl less ↦ subst (λ (o : Option Reason). IsFirstIfAny (λ r. AmongFixed (StepOf b whole r) NewPlate no_known ks (suc j)) o) (sym (get_or-set_other seen i j found None (omega (arith, less)))) (before j less)
+      | inl less ↦ subst (λ (o : Option Reason). IsFirstIfAny (λ r. AmongFixed (FactOf b whole r) NewPlate no_known ks (suc j)) o) (sym (get_or-set_other seen i j found None (omega (arith, less)))) (before j less)
       | inr last ↦
           let same : j ≡ i = omega (arith, last, below, more) in
           let value : get_or (set seen i found) j None ≡ found = get_or-set_at seen i j found None same lt in
           let count : n ≡ suc j = omega (arith, more, same) in
-          subst (λ (o : Option Reason). IsFirstIfAny (λ r. AmongFixed (StepOf b whole r) NewPlate no_known ks (suc j)) o) (sym value)
-          (subst (λ (m : ℕ). IsFirstIfAny (λ r. AmongFixed (StepOf b whole r) NewPlate no_known ks m) found) count here)
+          subst (λ (o : Option Reason). IsFirstIfAny (λ r. AmongFixed (FactOf b whole r) NewPlate no_known ks (suc j)) o) (sym value)
+          (subst (λ (m : ℕ). IsFirstIfAny (λ r. AmongFixed (FactOf b whole r) NewPlate no_known ks m) found) count here)
     ]
 
 -- what was seen up to the step before one
 pub seen_start : (b : Problem) (whole : Bool) (ks : List Fixed) (seen : List (Option Reason)) (start : ℕ) (found : Option Reason) → AreSeen b whole ks seen start → (start ≡ 0 → found ≡ None) → (1 ≤ start → found ≡ get_or seen (start - 1) None) →
-    IsFirstIfAny (λ r. AmongFixed (StepOf b whole r) NewPlate no_known ks start) found
+    IsFirstIfAny (λ r. AmongFixed (FactOf b whole r) NewPlate no_known ks start) found
 seen_start b whole ks seen zero found before none some = rw (none refl) (λ r h. h)
 seen_start b whole ks seen (suc start) found before none some =
     let last : suc start - 1 ≡ start = omega arith in
     let value : found ≡ get_or seen start None = some (omega arith) ∙ ap (λ (i : ℕ). get_or seen i None) last in
-    subst (λ (o : Option Reason). IsFirstIfAny (λ r. AmongFixed (StepOf b whole r) NewPlate no_known ks (suc start)) o) (sym value) (before start (omega arith))
+    subst (λ (o : Option Reason). IsFirstIfAny (λ r. AmongFixed (FactOf b whole r) NewPlate no_known ks (suc start)) o) (sym value) (before start (omega arith))
 
 -- what was seen up to the last step
 pub seen_last : (b : Problem) (rs : List Ranges) (whole : Bool) (steps : List Kept) (seen : List (Option Reason)) (found : Option Reason) → whole ≡ all_decided rs → map late_fixed steps ≡ known b rs →
-    AreSeen b whole (map late_fixed steps) seen (length steps) → (length steps ≡ 0 → found ≡ None) → (1 ≤ length steps → found ≡ get_or seen (length steps - 1) None) → IsFirstIfAny (λ r. AtSome (StepOf b (all_decided rs) r) b rs) found
+    AreSeen b whole (map late_fixed steps) seen (length steps) → (length steps ≡ 0 → found ≡ None) → (1 ≤ length steps → found ≡ get_or seen (length steps - 1) None) → IsFirstIfAny (λ r. AtSome (FactOf b (all_decided rs) r) b rs) found
 seen_last b rs whole steps seen found is values before none some =
     let ks : List Fixed = map late_fixed steps in
-    let up : IsFirstIfAny (λ r. AmongFixed (StepOf b whole r) NewPlate no_known ks (length steps)) found = seen_start b whole ks seen (length steps) found before none some in
-    let all : IsFirstIfAny (λ r. SomeFixed (StepOf b whole r) NewPlate no_known ks) found =
-    first_same (λ r. AmongFixed (StepOf b whole r) NewPlate no_known ks (length ks)) (λ r. SomeFixed (StepOf b whole r) NewPlate no_known ks) found (λ r. among_all (StepOf b whole r) NewPlate no_known ks)
-    (subst (λ (n : ℕ). IsFirstIfAny (λ r. AmongFixed (StepOf b whole r) NewPlate no_known ks n) found) (sym (length-map steps late_fixed)) up) in
-    subst (λ (js : List Fixed). IsFirstIfAny (λ r. SomeFixed (StepOf b (all_decided rs) r) NewPlate no_known js) found) values
-    (subst (λ (w : Bool). IsFirstIfAny (λ r. SomeFixed (StepOf b w r) NewPlate no_known ks) found) is all)
+    let up : IsFirstIfAny (λ r. AmongFixed (FactOf b whole r) NewPlate no_known ks (length steps)) found = seen_start b whole ks seen (length steps) found before none some in
+    let all : IsFirstIfAny (λ r. SomeFixed (FactOf b whole r) NewPlate no_known ks) found =
+    first_same (λ r. AmongFixed (FactOf b whole r) NewPlate no_known ks (length ks)) (λ r. SomeFixed (FactOf b whole r) NewPlate no_known ks) found (λ r. among_all (FactOf b whole r) NewPlate no_known ks)
+    (subst (λ (n : ℕ). IsFirstIfAny (λ r. AmongFixed (FactOf b whole r) NewPlate no_known ks n) found) (sym (length-map steps late_fixed)) up) in
+    subst (λ (js : List Fixed). IsFirstIfAny (λ r. SomeFixed (FactOf b (all_decided rs) r) NewPlate no_known js) found) values
+    (subst (λ (w : Bool). IsFirstIfAny (λ r. SomeFixed (FactOf b w r) NewPlate no_known ks) found) is all)
 
 -- reasons of which only some are kept
 pub seen_taken : (b : Problem) (e f : Bool) (ks : List Fixed) (seen : List (Option Reason)) (count many : ℕ) → e ≡ f → many ≡ count → AreSeen b e ks (take count seen) many → AreSeen b f ks seen count
 seen_taken b e f ks seen count many same is h i lt =
-    subst (λ (w : Bool). IsFirstIfAny (λ r. AmongFixed (StepOf b w r) NewPlate no_known ks (suc i)) (get_or seen i None)) same
-    (subst (λ (o : Option Reason). IsFirstIfAny (λ r. AmongFixed (StepOf b e r) NewPlate no_known ks (suc i)) o) (get_or-take count seen i None lt) (h i (omega (arith, lt, is))))
+    subst (λ (w : Bool). IsFirstIfAny (λ r. AmongFixed (FactOf b w r) NewPlate no_known ks (suc i)) (get_or seen i None)) same
+    (subst (λ (o : Option Reason). IsFirstIfAny (λ r. AmongFixed (FactOf b e r) NewPlate no_known ks (suc i)) o) (get_or-take count seen i None lt) (h i (omega (arith, lt, is))))

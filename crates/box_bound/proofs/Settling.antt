@@ -1,24 +1,11 @@
 -- Steps take over the values of the step behind them, from the last one on.
-use Rattle.std.proofs.Common.{◌≡◌, ℕ, zero, suc, ◌+◌, ◌-◌, ◌<◌, ◌≤◌, List, ◌∷◌, length, map, take, drop, get_or, refl, ap, sym, ◌∙◌, subst, arith, add-one}
-use Rattle.std.proofs.Math.ListN.{set, length-set}
-use Rattle.std.proofs.lemmas.List.{drop_more, drop-set-lt, get_or-set_same, map-set, set-get_or}
+use Rattle.std.proofs.Common.{◌≡◌, ℕ, ◌+◌, ◌-◌, ◌<◌, ◌≤◌, List, ◌∷◌, length, map, take, drop, get_or, ap, sym, ◌∙◌, subst}
+use Rattle.std.proofs.Math.ListN.{set}
+use Rattle.std.proofs.lemmas.List.{map-set, set-get_or}
 use Rattle.plan_box.specs.Leasts.{Known, Fixed, fixed, settle, settle_at}
+use Rattle.plan_box.proofs.Segments.{segment_set}
 use Rattle.box_bound.specs.declared.kept.Kept.{Kept}
 use Rattle.box_bound.specs.Kept.{early, late, early_fixed, late_fixed}
-
-take_some : (n : ℕ) (x : Kept) (xs : List Kept) (m : ℕ) → n ≡ m + 1 → take n (x ∷ xs) ≡ x ∷ take m xs
-take_some n x xs m e = rw (e, add-one) refl
-
--- the steps from one on, up to the last one that is kept
-pub segment_more : (xs : List Kept) (i n : ℕ) (d : Kept) → i < n → n ≤ length xs → take (n - i) (drop i xs) ≡ get_or xs i d ∷ take (n - (i + 1)) (drop (i + 1) xs)
-segment_more xs i n d lt le =
-    ap (take (n - i)) (drop_more xs i d (omega arith)) ∙ take_some (n - i) (get_or xs i d) (drop (i + 1) xs) (n - (i + 1)) (omega arith)
-
-segment_set : (xs : List Kept) (i n : ℕ) (d new : Kept) → i < n → n ≤ length xs → take (n - i) (drop i (set xs i new)) ≡ new ∷ take (n - (i + 1)) (drop (i + 1) xs)
-segment_set xs i n d new lt le =
-    segment_more (set xs i new) i n d lt (simp length-set le)
-    ∙ ap (λ x. x ∷ take (n - (i + 1)) (drop (i + 1) (set xs i new))) (get_or-set_same xs i new d (omega arith))
-    ∙ ap (λ ys. new ∷ take (n - (i + 1)) ys) (drop-set-lt (i + 1) xs i new (omega arith))
 
 settle_cons : (new : Kept) (later : List Kept) → map late_fixed later ≡ settle (map early_fixed later) → late new ≡ settle_at (early new) (map late_fixed later) →
     map late_fixed (new ∷ later) ≡ settle (map early_fixed (new ∷ later))
@@ -37,11 +24,3 @@ settle_more xs i n d new lt le e h =
 -- a fact of each step that the new one shares
 pub same_map : {X : Type 0} (f : Kept → X) (xs : List Kept) (i : ℕ) (d new : Kept) → f new ≡ f (get_or xs i d) → map f (set xs i new) ≡ map f xs
 same_map f xs i d new e = map-set f xs i new ∙ ap (set (map f xs) i) e ∙ sym (map-set f xs i (get_or xs i d)) ∙ ap (map f) (set-get_or xs i d)
-
--- behind the last one
-pub none_left : (xs : List Kept) (n : ℕ) → map late_fixed (take (n - n) (drop n xs)) ≡ settle (map early_fixed (take (n - n) (drop n xs)))
-none_left xs n = by (n - n) (omega arith)
-  where
-    by : (m : ℕ) → m ≡ 0 → map late_fixed (take m (drop n xs)) ≡ settle (map early_fixed (take m (drop n xs)))
-    by zero e = refl
-    by (suc m) e = absurd (omega (arith, e))

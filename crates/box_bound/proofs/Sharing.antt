@@ -11,9 +11,10 @@ use Rattle.plan_box.specs.Leasts.{Known, Fixed, fixed, no_known, settle, settle_
 use Rattle.plan_box.specs.Reasons.{BandR2, CellR2, StripR2, TopR2, fixed_levels}
 use Rattle.box_bound.specs.declared.kept.Kept.{Kept}
 use Rattle.box_bound.specs.Kept.{blank, early_fixed, late, late_fixed}
-use Rattle.box_bound.specs.inner.Seen.{AmongFixed, AreSeen, AreShared, IsFirstIfAny, StartsStrip, StepOf}
+use Rattle.box_bound.specs.inner.Seen.{AmongFixed, AreSeen, AreShared, IsFirstIfAny, StartsStrip}
+use Rattle.plan_box.specs.inner.Facts.{FactOf}
 use Rattle.box_bound.proofs.Seeing.{first_same}
-use Rattle.box_bound.proofs.Settling.{segment_more}
+use Rattle.plan_box.proofs.Segments.{segment_more}
 
 -- a list in two parts
 pub split_taken : {X : Type 0} (i m n : ℕ) (xs : List X) → n ≡ i + m → take n xs ≡ take i xs ++ take m (drop i xs)
@@ -225,7 +226,7 @@ top_same p e f Over NewCell (suc lift) j k later others same here h = h
 top_same p e f Over Over lift j k later others same here h = top_over p e f Over lift j k later others here h
 
 -- a step looks ahead no further than to the next strip
-step_same : (b : Problem) (e f : Bool) (r : Reason) (m : Level) (j : Known) (p : Level) (k : Known) (ls : List Level) (l : Level) (ms ns : List Level) → StartsStrip l → StepOf b e r m j p k (ls ++ l ∷ ms) → StepOf b f r m j p k (ls ++ l ∷ ns)
+step_same : (b : Problem) (e f : Bool) (r : Reason) (m : Level) (j : Known) (p : Level) (k : Known) (ls : List Level) (l : Level) (ms ns : List Level) → StartsStrip l → FactOf b e r m j p k (ls ++ l ∷ ms) → FactOf b f r m j p k (ls ++ l ∷ ns)
 step_same b e f Reason.R1 m j p k ls l ms ns s h = h
 step_same b e f Reason.R2 m j p k ls l ms ns s h =
     elim h [
@@ -248,14 +249,14 @@ step_same b e f Reason.R7 m j p k ls l ms ns s h = h
 
 -- so what is seen before a strip does not hang on it
 pub among_same : (b : Problem) (e f : Bool) (r : Reason) (m : Level) (j : Known) (xs : List Fixed) (l : Level) (k i : Known) (ys zs : List Fixed) (n : ℕ) → StartsStrip l → n ≤ length xs →
-    AmongFixed (StepOf b e r) m j (xs ++ fixed l k ∷ ys) n → AmongFixed (StepOf b f r) m j (xs ++ fixed l i ∷ zs) n
+    AmongFixed (FactOf b e r) m j (xs ++ fixed l k ∷ ys) n → AmongFixed (FactOf b f r) m j (xs ++ fixed l i ∷ zs) n
 among_same b e f r m j xs l k i ys zs zero s le h = absurd h
 among_same b e f r m j [] l k i ys zs (suc n) s le h = absurd (omega (arith, le))
 among_same b e f r m j (fixed p q ∷ xs) l k i ys zs (suc n) s le h =
     elim h [
       | inl now ↦
-          inl (subst (λ (ls : List Level). StepOf b f r m j p q ls) (sym (levels_parts xs (fixed l i ∷ zs)))
-          (step_same b e f r m j p q (fixed_levels xs) l (fixed_levels ys) (fixed_levels zs) s (subst (λ (ls : List Level). StepOf b e r m j p q ls) (levels_parts xs (fixed l k ∷ ys)) now)))
+          inl (subst (λ (ls : List Level). FactOf b f r m j p q ls) (sym (levels_parts xs (fixed l i ∷ zs)))
+          (step_same b e f r m j p q (fixed_levels xs) l (fixed_levels ys) (fixed_levels zs) s (subst (λ (ls : List Level). FactOf b e r m j p q ls) (levels_parts xs (fixed l k ∷ ys)) now)))
       | inr later ↦ inr (among_same b e f r p q xs l k i ys zs n s (omega (arith, le)) later)
     ]
 
@@ -325,8 +326,8 @@ seen_kept b e f old new start many count seen h le few was i lt = elim h.strip [
       let news : map late_fixed (take count new) ≡ xs ++ (fixed l j ∷ zs) =
       parts_at new start count few here.1 ∙ ap (λ (ps : List Kept). map late_fixed ps ++ (late_fixed (get_or new start blank) ∷ zs)) h.same ∙ ap (λ (m : Level). xs ++ (fixed m j ∷ zs)) here.2 in
       let inside : suc i ≤ length xs = omega (arith, lt, length-map (take start old) late_fixed, length-take-le start old (omega (arith, here.0, le))) in
-      let there = subst (λ (ks : List Fixed). IsFirstIfAny (λ r. AmongFixed (StepOf b e r) NewPlate no_known ks (suc i)) (get_or seen i None)) olds (was i (omega (arith, lt, here.0))) in
-      subst (λ (ks : List Fixed). IsFirstIfAny (λ r. AmongFixed (StepOf b f r) NewPlate no_known ks (suc i)) (get_or seen i None)) (sym news)
-      (first_same (λ r. AmongFixed (StepOf b e r) NewPlate no_known (xs ++ (fixed l k ∷ ys)) (suc i)) (λ r. AmongFixed (StepOf b f r) NewPlate no_known (xs ++ (fixed l j ∷ zs)) (suc i)) (get_or seen i None)
+      let there = subst (λ (ks : List Fixed). IsFirstIfAny (λ r. AmongFixed (FactOf b e r) NewPlate no_known ks (suc i)) (get_or seen i None)) olds (was i (omega (arith, lt, here.0))) in
+      subst (λ (ks : List Fixed). IsFirstIfAny (λ r. AmongFixed (FactOf b f r) NewPlate no_known ks (suc i)) (get_or seen i None)) (sym news)
+      (first_same (λ r. AmongFixed (FactOf b e r) NewPlate no_known (xs ++ (fixed l k ∷ ys)) (suc i)) (λ r. AmongFixed (FactOf b f r) NewPlate no_known (xs ++ (fixed l j ∷ zs)) (suc i)) (get_or seen i None)
       (λ r. (among_same b e f r NewPlate no_known xs l k j ys zs (suc i) here.3 inside, among_same b f e r NewPlate no_known xs l j k zs ys (suc i) here.3 inside)) there)
 ]

@@ -1,5 +1,5 @@
 -- The trace at the least values is written step by step.
-use Rattle.std.proofs.Common.{◌≡◌, ℕ, ◌+◌, ◌<◌, List, [], ◌∷◌, ◌++◌, length, map, take, drop, get_or, refl, ap, sym, ◌∙◌, arith, append_assoc, Bool, true, false, not, IsTrue, MatchBool, ◌↔◌, Option, Some, None}
+use Rattle.std.proofs.Common.{◌≡◌, ℕ, ◌+◌, ◌<◌, List, [], ◌∷◌, ◌++◌, length, map, take, drop, get_or, refl, ap, sym, ◌∙◌, arith, append_assoc, Bool, true, false, not, IsTrue, MatchBool, ◌↔◌, Option, Some, None, subst}
 use Rattle.std.specs.Option.{MatchOption, is_some}
 use Rattle.std.proofs.Math.ListN.{set}
 use Rattle.std.proofs.lemmas.List.{drop_more, length-map, length-take-le, set_at, take_more}
@@ -7,14 +7,14 @@ use Rattle.std.proofs.Common.{eqb-true}
 use Rattle.std.proofs.lemmas.List.{map-append}
 use Rattle.glass_base.specs.Problem.{Problem}
 use Rattle.cut_model.specs.declared.steps.Step.{Step}
+use Rattle.plan_trace.specs.TraceRules.{Meets}
 use Rattle.plan_box.specs.declared.frame.Frame.{Frame}
 use Rattle.plan_box.specs.Decisions.{decided, all_decided}
-use Rattle.plan_box.specs.Leasts.{least_step, least_steps}
 use Rattle.plan_box.specs.Frames.{frame_of}
 use Rattle.plan_box.specs.Ranges.{PlainBox, IsBox}
 use Rattle.plan_box.proofs.Counts.{known_count}
 use Rattle.box_bound.specs.declared.kept.Kept.{Kept}
-use Rattle.box_bound.specs.Kept.{late, late_fixed}
+use Rattle.box_bound.specs.Kept.{late_fixed}
 use Rattle.box_bound.specs.Leastings.{IsFor, Leastings}
 
 pub written_more : (f : Kept → Step) (kept : List Kept) (old new : List Step) (i : ℕ) (d : Kept) (e : Step) → i < length kept → length kept ≡ length old →
@@ -31,10 +31,6 @@ overwritten_more numbers old new i d e lt same is =
     ap (λ (xs : List Step). set xs i (get_or numbers i d)) (is ∙ ap (λ (ys : List Step). take i numbers ++ ys) (drop_more old i e (omega arith)))
     ∙ set_at (take i numbers) (get_or old i e) (drop (i + 1) old) (get_or numbers i d) i (length-take-le i numbers (omega arith))
     ∙ sym (ap (λ (ys : List Step). ys ++ drop (i + 1) old) (take_more numbers i d lt) ∙ append_assoc (take i numbers) (get_or numbers i d ∷ []) (drop (i + 1) old))
-
-pub least_map : (steps : List Kept) → least_steps (map late_fixed steps) ≡ map (λ k. least_step (late k)) steps
-least_map [] = refl
-least_map (k ∷ steps) = ap (λ (ss : List Step). least_step (late k) ∷ ss) (least_map steps)
 
 -- where all steps are decided there is one for each item
 pub whole_count : (b : Problem) (x : PlainBox) (v : Leastings) → IsFor b x v → IsTrue (all_decided x.ranges) → IsBox x → x.frame ≡ frame_of b → length v.steps ≡ length b.items
@@ -56,8 +52,7 @@ none_found P B None false breaks e h = absurd (cc e)
 none_found P B (Some x) true breaks e h = absurd (cc e)
 none_found P B (Some x) false breaks e h = ((λ t. absurd (cc t)), (λ p. absurd (breaks x h p)))
 
-pub some_found : {T : Type 0} (P : Type 0) (B : T → Type 0) (o : Option T) (r : Bool) → ((x : T) → B x → ¬ P) → r ≡ is_some o → MatchOption o P B → MatchBool r (¬ P) P
-some_found P B None true breaks e h = absurd (cc e)
-some_found P B None false breaks e h = h
-some_found P B (Some x) true breaks e h = breaks x h
-some_found P B (Some x) false breaks e h = absurd (cc e)
+-- a trace in which nothing breaks a rule
+pub met_from : (b : Problem) (ss other : List Step) (r : Bool) → r ≡ false → ss ≡ other → MatchBool r (¬ Meets b ss) (Meets b ss) → Meets b other
+met_from b ss other true kept e m = absurd (cc kept)
+met_from b ss other false kept e m = subst (Meets b) e m

@@ -1,12 +1,8 @@
 -- Decided steps as code keeps them, and what is known of each.
-use Rattle.std.specs.Prelude.{◌-◌, List, [], ◌∷◌, None}
-use Rattle.glass_base.specs.Problem.{Problem}
-use Rattle.plan_trace.specs.declared.level.Level.{Level}
+use Rattle.std.specs.Prelude.{◌-◌, None}
 use Rattle.plan_trace.specs.declared.level.Level.TheVariants.{NewPlate}
-use Rattle.plan_trace.specs.Marks.{Draw, Place, begins, place_of}
-use Rattle.plan_box.specs.Decisions.{draw_at}
-use Rattle.plan_box.specs.Leasts.{Known, Fixed, fixed, next_known}
-use Rattle.plan_box.specs.Ranges.{Ranges}
+use Rattle.plan_trace.specs.Marks.{Place}
+use Rattle.plan_box.specs.Leasts.{Known, Fixed, fixed}
 use Rattle.box_bound.specs.declared.ends.Ends.{Ends}
 use Rattle.box_bound.specs.declared.kept.Kept.{Kept}
 use Rattle.box_bound.specs.declared.placed.Placed.{Placed}
@@ -89,11 +85,3 @@ early_fixed k = fixed k.level (early k)
 
 abbrev pub late_fixed : Kept → Fixed
 late_fixed k = fixed k.level (late k)
-
--- steps that are decided, one after another, each as it and the earlier ones give it
-abbrev pub follow : Problem → List Draw → Known → List Ranges → List Fixed
-follow b before k [] = []
-follow b before k (r ∷ rs) =
-    let l : Level = begins before r.kind.low in
-    let n : Known = next_known b l (place_of b before k.place (draw_at r)) k r in
-    fixed l n ∷ follow b (draw_at r ∷ before) n rs

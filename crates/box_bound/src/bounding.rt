@@ -7,9 +7,10 @@ ghost use Rattle.plan_box.specs.Bounds.{bound as bound_of, ceil_div as ceil_div_
 ghost use Rattle.plan_box.specs.Frames.{frame_of};
 ghost use Rattle.plan_box.specs.Leasts.{Fixed, last_known, no_known};
 ghost use Rattle.plan_box.specs.Packed.{unpacked};
-ghost use Rattle.box_bound.specs.Kept.{follow, late, late_fixed};
+ghost use Rattle.box_bound.specs.Kept.{late, late_fixed};
+ghost use Rattle.plan_box.specs.inner.Follows.{follow};
 ghost use Rattle.box_bound.specs.Leastings.{IsFor};
-ghost use Rattle.box_bound.specs.inner.Within.{AreRangesWithin, AreWithin};
+ghost use Rattle.plan_box.specs.inner.Within.{AreRangesWithin, AreWithin};
 
 use crate::filling::decided_ranges;
 use crate::kept::{Kept, drawn};
@@ -18,7 +19,7 @@ use glass_base::Instance;
 use plan_box::{Frame, Packed, PlanBox, Var};
 
 /// The quotient, rounded up.
-#[tactic(auto, using(crate::proofs::Lengths::ceil_small))]
+#[tactic(auto, using(plan_box::proofs::LeastLengths::ceil_small))]
 fn ceil_div(n: u64, d: u64) -> u64
     requires divisor { 1 ≤ d }
     requires fits { n + d < 2 ^ 64 }
@@ -29,7 +30,7 @@ fn ceil_div(n: u64, d: u64) -> u64
 }
 
 /// The least length by the last decided step, for items of this area together.
-#[tactic(auto, using(crate::proofs::Lengths::product_small, glass_base::proofs::PlateLemmas::before_within))]
+#[tactic(auto, using(plan_box::proofs::LeastLengths::product_small, glass_base::proofs::PlateLemmas::before_within))]
 fn reached(instance: &Instance, total: u64, last: &Kept) -> u64
     requires total { total ≤ 320000000000 }
     requires within { AreWithin 40000000 (late last.now) }
@@ -114,7 +115,7 @@ pub fn length_of(instance: &Instance, bx: &PlanBox) -> u64
 }
 
 /// What a trace of this length loses beside its items, in mm².
-#[tactic(auto, using(crate::proofs::Lengths::height_times))]
+#[tactic(auto, using(plan_box::proofs::LeastLengths::height_times))]
 fn loss_of_length(instance: &Instance, length: u64) -> u64
     requires { length ≤ 810000000000000 }
     ensures { result ≡ instance.now.params.height * length - area_of instance.now.items }
@@ -131,7 +132,7 @@ pub fn bound(instance: &Instance, bx: &PlanBox) -> u64
 }
 
 /// `bound`, where the leasts are for the box.
-#[tactic(auto, using(crate::proofs::Lengths::height_times))]
+#[tactic(auto, using(plan_box::proofs::LeastLengths::height_times))]
 pub fn bound_at(instance: &Instance, leasts: &Leasts, bx: &PlanBox) -> u64
     requires instance { bx.now.frame ≡ frame_of instance.now }
     requires leasts { IsFor instance.now bx.now leasts.now }

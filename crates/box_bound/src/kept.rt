@@ -7,7 +7,8 @@ ghost use Rattle.plan_trace.specs.Marks.{begins, drawn as drawn_of, place_of};
 ghost use Rattle.plan_box.specs.Decisions.{draw_at as draw_that};
 ghost use Rattle.plan_box.specs.Packed.{unpacked};
 ghost use Rattle.box_bound.specs.Kept.{place_in};
-ghost use Rattle.box_bound.specs.inner.Drawn.{draw_in, draws_of, grown_place};
+ghost use Rattle.box_bound.specs.inner.Drawn.{draw_in};
+ghost use Rattle.plan_box.specs.inner.Follows.{draws_of, grown_place};
 
 use crate::ends::Ends;
 use crate::placed::{Drawn, Placed};
@@ -29,7 +30,7 @@ pub struct Kept {
 }
 
 /// What a step begins behind these steps: the first one begins everything.
-#[tactic(auto, using(crate::proofs::Draws::draws_none, crate::proofs::Draws::draws_some))]
+#[tactic(auto, using(plan_box::proofs::Draws::draws_none, plan_box::proofs::Draws::draws_some))]
 fn level_behind(before: &[Packed], kind: u32) -> Level
     ensures { result ≡ begins (draws_of before.now) kind }
 {
@@ -41,7 +42,7 @@ fn level_behind(before: &[Packed], kind: u32) -> Level
 }
 
 /// How many of these steps draw from a stack.
-#[tactic(auto, using(crate::proofs::Draws::draws_more))]
+#[tactic(auto, using(plan_box::proofs::Draws::draws_more))]
 pub fn drawn(before: &[Packed], stack: u32) -> u32
     requires { length before.now ≤ 800 }
     ensures { result ≡ drawn_of (draws_of before.now) stack }
@@ -69,7 +70,7 @@ fn next_item(instance: &Instance, stack: u32, taken: u32) -> Option<Item>
 }
 
 /// The height that an item takes in its cell.
-#[tactic(auto, using(crate::proofs::Sizes::times_bit))]
+#[tactic(auto, using(plan_box::proofs::Sizes::times_bit))]
 fn own_height(instance: &Instance, h: u32, lift: u32) -> u32
     requires h { h ≤ 20000 }
     requires lift { lift ≤ 1 }
@@ -133,7 +134,7 @@ fn grown(last: &Placed, level: Level, place: Placed, own: u32) -> Placed
 }
 
 /// The place of the next draw, behind these steps, the last of which stands at `last`.
-#[tactic(auto, using(crate::proofs::Sizes::width_small, crate::proofs::Sizes::height_small))]
+#[tactic(auto, using(plan_box::proofs::Sizes::width_small, plan_box::proofs::Sizes::height_small))]
 fn next_place(
     instance: &Instance,
     before: &[Packed],
@@ -192,8 +193,8 @@ impl Kept {
     ghost use Rattle.plan_box.specs.Leasts.{no_known};
     ghost use Rattle.plan_box.specs.Packed.{unpacked};
     ghost use Rattle.box_bound.specs.Kept.{early, early_fixed, late, no_ends, no_placed};
-    ghost use Rattle.box_bound.specs.inner.Drawn.{draws_of, next_fixed};
-    ghost use Rattle.box_bound.specs.inner.Within.{AreRangesWithin, AreWithin, limit};
+    ghost use Rattle.plan_box.specs.inner.Follows.{draws_of, next_fixed};
+    ghost use Rattle.plan_box.specs.inner.Within.{AreRangesWithin, AreWithin, limit};
 
     /// What stands before the first step.
     pub fn none(ranges: Packed) -> Kept

@@ -18,7 +18,7 @@ fn later_level(ranges: &Packed) -> Level
 }
 
 /// Whether a strip has no later strip on its plate; `end` where no step is left to tell.
-#[tactic(auto, using(crate::proofs::Levels::strip_at))]
+#[tactic(auto, using(plan_box::proofs::Levels::strip_at))]
 pub fn is_last_strip(end: bool, later: &[Packed]) -> bool
     ensures { result ≡ last_strip end (levels_of later.now) }
 {
@@ -35,7 +35,7 @@ pub fn is_last_strip(end: bool, later: &[Packed]) -> bool
 }
 
 /// Whether a band has no later band in its strip.
-#[tactic(auto, using(crate::proofs::Levels::band_at))]
+#[tactic(auto, using(plan_box::proofs::Levels::band_at))]
 pub fn is_last_band(end: bool, later: &[Packed]) -> bool
     ensures { result ≡ last_band end (levels_of later.now) }
 {
@@ -52,7 +52,7 @@ pub fn is_last_band(end: bool, later: &[Packed]) -> bool
 }
 
 /// Whether a cell has no later cell in its band.
-#[tactic(auto, using(crate::proofs::Levels::cell_at))]
+#[tactic(auto, using(plan_box::proofs::Levels::cell_at))]
 pub fn is_last_cell(end: bool, later: &[Packed]) -> bool
     ensures { result ≡ last_cell end (levels_of later.now) }
 {

@@ -4,11 +4,12 @@ ghost use Rattle.std.specs.Prelude.{◌≡◌, ◌-◌, ◌≤◌, ◌↔◌, Is
 ghost use Rattle.std.specs.Prelude.{map as mapped};
 ghost use Rattle.plan_trace.specs.declared.level.Level.TheVariants.{NewPlate};
 ghost use Rattle.plan_box.specs.Leasts.{fixed, no_known};
-ghost use Rattle.plan_box.specs.Reasons.{StepR4, reason_number};
+ghost use Rattle.plan_box.specs.Reasons.{StepR4};
 ghost use Rattle.box_bound.specs.Kept.{late, late_fixed};
 ghost use Rattle.box_bound.specs.inner.Drawn.{HaveLevels, levels_of};
-ghost use Rattle.box_bound.specs.inner.Seen.{AreSeen, IsFirstIfAny, StepOf, before_fixed, earlier as earlier_of};
-ghost use Rattle.box_bound.specs.inner.Within.{AreWithin};
+ghost use Rattle.box_bound.specs.inner.Seen.{AreSeen, IsFirstIfAny, before_fixed, earlier as earlier_of};
+ghost use Rattle.plan_box.specs.inner.Facts.{FactOf};
+ghost use Rattle.plan_box.specs.inner.Within.{AreWithin};
 
 use crate::gaps::has_tight_gap;
 use crate::kept::Kept;
@@ -17,21 +18,6 @@ use crate::numbers::{breaks_a_rule, has_no_place, is_too_wide};
 use defect_map::DefectMap;
 use glass_base::{Instance, Run};
 use plan_box::{Frame, Packed, Reason};
-
-/// A reason's place in their order.
-fn number_of(reason: Reason) -> u32
-    ensures { result ≡ reason_number reason }
-{
-    match reason {
-        Reason::R1 => 1,
-        Reason::R2 => 2,
-        Reason::R3 => 3,
-        Reason::R4 => 4,
-        Reason::R5 => 5,
-        Reason::R6 => 6,
-        Reason::R7 => 7,
-    }
-}
 
 /// The one that comes first of two reasons, if there is one.
 pub fn earlier(one: Option<Reason>, other: Option<Reason>) -> Option<Reason>
@@ -43,7 +29,7 @@ pub fn earlier(one: Option<Reason>, other: Option<Reason>) -> Option<Reason>
     match other {
         None => one,
         Some(second) => {
-            if number_of(second) < number_of(first) {
+            if second.number() < first.number() {
                 other
             } else {
                 one
@@ -72,7 +58,7 @@ pub fn seen_at(
 ) -> Option<Reason>
     requires map { map.now ≡ instance.now.defects }
     requires within { AreWithin 40000000 (late here.now) }
-    ensures { IsFirstIfAny (λ reason. StepOf instance.now whole reason last.now.level (late last.now) here.now.level (late here.now) (levels_of later.now)) result }
+    ensures { IsFirstIfAny (λ reason. FactOf instance.now whole reason last.now.level (late last.now) here.now.level (late here.now) (levels_of later.now)) result }
 {
     let params = instance.params();
     if has_no_place(last, here) {

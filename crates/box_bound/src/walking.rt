@@ -6,10 +6,12 @@ ghost use Rattle.plan_trace.specs.declared.level.Level.TheVariants.{NewPlate};
 ghost use Rattle.plan_box.specs.Leasts.{Fixed, least_steps, no_known, settle, settle_at};
 ghost use Rattle.plan_box.specs.Packed.{unpacked};
 ghost use Rattle.plan_box.specs.Reasons.{SomeFixed};
-ghost use Rattle.box_bound.specs.Kept.{early, follow, late, with_ends};
-ghost use Rattle.box_bound.specs.inner.Seen.{IsFirstIfAny, StepOf};
+ghost use Rattle.box_bound.specs.Kept.{early, late, with_ends};
+ghost use Rattle.plan_box.specs.inner.Follows.{follow};
+ghost use Rattle.box_bound.specs.inner.Seen.{IsFirstIfAny};
+ghost use Rattle.plan_box.specs.inner.Facts.{FactOf};
 ghost use Rattle.box_bound.specs.inner.Walks.{AreLevels, IsHead, SomeBehind, steps_from};
-ghost use Rattle.box_bound.specs.inner.Within.{AreRangesWithin, AreWithin, limit};
+ghost use Rattle.plan_box.specs.inner.Within.{AreRangesWithin, AreWithin, limit};
 
 use crate::kept::{Kept, drawn};
 use crate::probing::least_step;
@@ -56,7 +58,7 @@ fn seen_behind(
 ) -> Option<Reason>
     requires map { map.now ≡ instance.now.defects }
     requires within { IfSome behind.now.first (λ k. AreWithin 40000000 (late k)) }
-    ensures { (ks : List Fixed) → IsHead behind.now.first ks → AreLevels ks ranges.now → IsFirstIfAny (λ reason. SomeBehind (StepOf instance.now whole reason) ks) behind.now.seen → IsFirstIfAny (λ reason. SomeFixed (StepOf instance.now whole reason) step.now.level (late step.now) ks) result }
+    ensures { (ks : List Fixed) → IsHead behind.now.first ks → AreLevels ks ranges.now → IsFirstIfAny (λ reason. SomeBehind (FactOf instance.now whole reason) ks) behind.now.seen → IsFirstIfAny (λ reason. SomeFixed (FactOf instance.now whole reason) step.now.level (late step.now) ks) result }
 {
     let Some(next) = behind.first else {
         return None;
@@ -89,7 +91,7 @@ fn walk(
     requires within { AreWithin (limit at) (early last.now) }
     ensures first { IsHead result.first (steps_from instance.now ranges.now at (early last.now)) }
     ensures within { IfSome result.first (λ k. AreWithin 40000000 (late k)) }
-    ensures seen { IsFirstIfAny (λ reason. SomeBehind (StepOf instance.now whole reason) (steps_from instance.now ranges.now at (early last.now))) result.seen }
+    ensures seen { IsFirstIfAny (λ reason. SomeBehind (FactOf instance.now whole reason) (steps_from instance.now ranges.now at (early last.now))) result.seen }
     ensures steps { steps.new ≡ take at steps.old ++ (least_steps (steps_from instance.now ranges.now at (early last.now)) ++ drop (length ranges.now) steps.old) }
 {
     let _items = instance.items();
@@ -124,7 +126,7 @@ pub fn seen_in(
     requires few { length ranges.now ≤ 800 }
     requires room { length ranges.now ≤ length steps.old }
     requires ranges { All (λ x. AreRangesWithin (unpacked x)) ranges.now }
-    ensures seen { IsFirstIfAny (λ reason. SomeFixed (StepOf instance.now whole reason) NewPlate no_known (settle (follow instance.now [] no_known (mapped unpacked ranges.now)))) result }
+    ensures seen { IsFirstIfAny (λ reason. SomeFixed (FactOf instance.now whole reason) NewPlate no_known (settle (follow instance.now [] no_known (mapped unpacked ranges.now)))) result }
     ensures steps { take (length ranges.now) steps.new ≡ least_steps (settle (follow instance.now [] no_known (mapped unpacked ranges.now))) }
 {
     let none = Kept::none(Packed::full(Frame::of(instance)));

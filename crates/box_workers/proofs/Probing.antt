@@ -14,11 +14,12 @@ use Rattle.plan_box.specs.Leasts.{Fixed, known, least_step, least_steps}
 use Rattle.plan_box.specs.Ranges.{Ranges, PlainBox, IsBox}
 use Rattle.plan_box.specs.Reasons.{IsRefuted}
 use Rattle.plan_box.proofs.Counts.{known_count}
+use Rattle.plan_box.proofs.PointTests.{least_map}
 use Rattle.plan_box.proofs.Probed.{point_whole, least_bound, point_meets, whole_probed}
 use Rattle.box_bound.specs.declared.kept.Kept.{Kept}
 use Rattle.box_bound.specs.Kept.{late}
 use Rattle.box_bound.specs.Leastings.{Leastings, IsFor}
-use Rattle.box_bound.proofs.Writing.{least_map, whole_count}
+use Rattle.box_bound.proofs.Writing.{whole_count}
 use Rattle.cert_log.specs.Lawful.{no_loss, trace_loss}
 use Rattle.shared_best.specs.declared.view.View.{View}
 use Rattle.shared_best.specs.Words.{lowered}
@@ -59,7 +60,7 @@ improves_from b rs probed u v w old mid new view loss plan i = record {
 -- the trace of a probe has a step for each item
 pub probe_long : (b : Problem) (x : PlainBox) (v : Leastings) (steps : List Step) → steps ≡ least_steps (known b x.ranges) → IsFor b x v → IsTrue (all_decided x.ranges) → IsBox x → x.frame ≡ frame_of b → length steps ≡ length b.items
 probe_long b x v steps is kept whole box frame =
-    ap length is ∙ ap (λ (ks : List Fixed). length (least_steps ks)) (sym kept.values) ∙ ap length (least_map v.steps) ∙ length-map v.steps (λ (k : Kept). least_step (late k)) ∙ whole_count b x v kept whole box frame
+    ap length is ∙ ap (λ (ks : List Fixed). length (least_steps ks)) (sym kept.values) ∙ ap length (least_map (λ k. k.level) late v.steps) ∙ length-map v.steps (λ (k : Kept). least_step (late k)) ∙ whole_count b x v kept whole box frame
 
 -- the trace that a probe finds is complete
 probe_complete : (b : Problem) (x : PlainBox) → x.frame ≡ frame_of b → IsBox x → Probes b x.ranges → IsComplete b (least_steps (known b x.ranges))

@@ -30,15 +30,16 @@ node_clash b loss rs (Node.Split step v) why passes fails = fails.0 passes
 node_clash b loss rs (Node.Closed cause) why passes fails = close_clash b loss rs cause why passes fails
 node_clash b loss rs Node.Left why passes fails = fails
 
-all_here : {X : Type 0} (p : X → Type 0) (xs : List X) (x : X) (ys : List X) → All p (xs ++ x ∷ ys) → p x
+-- what holds of all holds of one of them
+pub all_here : {X : Type 0} (p : X → Type 0) (xs : List X) (x : X) (ys : List X) → All p (xs ++ x ∷ ys) → p x
 all_here p [] x ys h = All-head p x ys h
 all_here p (z ∷ xs) x ys h = all_here p xs x ys (All-tail p z (xs ++ x ∷ ys) h)
 
 -- the visits of a certificate, whichever tree it is read as
-good_visits : (b : Problem) (rs : List Ranges) (loss : Option ℕ) (c : Certificate) (g : IsGood b rs loss c) → visits_from (rs ∷ []) c.nodes.items ≡ visits rs g.tree
+pub good_visits : (b : Problem) (rs : List Ranges) (loss : Option ℕ) (c : Certificate) (g : IsGood b rs loss c) → visits_from (rs ∷ []) c.nodes.items ≡ visits rs g.tree
 good_visits b rs loss c g = ap (λ (ns : List Node). visits_from (rs ∷ []) ns) g.nodes_are ∙ visits_whole g.tree rs
 
-good_passes : (b : Problem) (rs : List Ranges) (loss : Option ℕ) (c : Certificate) → IsGood b rs loss c → All (Passes b loss) (visits_from (rs ∷ []) c.nodes.items)
+pub good_passes : (b : Problem) (rs : List Ranges) (loss : Option ℕ) (c : Certificate) → IsGood b rs loss c → All (Passes b loss) (visits_from (rs ∷ []) c.nodes.items)
 good_passes b rs loss c g = subst (λ (xs : List Visit). All (Passes b loss) xs) (sym (good_visits b rs loss c g)) (stands_all b loss g.tree rs g.stands)
 
 good_bounds : (b : Problem) (rs : List Ranges) (loss : Option ℕ) (c : Certificate) (g : IsGood b rs loss c) → open_bounds b rs g.tree ≡ visit_bounds b (visits_from (rs ∷ []) c.nodes.items)

@@ -1,40 +1,25 @@
 -- Steps take over the values of the step behind them, from the last one on.
-use Rattle.std.proofs.Common.{◌≡◌, ℕ, zero, suc, ◌+◌, ◌-◌, ◌<◌, ◌≤◌, List, ◌∷◌, length, map, take, drop, get_or, refl, ap, sym, ◌∙◌, subst, arith, add-one}
-use Rattle.std.proofs.Math.ListN.{set, length-set}
-use Rattle.std.proofs.lemmas.List.{drop_more, drop-set-lt, get_or-set_same, get_or-take, take-set-le, take-take}
-use Rattle.plan_box.specs.Leasts.{Known, Fixed, fixed, settle, settle_at}
+use Rattle.std.proofs.Common.{◌≡◌, ℕ, zero, suc, ◌+◌, ◌-◌, ◌<◌, ◌≤◌, List, ◌∷◌, length, map, take, drop, get_or, refl, ap, sym, ◌∙◌, subst, arith}
+use Rattle.std.proofs.Math.ListN.{set}
+use Rattle.std.proofs.lemmas.List.{get_or-take, take-set-le, take-take}
+use Rattle.plan_box.specs.Leasts.{Fixed, fixed, settle, settle_at}
+use Rattle.plan_box.proofs.Segments.{segment_more, segment_set}
 use Rattle.cert_check.specs.declared.steps.Decided.{Decided}
 use Rattle.cert_check.specs.inner.Knowns.{fixed_of, known_in}
 
-take_some : (n : ℕ) (x : Decided) (xs : List Decided) (m : ℕ) → n ≡ m + 1 → take n (x ∷ xs) ≡ x ∷ take m xs
-take_some n x xs m e = rw (e, add-one) refl
-
--- the steps from one on, up to the last one that is decided
-segment_more : (xs : List Decided) (i n : ℕ) (d : Decided) → i < n → n ≤ length xs → take (n - i) (drop i xs) ≡ get_or xs i d ∷ take (n - (i + 1)) (drop (i + 1) xs)
-segment_more xs i n d lt le =
-    ap (take (n - i)) (drop_more xs i d (omega arith)) ∙ take_some (n - i) (get_or xs i d) (drop (i + 1) xs) (n - (i + 1)) (omega arith)
-
-segment_set : (xs : List Decided) (i n : ℕ) (d new : Decided) → i < n → n ≤ length xs → take (n - i) (drop i (set xs i new)) ≡ new ∷ take (n - (i + 1)) (drop (i + 1) xs)
-segment_set xs i n d new lt le =
-    segment_more (set xs i new) i n d lt (simp length-set le)
-    ∙ ap (λ x. x ∷ take (n - (i + 1)) (drop (i + 1) (set xs i new))) (get_or-set_same xs i new d (omega arith))
-    ∙ ap (λ ys. new ∷ take (n - (i + 1)) ys) (drop-set-lt (i + 1) xs i new (omega arith))
-
-settle_cons : (old new : Decided) (later before : List Decided) → map fixed_of later ≡ settle (map fixed_of before) → new.level ≡ old.level → known_in new ≡ settle_at (known_in old) (map fixed_of later) →
+settle_cons : (old new : Decided) (later before : List Decided) → map fixed_of later ≡ settle (map fixed_of before) → fixed_of new ≡ fixed old.level (settle_at (known_in old) (map fixed_of later)) →
     map fixed_of (new ∷ later) ≡ settle (map fixed_of (old ∷ before))
-settle_cons old new later before e l h =
-    ap (λ (k : Known). fixed new.level k ∷ map fixed_of later) h
-    ∙ ap (λ (ks : List Fixed). fixed new.level (settle_at (known_in old) ks) ∷ ks) e
-    ∙ ap (λ (m : _). fixed m (settle_at (known_in old) (settle (map fixed_of before))) ∷ settle (map fixed_of before)) l
+settle_cons old new later before e h =
+    ap (λ (z : Fixed). z ∷ map fixed_of later) h ∙ ap (λ (ks : List Fixed). fixed old.level (settle_at (known_in old) ks) ∷ ks) e
 
 -- one more step is settled
 pub settle_more : (xs first : List Decided) (i n : ℕ) (d new : Decided) → i < n → n ≤ length xs → length xs ≡ length first → get_or xs i d ≡ get_or first i d →
     map fixed_of (take (n - (i + 1)) (drop (i + 1) xs)) ≡ settle (map fixed_of (take (n - (i + 1)) (drop (i + 1) first))) →
-    new.level ≡ (get_or xs i d).level → known_in new ≡ settle_at (known_in (get_or xs i d)) (map fixed_of (take (n - (i + 1)) (drop (i + 1) xs))) →
+    fixed_of new ≡ fixed (get_or xs i d).level (settle_at (known_in (get_or xs i d)) (map fixed_of (take (n - (i + 1)) (drop (i + 1) xs)))) →
     map fixed_of (take (n - i) (drop i (set xs i new))) ≡ settle (map fixed_of (take (n - i) (drop i first)))
-settle_more xs first i n d new lt le many same e l h =
+settle_more xs first i n d new lt le many same e h =
     ap (map fixed_of) (segment_set xs i n d new lt le)
-    ∙ settle_cons (get_or xs i d) new (take (n - (i + 1)) (drop (i + 1) xs)) (take (n - (i + 1)) (drop (i + 1) first)) e l h
+    ∙ settle_cons (get_or xs i d) new (take (n - (i + 1)) (drop (i + 1) xs)) (take (n - (i + 1)) (drop (i + 1) first)) e h
     ∙ ap (λ (x : Decided). settle (map fixed_of (x ∷ take (n - (i + 1)) (drop (i + 1) first)))) same
     ∙ ap (λ (ys : List Decided). settle (map fixed_of ys)) (sym (segment_more first i n d lt (omega (arith, le, many))))
 

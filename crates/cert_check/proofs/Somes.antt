@@ -1,5 +1,5 @@
 -- A fact at some of the decided steps, step by step.
-use Rattle.std.proofs.Common.{◌≡◌, ℕ, zero, suc, ◌+◌, ◌-◌, ◌<◌, ◌≤◌, ◌⊎◌, ◌↔◌, inl, inr, Bool, true, false, IsTrue, List, [], ◌∷◌, length, map, drop, take, get_or, ap, sym, ◌∙◌, subst, arith, ◌==◌}
+use Rattle.std.proofs.Common.{◌≡◌, ℕ, zero, suc, ◌+◌, ◌-◌, ◌<◌, ◌≤◌, ◌⊎◌, ◌↔◌, inl, inr, List, [], ◌∷◌, length, map, drop, take, get_or, ap, sym, ◌∙◌, subst, arith, ◌==◌}
 use Rattle.std.proofs.lemmas.List.{drop_more, length-drop, length-map, take_all}
 use Rattle.glass_base.specs.Problem.{Problem}
 use Rattle.plan_trace.specs.declared.level.Level.{Level}
@@ -11,7 +11,7 @@ use Rattle.plan_box.specs.Reasons.{SomeFixed}
 use Rattle.plan_box.proofs.Counts.{known_count}
 use Rattle.cert_check.specs.declared.steps.Decided.{Decided}
 use Rattle.cert_check.specs.inner.Knowns.{AreKnown, fixed_of, known_in, levels_in}
-use Rattle.cert_check.proofs.Levels.{levels_are}
+use Rattle.plan_box.proofs.Levels.{levels_are}
 
 abbrev pub Reasoning : Type 1
 Reasoning = Level → Known → Level → Known → List Level → Type 0
@@ -21,7 +21,7 @@ module _ (R : Reasoning) (m : Level) (j : Known) (steps : List Decided) (i : ℕ
   pub some_here : R m j (get_or steps i d).level (known_in (get_or steps i d)) (levels_in (drop (i + 1) steps)) → SomeFixed R m j (map fixed_of (drop i steps))
   some_here h =
       subst (λ (xs : List Decided). SomeFixed R m j (map fixed_of xs)) (sym (drop_more steps i d lt))
-      (inl (subst (λ (ls : List Level). R m j (get_or steps i d).level (known_in (get_or steps i d)) ls) (sym (levels_are (drop (i + 1) steps))) h))
+      (inl (subst (λ (ls : List Level). R m j (get_or steps i d).level (known_in (get_or steps i d)) ls) (sym (levels_are (λ k. k.level) known_in (drop (i + 1) steps))) h))
 
   -- it is one at a later step
   some_later : SomeFixed R (get_or steps i d).level (known_in (get_or steps i d)) (map fixed_of (drop (i + 1) steps)) → SomeFixed R m j (map fixed_of (drop i steps))
@@ -31,7 +31,7 @@ module _ (R : Reasoning) (m : Level) (j : Known) (steps : List Decided) (i : ℕ
   some_either : SomeFixed R m j (map fixed_of (drop i steps)) → R m j (get_or steps i d).level (known_in (get_or steps i d)) (levels_in (drop (i + 1) steps)) ⊎ SomeFixed R (get_or steps i d).level (known_in (get_or steps i d)) (map fixed_of (drop (i + 1) steps))
   some_either h =
       elim (subst (λ (xs : List Decided). SomeFixed R m j (map fixed_of xs)) (drop_more steps i d lt) h) [
-        | inl now ↦ inl (subst (λ (ls : List Level). R m j (get_or steps i d).level (known_in (get_or steps i d)) ls) (levels_are (drop (i + 1) steps)) now)
+        | inl now ↦ inl (subst (λ (ls : List Level). R m j (get_or steps i d).level (known_in (get_or steps i d)) ls) (levels_are (λ k. k.level) known_in (drop (i + 1) steps)) now)
         | inr later ↦ inr later
       ]
 
@@ -56,10 +56,6 @@ some_none R m j [] zero le h = h
 some_none R m j [] (suc i) le h = h
 some_none R m j (x ∷ steps) zero le h = absurd (omega (arith, le))
 some_none R m j (x ∷ steps) (suc i) le h = some_none R m j steps i (omega (arith, le)) h
-
-pub not_both : (r : Bool) (P : Type 0) → r ≡ false → (IsTrue r ↔ P) → ¬ P
-not_both true P e h p = cc
-not_both false P e h p = absurd (cc (h.1 p))
 
 -- where there is a decided step for each range all steps are decided
 pub whole_is : (b : Problem) (ranges : List Packed) (steps : List Decided) → AreKnown b (map unpacked ranges) steps → (length steps == length ranges) ≡ all_decided (map unpacked ranges)

@@ -1,20 +1,17 @@
 -- Stored ranges where one is replaced, and paths.
-use Rattle.std.proofs.Common.{◌≡◌, ℕ, zero, suc, ◌+◌, ◌<◌, ◌≤◌, List, [], ◌∷◌, ◌++◌, length, map, replicate, slice_get, slice_set, slice_index_or, reverse, cond, nat_lt, None, Bool, true, false, Some, not, refl, sym, ap, ◌∙◌, subst, arith, All, IsTrue}
-use Rattle.std.proofs.lemmas.List.{length-map, reverse-append}
+use Rattle.std.proofs.Common.{◌≡◌, ℕ, zero, suc, ◌+◌, ◌<◌, ◌≤◌, ◌↔◌, List, [], ◌∷◌, ◌++◌, length, map, take, replicate, slice_get, slice_set, slice_index_or, reverse, cond, nat_lt, None, Bool, true, false, Some, not, refl, sym, ap, ◌∙◌, subst, arith, All, IsTrue}
+use Rattle.std.proofs.lemmas.List.{length-append, length-map, reverse-append}
 use Rattle.std.proofs.lemmas.List.Elements.{All-append, All-cons, All-head, All-map, All-nil, All-tail}
 use Rattle.plan_box.specs.declared.frame.Frame.{Frame}
 use Rattle.plan_box.specs.declared.packed.Packed.{Packed}
 use Rattle.plan_box.specs.declared.var.Var.{Var}
 use Rattle.std.specs.List.{position_or_len, prefix_len}
 use Rattle.std.proofs.lemmas.Bool.Decides.{nat_tests}
-use Rattle.std.specs.Prelude.{position, unwrap_or}
+use Rattle.std.specs.Prelude.{position, unwrap_or, Option, IsNone, option_to_list}
 use Rattle.plan_box.specs.Decisions.{is_free, is_drawn, draw_at, decided}
 use Rattle.plan_box.specs.Halves.{half_at, lower_half, upper_half}
 use Rattle.plan_box.specs.Packed.{unpacked}
-use Rattle.plan_box.specs.inner.Stored.{limit_of}
-use Rattle.plan_box.specs.Frames.{IsFrame}
 use Rattle.plan_box.specs.Ranges.{Span, Ranges, AreInFrame, span_of, with_span, full_ranges}
-use Rattle.plan_box.proofs.Children.{full_limit}
 use Rattle.plan_box.proofs.Freed.{same_half, free_open}
 use Rattle.plan_box.proofs.Shared.{free_inside}
 use Rattle.cert_check.specs.declared.path.Turn.{Turn}
@@ -76,9 +73,6 @@ set_are_stored f xs i v x old new e is within h = record {
   few = omega (arith, h.few, set_count xs i new);
   in_frame = set_in_frame f xs i v x old new e is within h.in_frame;
 }
-
-pub range_limit : (f : Frame) → IsFrame f → (v : Var) (high : ℕ) → high ≤ (span_of v (full_ranges f)).high → high ≤ limit_of v
-range_limit f h v high le = omega (arith, le, full_limit f h v)
 
 -- full ranges one after the other
 pub map_push : (xs : List Packed) (x : Packed) → map unpacked (xs ++ x ∷ []) ≡ map unpacked xs ++ unpacked x ∷ []
@@ -163,6 +157,36 @@ all_front p (x ∷ xs) ys h = All-cons p x xs (All-head p x (xs ++ ys) h) (all_f
 all_last : {X : Type 0} (p : X → Type 0) (xs : List X) (x : X) → All p (xs ++ x ∷ []) → p x
 all_last p [] x h = All-head p x [] h
 all_last p (y ∷ xs) x h = all_last p xs x (All-tail p y (xs ++ x ∷ []) h)
+
+-- the last turn stands behind all others
+pub last_is : (ts : List Turn) (n : ℕ) (t : Turn) → length ts ≡ suc n → slice_get ts n ≡ Some t → ts ≡ take n ts ++ t ∷ []
+last_is [] n t count e = absurd (cc e)
+last_is (u ∷ []) zero t count e = let same : u ≡ t = cc in ap (λ (x : Turn). x ∷ []) same
+last_is (u ∷ []) (suc n) t count e = absurd (cc e)
+last_is (u ∷ v ∷ ts) zero t count e = absurd (omega (arith, count))
+last_is (u ∷ v ∷ ts) (suc n) t count e = ap (λ (l : List Turn). u ∷ l) (last_is (v ∷ ts) n t (omega (arith, count)) e)
+
+pub last_set : (ts : List Turn) (n : ℕ) (t : Turn) → length ts ≡ suc n → slice_set ts n t ≡ take n ts ++ t ∷ []
+last_set [] n t count = absurd (omega (arith, count))
+last_set (u ∷ []) zero t count = refl
+last_set (u ∷ []) (suc n) t count = absurd (omega (arith, count))
+last_set (u ∷ v ∷ ts) zero t count = absurd (omega (arith, count))
+last_set (u ∷ v ∷ ts) (suc n) t count = ap (λ (l : List Turn). u ∷ l) (last_set (v ∷ ts) n t (omega (arith, count)))
+
+last_got : (ts : List Turn) (n : ℕ) (t : Turn) → length ts ≡ n → slice_get (ts ++ t ∷ []) n ≡ Some t
+last_got [] zero t count = refl
+last_got [] (suc n) t count = absurd (omega (arith, count))
+last_got (u ∷ ts) zero t count = absurd (omega (arith, count))
+last_got (u ∷ ts) (suc n) t count = last_got ts n t (omega (arith, count))
+
+-- it is the one that is popped
+pub last_popped : (old ts : List Turn) (popped : Option Turn) (n : ℕ) (t : Turn) → old ≡ ts ++ option_to_list popped → length old ≡ suc n → (IsNone popped ↔ (old ≡ [])) → slice_get old n ≡ Some t
+    → old ≡ ts ++ t ∷ []
+last_popped old ts None n t e count none is = let empty = ap (λ (l : List Turn). length l) (none.0 refl) in absurd (omega (arith, count, empty))
+last_popped old ts (Some u) n t e count none is =
+    let many = ap (λ (l : List Turn). length l) e ∙ length-append ts (u ∷ []) in
+    let same : Some u ≡ Some t = sym (last_got ts n u (omega (arith, count, many))) ∙ sym (ap (λ (l : List Turn). slice_get l n) e) ∙ is in
+    let alike : u ≡ t = cc in e ∙ ap (λ (x : Turn). ts ++ x ∷ []) alike
 
 -- what is known of the last turn, and of those before it
 pub last_turn : (f : Frame) (old ts : List Turn) (t : Turn) → old ≡ ts ++ t ∷ [] → All (IsTurn f) old → IsTurn f t

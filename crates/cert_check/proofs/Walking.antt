@@ -1,7 +1,7 @@
 -- The walk: where it starts, one step of it, where it ends.
-use Rattle.std.proofs.Common.{◌≡◌, ◌≢◌, ℕ, suc, ◌+◌, ◌<◌, ◌≤◌, List, [], ◌∷◌, ◌++◌, length, take, drop, fold, get_or, cond, Bool, true, false, Option, refl, sym, ap, ◌∙◌, arith, append_assoc}
+use Rattle.std.proofs.Common.{◌≡◌, ◌≢◌, ℕ, suc, ◌+◌, ◌<◌, List, [], ◌∷◌, ◌++◌, length, take, drop, fold, get_or, cond, Bool, true, false, Option, refl, sym, ap, ◌∙◌, arith}
 use Rattle.std.proofs.lemmas.Grind.{fold-append}
-use Rattle.std.proofs.lemmas.List.{length-append, length-map, length-take-le, append-nil, map-append, drop_more, take_more, drop_all}
+use Rattle.std.proofs.lemmas.List.{length-append, append-nil}
 use Rattle.std.proofs.lemmas.List.Elements.{All-append, All-cons, All-nil}
 use Rattle.glass_base.specs.Problem.{Problem}
 use Rattle.plan_box.specs.Ranges.{Ranges}
@@ -9,7 +9,6 @@ use Rattle.cert_log.specs.declared.certificate.Certificate.{Certificate}
 use Rattle.cert_log.specs.declared.certificate.Node.{Node}
 use Rattle.cert_log.specs.Good.{lesser, least_of}
 use Rattle.cert_log.specs.Texts.{lines_of}
-use Rattle.cert_log.specs.Trees.{IsTree}
 use Rattle.cert_check.specs.declared.verdict.Why.{Why}
 use Rattle.cert_check.specs.declared.walk.Tally.{Tally}
 use Rattle.cert_check.specs.declared.walk.Place.{Place}
@@ -19,7 +18,8 @@ use Rattle.cert_check.specs.Visits.{Visit, NodePasses, Passes, node_bounds, visi
 use Rattle.cert_check.specs.inner.Walks.{boxes_after, visits_from}
 use Rattle.cert_check.specs.inner.Walks.{MayGo, Reads, Counts, IsWalking, ends_open, joins}
 use Rattle.cert_check.proofs.Lines.{line_more, no_lines, ends_push}
-use Rattle.cert_check.proofs.Trees.{visits_whole, visits_count, bounds_append, empty_from}
+use Rattle.cert_check.proofs.Trees.{bounds_append}
+use Rattle.cert_check.proofs.Visiting.{comes_first, comes_further, done_count, next_visit, one_taken}
 
 pub may_go : (b : Problem) (loss : Option ℕ) (rs : List Ranges) (n : Node) → NodePasses b loss rs n → MayGo rs n
 may_go b loss rs (Node.Split step v) h = h
@@ -31,50 +31,13 @@ pub starts : (b : Problem) (root : List Ranges) (loss : Option ℕ) (c : Certifi
     → IsWalking b root loss c 0 boxes (record { line = 1; after_open = false }) (record { least = loss; left = 0 })
 starts b root loss c boxes e = record {
   done = [];
-  visits_are = ap (λ (xs : List (List Ranges)). visits_from xs c.nodes.items) (sym e);
-  nodes_are = refl;
+  come = comes_first root c.nodes.items boxes e;
   passed = All-nil (Passes b loss);
   least = refl;
   left = refl;
   line = (let z = no_lines c.version in omega arith);
   after_open = refl;
 }
-
-one_visit : (boxes : List (List Ranges)) (n : Node) (ns : List Node) → boxes ≢ []
-    → visits_from boxes (n ∷ ns) ≡ record { node = n; ranges = top boxes } ∷ visits_from (boxes_after n (top boxes) (below boxes)) ns
-one_visit [] n ns some = absurd (some refl)
-one_visit (rs ∷ boxes) n ns some = refl
-
-done_count : (b : Problem) (root : List Ranges) (loss : Option ℕ) (c : Certificate) (k : ℕ) (boxes : List (List Ranges)) (place : Place) (tally : Tally)
-    → (w : IsWalking b root loss c k boxes place tally) → k ≤ length c.nodes.items → length w.done ≡ k
-done_count b root loss c k boxes place tally w le =
-    sym (length-map w.done (λ (x : Visit). x.node)) ∙ ap (λ (ns : List Node). length ns) w.nodes_are ∙ length-take-le k c.nodes.items le
-
--- where a node comes next, a box waits
-pub waits : (b : Problem) (root : List Ranges) (loss : Option ℕ) (c : Certificate) (k : ℕ) (boxes : List (List Ranges)) (place : Place) (tally : Tally) (d : Node)
-    → IsTree c.nodes.items → IsWalking b root loss c k boxes place tally → k < length c.nodes.items → boxes ≢ []
-waits b root loss c k boxes place tally d tree w lt = λ none.
-    let all : length (visits_from (root ∷ []) c.nodes.items) ≡ length c.nodes.items =
-    ap (λ (ns : List Node). length (visits_from (root ∷ []) ns)) tree.1 ∙ ap (λ (xs : List Visit). length xs) (visits_whole tree.0 root)
-    ∙ visits_count tree.0 root ∙ ap (λ (ns : List Node). length ns) (sym tree.1) in
-    let rest : visits_from boxes (drop k c.nodes.items) ≡ [] =
-    ap (λ (xs : List (List Ranges)). visits_from xs (drop k c.nodes.items)) none
-    ∙ ap (λ (ns : List Node). visits_from [] ns) (drop_more c.nodes.items k d lt) in
-    let both = ap (λ (xs : List Visit). length xs) (w.visits_are ∙ ap (λ (xs : List Visit). w.done ++ xs) rest ∙ append-nil w.done) in
-    let n = done_count b root loss c k boxes place tally w (omega (arith, lt)) in
-    omega (arith, all, both, n, lt)
-
--- what is visited next
-next_visit : (b : Problem) (root : List Ranges) (loss : Option ℕ) (c : Certificate) (k : ℕ) (boxes : List (List Ranges)) (place : Place) (tally : Tally) (d n : Node)
-    → (w : IsWalking b root loss c k boxes place tally) → k < length c.nodes.items → get_or c.nodes.items k d ≡ n → boxes ≢ []
-    → visits_from (root ∷ []) c.nodes.items ≡ w.done ++ record { node = n; ranges = top boxes } ∷ visits_from (boxes_after n (top boxes) (below boxes)) (drop (k + 1) c.nodes.items)
-next_visit b root loss c k boxes place tally d n w lt is some =
-    w.visits_are
-    ∙ ap (λ (ns : List Node). w.done ++ visits_from boxes ns) (drop_more c.nodes.items k d lt ∙ ap (λ (m : Node). m ∷ drop (k + 1) c.nodes.items) is)
-    ∙ ap (λ (xs : List Visit). w.done ++ xs) (one_visit boxes n (drop (k + 1) c.nodes.items) some)
-
-taken : (nodes : List Node) (k : ℕ) (d n : Node) → k < length nodes → get_or nodes k d ≡ n → take (k + 1) nodes ≡ take k nodes ++ n ∷ []
-taken nodes k d n lt is = take_more nodes k d lt ∙ ap (λ (m : Node). take k nodes ++ m ∷ []) is
 
 -- the line of the node that is read
 line_next : (b : Problem) (root : List Ranges) (loss : Option ℕ) (c : Certificate) (k : ℕ) (boxes : List (List Ranges)) (place next : Place) (tally : Tally) (d n : Node)
@@ -87,7 +50,7 @@ line_next b root loss c k boxes place next tally d n w lt is reads =
     ∙ ap (λ (m : ℕ). cond (joins c.version (ends_open ns) n) m (m + 1)) w.line
     ∙ pull (joins c.version (ends_open ns) n) (length (lines_of c.version ns))
     ∙ ap (λ (m : ℕ). 1 + m) (sym (line_more c.version ns n))
-    ∙ ap (λ (xs : List Node). 1 + length (lines_of c.version xs)) (sym (taken c.nodes.items k d n lt is))
+    ∙ ap (λ (xs : List Node). 1 + length (lines_of c.version xs)) (sym (one_taken c.nodes.items k d n lt is))
   where
     pull : (t : Bool) (m : ℕ) → cond t (1 + m) (1 + m + 1) ≡ 1 + cond t m (suc m)
     pull true m = refl
@@ -100,16 +63,12 @@ pub walks : (b : Problem) (root : List Ranges) (loss : Option ℕ) (c : Certific
     → IsWalking b root loss c (k + 1) after next more
 walks b root loss c k boxes after place next tally more d n w lt is some passes reads counts then =
     let x : Visit = record { node = n; ranges = top boxes } in
-    let t = taken c.nodes.items k d n lt is in
+    let t = one_taken c.nodes.items k d n lt is in
     let bounds : visit_bounds b (w.done ++ x ∷ []) ≡ visit_bounds b w.done ++ node_bounds b (top boxes) n =
     bounds_append b w.done (x ∷ []) ∙ ap (λ (ns : List ℕ). visit_bounds b w.done ++ ns) (append-nil (node_bounds b (top boxes) n)) in
     record {
       done = w.done ++ x ∷ [];
-      visits_are =
-          next_visit b root loss c k boxes place tally d n w lt is some
-          ∙ sym (append_assoc w.done (x ∷ []) (visits_from (boxes_after n (top boxes) (below boxes)) (drop (k + 1) c.nodes.items)))
-          ∙ ap (λ (xs : List (List Ranges)). (w.done ++ x ∷ []) ++ visits_from xs (drop (k + 1) c.nodes.items)) (sym then);
-      nodes_are = map-append (λ (y : Visit). y.node) w.done (x ∷ []) ∙ ap (λ (ns : List Node). ns ++ n ∷ []) w.nodes_are ∙ sym t;
+      come = comes_further root c.nodes.items k boxes after w.done d n w.come lt is some then;
       passed = All-append (Passes b loss) w.done (x ∷ []) w.passed (All-cons (Passes b loss) x [] passes (All-nil (Passes b loss)));
       least =
           counts.least ∙ ap (λ (m : Option ℕ). fold lesser m (node_bounds b (top boxes) n)) w.least
@@ -131,18 +90,11 @@ stops b root loss c k boxes place next tally d n why w lt is some fails reads = 
   before = w.done;
   here = record { node = n; ranges = top boxes };
   later = visits_from (boxes_after n (top boxes) (below boxes)) (drop (k + 1) c.nodes.items);
-  visits_are = next_visit b root loss c k boxes place tally d n w lt is some;
+  visits_are = next_visit root c.nodes.items k boxes w.done w.come d n lt is some;
   passed = w.passed;
   fails = fails;
   line_is =
       line_next b root loss c k boxes place next tally d n w lt is reads
       ∙ ap (λ (m : ℕ). 1 + length (lines_of c.version (take m c.nodes.items)))
-      (let e = done_count b root loss c k boxes place tally w (omega (arith, lt)) in let f : k + 1 ≡ suc (length w.done) = omega (arith, e) in f);
+      (let e = done_count root c.nodes.items k boxes w.done w.come (omega (arith, lt)) in let f : k + 1 ≡ suc (length w.done) = omega (arith, e) in f);
 }
-
--- all nodes are walked
-pub all_done : (b : Problem) (root : List Ranges) (loss : Option ℕ) (c : Certificate) (k : ℕ) (boxes : List (List Ranges)) (place : Place) (tally : Tally)
-    → (w : IsWalking b root loss c k boxes place tally) → length c.nodes.items ≤ k → visits_from (root ∷ []) c.nodes.items ≡ w.done
-all_done b root loss c k boxes place tally w le =
-    w.visits_are ∙ ap (λ (ns : List Node). w.done ++ visits_from boxes ns) (drop_all k c.nodes.items le)
-    ∙ ap (λ (xs : List Visit). w.done ++ xs) (empty_from boxes) ∙ append-nil w.done

@@ -1,3 +1,4 @@
 pub mod Visits
 pub mod Faults
+pub mod Causes
 pub mod inner

@@ -1,6 +1,5 @@
 pub mod Paths
 pub mod Walks
 pub mod Knowns
-pub mod Follows
-pub mod Within
-pub mod Facts
+pub mod Naming
+pub mod Taken

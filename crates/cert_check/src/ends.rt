@@ -1,165 +1,117 @@
 //! The least values and the high ends of the cuts of a decided step.
 
 ghost use Rattle.std.specs.Prelude.{◌≡◌, ◌+◌, ◌<◌, ◌≤◌, ◌^◌};
-ghost use Rattle.plan_box.specs.Leasts.{band_known, cell_known, next_known, settled as settled_known, strip_known};
+ghost use Rattle.plan_box.specs.Leasts.{band_known, cell_known, fixed, next_known, settled as settled_known, strip_known};
 ghost use Rattle.plan_box.specs.Packed.{unpacked};
-ghost use Rattle.cert_check.specs.declared.placed.Placed.{Placed as PlacedOf};
-ghost use Rattle.cert_check.specs.inner.Knowns.{known_of, no_ends, place_in};
-ghost use Rattle.cert_check.specs.inner.Within.{AreRangesWithin};
+ghost use Rattle.plan_box.specs.inner.Within.{AreRangesWithin};
+ghost use Rattle.cert_check.specs.inner.Knowns.{fixed_of, known_in, place_in, with_place};
 
-use crate::placed::Placed;
+use crate::steps::Decided;
 use glass_base::Instance;
 use plan_box::{Packed, Var};
 use plan_trace::level::Level;
 
-/// The least value and the high end of each cut of a decided step, in mm.
-#[derive(Clone, Copy)]
-pub struct Ends {
-    pub least_a: u32,
-    pub high_a: u32,
-    pub least_b: u32,
-    pub high_b: u32,
-    pub least_c: u32,
-    pub high_c: u32,
-    pub least_d: u32,
-    pub high_d: u32,
-    pub least_e: u32,
-    pub high_e: u32,
+/// With a cell whose left side is at `from` at least.
+fn with_cell(instance: &Instance, step: Decided, from: u32, ranges: &Packed) -> Decided
+    requires e { (unpacked ranges.now).e.low + step.cell_w < 2 ^ 32 }
+    requires from { from + step.cell_w < 2 ^ 32 }
+    requires d { step.least_c + step.cell_h < 2 ^ 32 }
+    ensures { fixed_of result ≡ fixed step.level (cell_known instance.now (place_in step) (known_in step) from (unpacked ranges.now)) }
+{
+    let (low, high) = ranges.range(Var::E);
+    let left = low.max(from);
+    Decided {
+        least_b: step.least_b.max(left + step.cell_w),
+        least_d: step.least_d.max(step.least_c + step.cell_h),
+        least_e: left,
+        high_e: high.min(instance.width(step.plate())),
+        ..step
+    }
 }
 
-impl Ends {
-    /// What stands before the first step.
-    pub fn none() -> Ends
-        ensures { result ≡ no_ends }
-    {
-        Ends {
-            least_a: 0,
-            high_a: 0,
-            least_b: 0,
-            high_b: 0,
-            least_c: 0,
-            high_c: 0,
-            least_d: 0,
-            high_d: 0,
-            least_e: 0,
-            high_e: 0,
-        }
-    }
+/// With a band whose lower side is at `from` at least, and its first cell.
+fn with_band(instance: &Instance, step: Decided, from: u32, ranges: &Packed) -> Decided
+    requires ranges { AreRangesWithin (unpacked ranges.now) }
+    requires cell_w { step.cell_w ≤ 20000 }
+    requires a { step.least_a ≤ 40000000 }
+    requires from { from ≤ 40000000 }
+    requires cell_h { step.cell_h ≤ 40000000 }
+    ensures { fixed_of result ≡ fixed step.level (band_known instance.now (place_in step) (known_in step) from (unpacked ranges.now)) }
+{
+    let c = ranges.range(Var::C);
+    let d = ranges.range(Var::D);
+    let low = c.0.max(from);
+    let begun = Decided {
+        least_c: low,
+        high_c: c.1,
+        least_d: d.0.max(low + instance.params().min2),
+        high_d: d.1,
+        ..step
+    };
+    with_cell(instance, begun, begun.least_a, ranges)
+}
 
-    /// With a cell whose left side is at `from` at least.
-    fn with_cell(self, instance: &Instance, place: &Placed, from: u32, ranges: &Packed) -> Ends
-        requires e { (unpacked ranges.now).e.low + place.now.cell_w < 2 ^ 32 }
-        requires from { from + place.now.cell_w < 2 ^ 32 }
-        requires d { self.least_c + place.now.cell_h < 2 ^ 32 }
-        ensures { known_of place.now result ≡ cell_known instance.now (place_in place.now) (known_of place.now self) from (unpacked ranges.now) }
-    {
-        let (low, high) = ranges.range(Var::E);
-        let left = low.max(from);
-        Ends {
-            least_b: self.least_b.max(left + place.cell_w),
-            least_d: self.least_d.max(self.least_c + place.cell_h),
-            least_e: left,
-            high_e: high.min(instance.width(place.plate())),
-            ..self
-        }
-    }
+/// With a strip whose left side is at `from` at least, and its first band and cell.
+fn with_strip(instance: &Instance, step: Decided, from: u32, ranges: &Packed) -> Decided
+    requires ranges { AreRangesWithin (unpacked ranges.now) }
+    requires cell_w { step.cell_w ≤ 20000 }
+    requires from { from ≤ 40000000 }
+    requires cell_h { step.cell_h ≤ 40000000 }
+    ensures { fixed_of result ≡ fixed step.level (strip_known instance.now (place_in step) (known_in step) from (unpacked ranges.now)) }
+{
+    let a = ranges.range(Var::A);
+    let b = ranges.range(Var::B);
+    let width = instance.width(step.plate());
+    let left = a.0.max(from);
+    let begun = Decided {
+        least_a: left,
+        high_a: a.1.min(width),
+        least_b: b.0.max(left + instance.params().min1),
+        high_b: b.1.min(width),
+        ..step
+    };
+    with_band(instance, begun, 0, ranges)
+}
 
-    /// With a band whose lower side is at `from` at least, and its first cell.
-    fn with_band(self, instance: &Instance, place: &Placed, from: u32, ranges: &Packed) -> Ends
-        requires ranges { AreRangesWithin (unpacked ranges.now) }
-        requires cell_w { place.now.cell_w ≤ 20000 }
-        requires a { self.least_a ≤ 40000000 }
-        requires from { from ≤ 40000000 }
-        requires cell_h { place.now.cell_h ≤ 40000000 }
-        ensures { known_of place.now result ≡ band_known instance.now (place_in place.now) (known_of place.now self) from (unpacked ranges.now) }
-    {
-        let c = ranges.range(Var::C);
-        let d = ranges.range(Var::D);
-        let low = c.0.max(from);
-        let begun = Ends {
-            least_c: low,
-            high_c: c.1,
-            least_d: d.0.max(low + instance.params().min2),
-            high_d: d.1,
-            ..self
-        };
-        begun.with_cell(instance, place, begun.least_a, ranges)
+/// A step in its place behind `last`, whose cuts it still has, with its own.
+pub fn with_cuts(instance: &Instance, last: &Decided, step: Decided, ranges: &Packed) -> Decided
+    requires ranges { AreRangesWithin (unpacked ranges.now) }
+    requires cell_w { step.cell_w ≤ 20000 }
+    requires cell_h { step.cell_h ≤ 40000000 }
+    requires a { last.now.least_a ≤ 40000000 }
+    requires b { last.now.least_b ≤ 40000000 }
+    requires d { last.now.least_d ≤ 40000000 }
+    requires e { last.now.least_e + last.now.cell_w ≤ 40000000 }
+    requires c { last.now.least_c ≤ 40000000 }
+    requires behind { known_in step ≡ with_place (known_in last.now) (place_in step) }
+    ensures { fixed_of result ≡ fixed step.level (next_known instance.now step.level (place_in step) (known_in last.now) (unpacked ranges.now)) }
+{
+    match step.level {
+        Level::NewPlate => with_strip(instance, step, 0, ranges),
+        Level::NewStrip => with_strip(instance, step, last.least_b, ranges),
+        Level::NewBand => with_band(instance, step, last.least_d, ranges),
+        Level::NewCell => with_cell(instance, step, last.least_e + last.cell_w, ranges),
+        Level::Over => Decided {
+            least_d: step.least_d.max(step.least_c + step.cell_h),
+            ..step
+        },
     }
+}
 
-    /// With a strip whose left side is at `from` at least, and its first band and cell.
-    fn with_strip(self, instance: &Instance, place: &Placed, from: u32, ranges: &Packed) -> Ends
-        requires ranges { AreRangesWithin (unpacked ranges.now) }
-        requires cell_w { place.now.cell_w ≤ 20000 }
-        requires from { from ≤ 40000000 }
-        requires cell_h { place.now.cell_h ≤ 40000000 }
-        ensures { known_of place.now result ≡ strip_known instance.now (place_in place.now) (known_of place.now self) from (unpacked ranges.now) }
-    {
-        let a = ranges.range(Var::A);
-        let b = ranges.range(Var::B);
-        let width = instance.width(place.plate());
-        let left = a.0.max(from);
-        let begun = Ends {
-            least_a: left,
-            high_a: a.1.min(width),
-            least_b: b.0.max(left + instance.params().min1),
-            high_b: b.1.min(width),
-            ..self
-        };
-        begun.with_band(instance, place, 0, ranges)
-    }
-
-    /// Those of the next step, which stands at `place` and begins this level; this step stands at `last`.
-    pub fn next(
-        self,
-        instance: &Instance,
-        level: Level,
-        last: &Placed,
-        place: &Placed,
-        ranges: &Packed,
-    ) -> Ends
-        requires ranges { AreRangesWithin (unpacked ranges.now) }
-        requires cell_w { place.now.cell_w ≤ 20000 }
-        requires cell_h { place.now.cell_h ≤ 40000000 }
-        requires a { self.least_a ≤ 40000000 }
-        requires b { self.least_b ≤ 40000000 }
-        requires d { self.least_d ≤ 40000000 }
-        requires e { self.least_e + last.now.cell_w ≤ 40000000 }
-        requires c { self.least_c ≤ 40000000 }
-        ensures { known_of place.now result ≡ next_known instance.now level (place_in place.now) (known_of last.now self) (unpacked ranges.now) }
-    {
-        match level {
-            Level::NewPlate => self.with_strip(instance, place, 0, ranges),
-            Level::NewStrip => self.with_strip(instance, place, self.least_b, ranges),
-            Level::NewBand => self.with_band(instance, place, self.least_d, ranges),
-            Level::NewCell => self.with_cell(instance, place, self.least_e + last.cell_w, ranges),
-            Level::Over => Ends {
-                least_d: self.least_d.max(self.least_c + place.cell_h),
-                ..self
-            },
-        }
-    }
-
-    /// With the least values that the next step, which begins this level, has for the same strip and band.
-    pub fn settled(self, level: Level, next: &Ends) -> Ends
-        ensures { (p q : PlacedOf) → known_of p result ≡ settled_known level (known_of p self) (known_of q next.now) }
-    {
-        match level {
-            Level::NewPlate => self,
-            Level::NewStrip => self,
-            Level::NewBand => Ends {
-                least_b: next.least_b,
-                ..self
-            },
-            Level::NewCell => Ends {
-                least_b: next.least_b,
-                least_d: next.least_d,
-                ..self
-            },
-            Level::Over => Ends {
-                least_b: next.least_b,
-                least_d: next.least_d,
-                ..self
-            },
-        }
+/// With the least values that the next step has for the same strip and band.
+pub fn settled(step: Decided, next: &Decided) -> Decided
+    ensures { fixed_of result ≡ fixed step.level (settled_known next.now.level (known_in step) (known_in next.now)) }
+{
+    match next.level {
+        Level::NewPlate | Level::NewStrip => step,
+        Level::NewBand => Decided {
+            least_b: next.least_b,
+            ..step
+        },
+        Level::NewCell | Level::Over => Decided {
+            least_b: next.least_b,
+            least_d: next.least_d,
+            ..step
+        },
     }
 }

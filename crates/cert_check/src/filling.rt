@@ -1,22 +1,57 @@
 //! The decided steps of a box, with what is known of each.
 
-ghost use Rattle.std.specs.Prelude.{◌≡◌, ◌≤◌, All, [], length, map, take};
+ghost use Rattle.std.specs.Prelude.{◌≡◌, ◌<◌, ◌≤◌, All, [], length, map, take};
+ghost use Rattle.plan_trace.specs.Marks.{begins, drawn as drawn_of};
 ghost use Rattle.plan_box.specs.Decisions.{decided};
 ghost use Rattle.plan_box.specs.Frames.{frame_of};
-ghost use Rattle.plan_box.specs.Leasts.{no_known, settle as settle_of, settle_at};
+ghost use Rattle.plan_box.specs.Leasts.{fixed, no_known, settle as settle_of, settle_at};
 ghost use Rattle.plan_box.specs.Packed.{unpacked};
-ghost use Rattle.cert_check.specs.inner.Follows.{follow as follow_of};
-ghost use Rattle.cert_check.specs.inner.Knowns.{AreKnown, fixed_of, known_of};
+ghost use Rattle.plan_box.specs.inner.Follows.{draws_of, follow as follow_of, next_fixed};
+ghost use Rattle.cert_check.specs.inner.Knowns.{AreKnown, fixed_of, known_in};
 ghost use Rattle.cert_check.specs.inner.Paths.{AreStored};
-ghost use Rattle.cert_check.specs.inner.Within.{AreRangesWithin};
+ghost use Rattle.plan_box.specs.inner.Within.{AreRangesWithin, AreWithin, limit};
 
-use crate::ends::Ends;
+use crate::ends::{settled, with_cuts};
 use crate::free::count_decided;
-use crate::placed::Placed;
+use crate::placed::next_place;
 use crate::steps::Decided;
 use crate::taken::{clear, draw};
 use glass_base::{Instance, Run};
-use plan_box::Packed;
+use plan_box::{Packed, Var};
+use plan_trace::laid::level_of;
+use plan_trace::level::Level;
+
+/// What a step begins behind these steps: the first one begins everything.
+#[tactic(auto, using(plan_box::proofs::Draws::draws_none, plan_box::proofs::Draws::draws_some))]
+fn level_behind(before: &[Packed], kind: u32) -> Level
+    ensures { result ≡ begins (draws_of before.now) kind }
+{
+    if before.is_empty() {
+        Level::NewPlate
+    } else {
+        level_of(kind)
+    }
+}
+
+/// The step of these ranges behind `last`, as it and the earlier ones give it; `before` has the ranges of all steps before it, of which
+/// `taken` draw from its stack.
+fn next(
+    instance: &Instance,
+    before: &[Packed],
+    last: &Decided,
+    taken: u32,
+    ranges: &Packed,
+) -> Decided
+    requires taken { taken ≡ drawn_of (draws_of before.now) (unpacked ranges.now).stack.low }
+    requires few { length before.now < 800 }
+    requires ranges { AreRangesWithin (unpacked ranges.now) }
+    requires within { AreWithin (limit (length before.now)) (known_in last.now) }
+    ensures { fixed_of result ≡ next_fixed instance.now (draws_of before.now) (known_in last.now) (unpacked ranges.now) }
+{
+    let level = level_behind(before, ranges.range(Var::Kind).0);
+    let step = next_place(instance, taken, last, level, ranges);
+    with_cuts(instance, last, step, ranges)
+}
 
 /// Writes the decided steps of these ranges, each as it and the earlier ones give it.
 fn follow(instance: &Instance, ranges: &[Packed], steps: &mut Run<Decided>, taken: &mut Run<u32>)
@@ -29,23 +64,22 @@ fn follow(instance: &Instance, ranges: &[Packed], steps: &mut Run<Decided>, take
     ensures steps { map fixed_of (take (length ranges.now) steps.new.items) ≡ follow_of instance.now [] no_known (map unpacked ranges.now) }
 {
     let _items = instance.items();
-    clear(taken);
+    clear(taken, ranges);
     let mut last = Decided::none();
     for (i, here) in ranges.iter().enumerate() {
-        let count = draw(taken, &ranges[..i], here);
-        last = last.next(instance, &ranges[..i], count, here);
+        let count = draw(taken, here);
+        last = next(instance, &ranges[..i], &last, count, here);
         steps.set(i, last);
     }
 }
 
-/// The ends of a step with those of the next one, if there is one.
-fn ends_before(place: &Placed, ends: Ends, later: &[Decided]) -> Ends
-    ensures { known_of place.now result ≡ settle_at (known_of place.now ends) (map fixed_of later.now) }
+/// A step with the least values of the next one, if there is one, for the same strip and band.
+fn settled_by(step: Decided, later: &[Decided]) -> Decided
+    ensures { fixed_of result ≡ fixed step.level (settle_at (known_in step) (map fixed_of later.now)) }
 {
-    let _place = place;
     match later.first() {
-        None => ends,
-        Some(next) => ends.settled(next.level, &next.ends),
+        None => step,
+        Some(next) => settled(step, next),
     }
 }
 
@@ -55,12 +89,10 @@ fn settle(steps: &mut Run<Decided>, count: usize)
     ensures many { length steps.new.items ≡ length steps.old.items }
     ensures steps { map fixed_of (take count steps.new.items) ≡ settle_of (map fixed_of (take count steps.old.items)) }
 {
-    let mut i = count;
-    while i > 0 {
-        i -= 1;
+    for i in (0..count).rev() {
         let here = steps.as_slice()[i];
-        let ends = ends_before(&here.place, here.ends, &steps.as_slice()[i + 1..count]);
-        steps.set(i, Decided { ends, ..here });
+        let step = settled_by(here, &steps.as_slice()[i + 1..count]);
+        steps.set(i, step);
     }
 }
 

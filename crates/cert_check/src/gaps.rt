@@ -1,7 +1,10 @@
 //! Gaps that can only be 1 to `waste - 1`, beside the pieces of a decided step.
 
-ghost use Rattle.std.specs.Prelude.{◌≡◌, ◌+◌, ◌<◌, ◌⊎◌, ◌↔◌, ◌^◌, IsTrue};
+ghost use Rattle.std.specs.Prelude.{◌≡◌, ◌+◌, ◌<◌, ◌⊎◌, ◌↔◌, ◌^◌, Bool, IsTrue};
 ghost use Rattle.glass_base.specs.Plates.{Width};
+ghost use Rattle.glass_base.specs.declared.params.Params.{Params as ParamsOf};
+ghost use Rattle.plan_trace.specs.declared.level.Level.{Level as LevelOf};
+ghost use Rattle.plan_box.specs.Leasts.{Known};
 ghost use Rattle.plan_trace.specs.TraceRules.{is_last_band as last_band, is_last_cell as last_cell, is_last_strip as last_strip};
 ghost use Rattle.plan_trace.specs.declared.level.Level.TheVariants.{NewCell, Over};
 ghost use Rattle.plan_box.specs.Reasons.{BandR2, CellR2, StepR2, StripR2, Tight, TopR2};
@@ -69,14 +72,13 @@ fn strip_behind(
     requires { before.0 < 2 ^ 40 }
     ensures { let k = known_in here.now in IsTrue result ↔ (Tight instance.now.params.waste before.0 before.1 k.least_a k.high_a ⊎ (IsTrue (last_strip whole (levels_in later.now)) × Tight instance.now.params.waste k.least_b k.high_b (Width instance.now k.plate) (Width instance.now k.plate))) }
 {
-    let k = &here.ends;
-    let width = instance.width(here.place.plate());
+    let width = instance.width(here.plate());
     is_wedged(
         instance.params().waste,
         before,
-        cut(k.least_a, k.high_a),
+        cut(here.least_a, here.high_a),
         is_last_strip(whole, later),
-        cut(k.least_b, k.high_b),
+        cut(here.least_b, here.high_b),
         cut(width, width),
     )
 }
@@ -91,13 +93,11 @@ fn strip_gap(
 ) -> bool
     ensures { IsTrue result ↔ StripR2 instance.now whole here.now.level (known_in last.now) (known_in here.now) (levels_in later.now) }
 {
-    let strip_before = cut(last.ends.least_b, last.ends.high_b);
+    let strip_before = cut(last.least_b, last.high_b);
     match here.level {
         Level::NewPlate => strip_behind(instance, whole, (0, 0), here, later),
         Level::NewStrip => strip_behind(instance, whole, strip_before, here, later),
-        Level::NewBand => false,
-        Level::NewCell => false,
-        Level::Over => false,
+        Level::NewBand | Level::NewCell | Level::Over => false,
     }
 }
 
@@ -112,14 +112,13 @@ fn band_behind(
     requires { before.0 < 2 ^ 40 }
     ensures { let k = known_in here.now in IsTrue result ↔ (Tight params.now.waste before.0 before.1 k.least_c k.high_c ⊎ (IsTrue (last_band whole (levels_in later.now)) × Tight params.now.waste k.least_d k.high_d params.now.height params.now.height)) }
 {
-    let k = &here.ends;
     let height = params.height;
     is_wedged(
         params.waste,
         before,
-        cut(k.least_c, k.high_c),
+        cut(here.least_c, here.high_c),
         is_last_band(whole, later),
-        cut(k.least_d, k.high_d),
+        cut(here.least_d, here.high_d),
         cut(height, height),
     )
 }
@@ -128,13 +127,11 @@ fn band_behind(
 fn band_gap(params: &Params, whole: bool, last: &Decided, here: &Decided, later: &[Decided]) -> bool
     ensures { IsTrue result ↔ BandR2 params.now whole here.now.level (known_in last.now) (known_in here.now) (levels_in later.now) }
 {
-    let band_before = cut(last.ends.least_d, last.ends.high_d);
+    let band_before = cut(last.least_d, last.high_d);
     match here.level {
-        Level::NewPlate => band_behind(params, whole, (0, 0), here, later),
-        Level::NewStrip => band_behind(params, whole, (0, 0), here, later),
+        Level::NewPlate | Level::NewStrip => band_behind(params, whole, (0, 0), here, later),
         Level::NewBand => band_behind(params, whole, band_before, here, later),
-        Level::NewCell => false,
-        Level::Over => false,
+        Level::NewCell | Level::Over => false,
     }
 }
 
@@ -149,14 +146,13 @@ fn cell_behind(
     requires { before.0 < 2 ^ 40 }
     ensures { let k = known_in here.now in IsTrue result ↔ (Tight params.now.waste before.0 before.1 k.least_e k.high_e ⊎ (IsTrue (last_cell whole (levels_in later.now)) × Tight params.now.waste (k.least_e + k.cell_w) (k.high_e + k.cell_w) k.least_b k.high_b)) }
 {
-    let k = &here.ends;
     is_wedged(
         params.waste,
         before,
-        cut(k.least_e, k.high_e),
+        cut(here.least_e, here.high_e),
         is_last_cell(whole, later),
-        cut_behind(k.least_e, k.high_e, here.place.cell_w),
-        cut(k.least_b, k.high_b),
+        cut_behind(here.least_e, here.high_e, here.cell_w),
+        cut(here.least_b, here.high_b),
     )
 }
 
@@ -164,62 +160,50 @@ fn cell_behind(
 fn cell_gap(params: &Params, whole: bool, last: &Decided, here: &Decided, later: &[Decided]) -> bool
     ensures { IsTrue result ↔ CellR2 params.now whole here.now.level (known_in last.now) (known_in here.now) (levels_in later.now) }
 {
-    let strip = cut(here.ends.least_a, here.ends.high_a);
-    let cell_before = cut_behind(last.ends.least_e, last.ends.high_e, last.place.cell_w);
+    let strip = cut(here.least_a, here.high_a);
+    let cell_before = cut_behind(last.least_e, last.high_e, last.cell_w);
     match here.level {
-        Level::NewPlate => cell_behind(params, whole, strip, here, later),
-        Level::NewStrip => cell_behind(params, whole, strip, here, later),
-        Level::NewBand => cell_behind(params, whole, strip, here, later),
+        Level::NewPlate | Level::NewStrip | Level::NewBand => {
+            cell_behind(params, whole, strip, here, later)
+        }
         Level::NewCell => cell_behind(params, whole, cell_before, here, later),
         Level::Over => false,
     }
 }
 
 /// What is left over the only item of a finished cell, where it is not lifted.
-fn over_one(params: &Params, whole: bool, last: &Decided, here: &Decided, later: &[Decided]) -> bool
-    ensures { IsTrue result ↔ TopR2 params.now whole last.now.level NewCell here.now.place.lift (known_in last.now) (known_in here.now) (levels_in later.now) }
+fn over_one(params: &Params, whole: bool, here: &Decided, later: &[Decided]) -> bool
+    ensures { (m : LevelOf) (j : Known) → IsTrue result ↔ TopR2 params.now whole m NewCell here.now.lift j (known_in here.now) (levels_in later.now) }
 {
-    let _last = last;
-    let k = &here.ends;
-    if here.place.lift > 0 {
-        return false;
-    }
-    is_last_in_cell(whole, later)
+    here.lift == 0
+        && is_last_in_cell(whole, later)
         && is_tight(
             params.waste,
-            cut_behind(k.least_c, k.high_c, here.place.h),
-            cut(k.least_d, k.high_d),
+            cut_behind(here.least_c, here.high_c, here.h),
+            cut(here.least_d, here.high_d),
         )
 }
 
 /// What is left over the second item of a cell with no third one.
-fn over_two(params: &Params, whole: bool, last: &Decided, here: &Decided, later: &[Decided]) -> bool
-    ensures { IsTrue result ↔ TopR2 params.now whole last.now.level Over here.now.place.lift (known_in last.now) (known_in here.now) (levels_in later.now) }
+fn over_two(last: &Decided, here: &Decided, later: &[Decided]) -> bool
+    ensures { (p : ParamsOf) (whole : Bool) → IsTrue result ↔ TopR2 p whole last.now.level Over here.now.lift (known_in last.now) (known_in here.now) (levels_in later.now) }
 {
-    let _for_one = (params.waste, whole);
-    let high_c = here.ends.high_c;
-    let both = u64::from(last.place.h) + u64::from(here.place.h);
-    let leaves = is_last_in_cell(true, later)
-        && u64::from(high_c) + both < u64::from(here.ends.least_d);
-    match last.level {
-        Level::NewPlate => leaves,
-        Level::NewStrip => leaves,
-        Level::NewBand => leaves,
-        Level::NewCell => leaves,
-        Level::Over => false,
-    }
+    let high_c = here.high_c;
+    let both = u64::from(last.h) + u64::from(here.h);
+    let top = u64::from(high_c) + both;
+    !matches!(last.level, Level::Over)
+        && is_last_in_cell(true, later)
+        && top < u64::from(here.least_d)
 }
 
 /// What is left over the items of a cell.
 fn top_gap(params: &Params, whole: bool, last: &Decided, here: &Decided, later: &[Decided]) -> bool
-    ensures { IsTrue result ↔ TopR2 params.now whole last.now.level here.now.level here.now.place.lift (known_in last.now) (known_in here.now) (levels_in later.now) }
+    ensures { IsTrue result ↔ TopR2 params.now whole last.now.level here.now.level here.now.lift (known_in last.now) (known_in here.now) (levels_in later.now) }
 {
-    match here.level {
-        Level::NewPlate => over_one(params, whole, last, here, later),
-        Level::NewStrip => over_one(params, whole, last, here, later),
-        Level::NewBand => over_one(params, whole, last, here, later),
-        Level::NewCell => over_one(params, whole, last, here, later),
-        Level::Over => over_two(params, whole, last, here, later),
+    if matches!(here.level, Level::Over) {
+        over_two(last, here, later)
+    } else {
+        over_one(params, whole, here, later)
     }
 }
 

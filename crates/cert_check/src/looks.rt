@@ -8,7 +8,7 @@ use crate::steps::Decided;
 use plan_trace::level::Level;
 
 /// Whether a strip has no later strip on its plate; `end` where no step is left to tell.
-#[tactic(auto, using(crate::proofs::Levels::strip_at))]
+#[tactic(auto, using(plan_box::proofs::Levels::strip_at))]
 pub fn is_last_strip(end: bool, later: &[Decided]) -> bool
     ensures { result ≡ last_strip end (levels_in later.now) }
 {
@@ -16,41 +16,35 @@ pub fn is_last_strip(end: bool, later: &[Decided]) -> bool
         match step.level {
             Level::NewPlate => return true,
             Level::NewStrip => return false,
-            Level::NewBand => {}
-            Level::NewCell => {}
-            Level::Over => {}
+            Level::NewBand | Level::NewCell | Level::Over => {}
         }
     }
     end
 }
 
 /// Whether a band has no later band in its strip.
-#[tactic(auto, using(crate::proofs::Levels::band_at))]
+#[tactic(auto, using(plan_box::proofs::Levels::band_at))]
 pub fn is_last_band(end: bool, later: &[Decided]) -> bool
     ensures { result ≡ last_band end (levels_in later.now) }
 {
     for step in later {
         match step.level {
-            Level::NewPlate => return true,
-            Level::NewStrip => return true,
+            Level::NewPlate | Level::NewStrip => return true,
             Level::NewBand => return false,
-            Level::NewCell => {}
-            Level::Over => {}
+            Level::NewCell | Level::Over => {}
         }
     }
     end
 }
 
 /// Whether a cell has no later cell in its band.
-#[tactic(auto, using(crate::proofs::Levels::cell_at))]
+#[tactic(auto, using(plan_box::proofs::Levels::cell_at))]
 pub fn is_last_cell(end: bool, later: &[Decided]) -> bool
     ensures { result ≡ last_cell end (levels_in later.now) }
 {
     for step in later {
         match step.level {
-            Level::NewPlate => return true,
-            Level::NewStrip => return true,
-            Level::NewBand => return true,
+            Level::NewPlate | Level::NewStrip | Level::NewBand => return true,
             Level::NewCell => return false,
             Level::Over => {}
         }
@@ -64,12 +58,6 @@ pub fn is_last_in_cell(end: bool, later: &[Decided]) -> bool
 {
     match later.first() {
         None => end,
-        Some(step) => match step.level {
-            Level::NewPlate => true,
-            Level::NewStrip => true,
-            Level::NewBand => true,
-            Level::NewCell => true,
-            Level::Over => false,
-        },
+        Some(step) => !matches!(step.level, Level::Over),
     }
 }

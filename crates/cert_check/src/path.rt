@@ -9,6 +9,7 @@ ghost use Rattle.plan_box.specs.Ranges.{span_of, full_ranges};
 ghost use Rattle.plan_box.specs.Ranges.{root_of};
 ghost use Rattle.cert_check.specs.inner.Paths.{beside, boxes_of, IsPathOf};
 
+use cert_log::Node;
 use glass_base::{Instance, Memory, Run, append};
 use plan_box::{Frame, Packed, Var};
 use std::alloc::Global;
@@ -77,27 +78,29 @@ fn replace(stored: &mut Run<Packed>, frame: Frame, step: u32, var: Var, low: u32
 }
 
 /// Leads from a done box to the next one that waits, if one does.
-fn back(stored: &mut Run<Packed>, turns: &mut Run<Turn>, frame: Frame) -> Result<bool, Memory>
+fn back(stored: &mut Run<Packed>, turns: &mut Run<Turn>, frame: Frame) -> bool
     requires path { IsPathOf frame stored.old.items turns.old.items }
     ensures path { IsPathOf frame stored.new.items turns.new.items }
-    ensures boxes { IfOk result (λ found. boxes_of (not found) (map unpacked stored.new.items) turns.new.items ≡ beside (map unpacked stored.old.items) (reverse turns.old.items)) }
+    ensures boxes { boxes_of (not result) (map unpacked stored.new.items) turns.new.items ≡ beside (map unpacked stored.old.items) (reverse turns.old.items) }
 {
-    while let Some(turn) = turns.pop() {
+    while let Some(&turn) = turns.as_slice().last() {
         if !turn.upper {
             let middle = turn.low + (turn.high - turn.low) / 2;
             replace(stored, frame, turn.step, turn.var, middle + 1, turn.high);
-            append(
-                turns,
+            let last = turns.len() - 1;
+            turns.set(
+                last,
                 Turn {
                     upper: true,
                     ..turn
                 },
-            )?;
-            return Ok(true);
+            );
+            return true;
         }
         replace(stored, frame, turn.step, turn.var, turn.low, turn.high);
+        turns.pop();
     }
-    Ok(false)
+    false
 }
 
 /// Leads from a box to its lower half.
@@ -138,6 +141,7 @@ impl Path {
     ghost use Rattle.plan_box.specs.Frames.{frame_of};
     ghost use Rattle.plan_box.specs.Ranges.{root_of};
     ghost use Rattle.cert_check.specs.inner.Paths.{top, below};
+    ghost use Rattle.cert_check.specs.inner.Walks.{MayGo, boxes_after};
 
     /// The path to the root box, whose ranges are full.
     pub fn new(alloc: Global, instance: &Instance) -> Result<Path, Memory>
@@ -175,12 +179,27 @@ impl Path {
     }
 
     /// Leaves the box at hand. The next one that waits is at hand then.
-    pub fn leave(&mut self) -> Result<(), Memory>
+    pub fn leave(&mut self)
         requires waits { self.old.boxes ≢ [] }
         ensures frame { self.new.frame ≡ self.old.frame }
-        ensures boxes { OnOk result (self.new.boxes ≡ below self.old.boxes) }
+        ensures boxes { self.new.boxes ≡ below self.old.boxes }
     {
-        self.ended = !back(&mut self.stored, &mut self.turns, self.frame)?;
-        Ok(())
+        self.ended = !back(&mut self.stored, &mut self.turns, self.frame);
+    }
+
+    /// Goes on behind a node that stands at the box at hand.
+    pub fn pass(&mut self, node: Node) -> Result<(), Memory>
+        requires waits { self.old.boxes ≢ [] }
+        requires may_go { MayGo (top self.old.boxes) node }
+        ensures frame { self.new.frame ≡ self.old.frame }
+        ensures boxes { OnOk result (self.new.boxes ≡ boxes_after node (top self.old.boxes) (below self.old.boxes)) }
+    {
+        match node {
+            Node::Split { step, var } => self.split(step, var),
+            Node::Closed(_) | Node::Left => {
+                self.leave();
+                Ok(())
+            }
+        }
     }
 }

@@ -1,62 +1,128 @@
 //! Where a decided step stands, by its discrete numbers and those of the steps before it.
 
-ghost use Rattle.std.specs.Prelude.{◌≡◌, ◌-◌};
-ghost use Rattle.cert_check.specs.inner.Knowns.{no_placed};
+ghost use Rattle.std.specs.Prelude.{◌≡◌, ◌+◌, ◌*◌, ◌<◌, ◌≤◌, ◌^◌, IfSome, List};
+ghost use Rattle.glass_base.specs.Items.{IsItemInRange};
+ghost use Rattle.glass_base.specs.Problem.{IsProblem, item_at};
+ghost use Rattle.plan_trace.specs.Marks.{Draw, begins, drawn as drawn_of, place_of};
+ghost use Rattle.plan_box.specs.Decisions.{draw_at};
+ghost use Rattle.plan_box.specs.Leasts.{fixed};
+ghost use Rattle.plan_box.specs.Packed.{unpacked};
+ghost use Rattle.plan_box.specs.inner.Follows.{grown_place};
+ghost use Rattle.plan_box.specs.inner.Within.{AreRangesWithin};
+ghost use Rattle.cert_check.specs.inner.Knowns.{fixed_of, known_in, place_in, with_place};
 
-use glass_base::Item;
+use crate::steps::Decided;
+use glass_base::{Instance, Item};
+use plan_box::{Packed, Var};
+use plan_trace::laid::{height_in, plates_behind, width_in};
+use plan_trace::level::Level;
 
-/// What the discrete numbers of a decided step, and of the steps before it, determine. Lengths are in mm, areas in mm².
-#[derive(Clone, Copy)]
-pub struct Placed {
-    pub stack: u32,
-    pub turn: u32,
-    pub kind: u32,
-    pub lift: u32,
-    /// The item that it draws, if its stack has one left.
-    pub item: Option<Item>,
-    /// The plates begun so far.
-    pub plates: u32,
-    /// The sides of the item as it lies, 0 where there is none.
-    pub w: u32,
-    pub h: u32,
-    /// The width of the cell, and the heights of its items so far with a waste for each that is lifted.
-    pub cell_w: u32,
-    pub cell_h: u32,
-    /// The widths of the band's cells so far, and the greatest such sum among the strip's bands.
-    pub band_w: u32,
-    pub strip_w: u32,
-    /// The areas of the band's items so far, and of the items of all steps so far.
-    pub band_area: u64,
-    pub area: u64,
+/// The next item of a stack of which so many are drawn.
+fn next_item(instance: &Instance, stack: u32, taken: u32) -> Option<Item>
+    ensures value { result ≡ item_at instance.now stack taken }
+    ensures range { IfSome result IsItemInRange }
+    ensures rules { IsProblem instance.now }
+{
+    if stack >= instance.stacks() {
+        return None;
+    }
+    let place = *instance.stack(stack).get(taken as usize)?;
+    instance.items().get(place as usize).copied()
 }
 
-impl Placed {
-    /// What stands before the first step.
-    pub fn none() -> Placed
-        ensures { result ≡ no_placed }
-    {
-        Placed {
-            stack: 0,
-            turn: 0,
-            kind: 0,
-            lift: 0,
-            item: None,
-            plates: 0,
-            w: 0,
-            h: 0,
-            cell_w: 0,
-            cell_h: 0,
-            band_w: 0,
-            strip_w: 0,
-            band_area: 0,
-            area: 0,
-        }
-    }
+/// The height that an item takes in its cell.
+#[tactic(auto, using(plan_box::proofs::Sizes::times_bit))]
+fn own_height(instance: &Instance, h: u32, lift: u32) -> u32
+    requires h { h ≤ 20000 }
+    requires lift { lift ≤ 1 }
+    ensures value { result ≡ h + lift * instance.now.params.waste }
+    ensures small { result ≤ 40000 }
+{
+    h + lift * instance.params().waste
+}
 
-    /// The number of the plate, 0 where none is begun.
-    pub fn plate(&self) -> u32
-        ensures { result ≡ self.now.plates - 1 }
-    {
-        self.plates.saturating_sub(1)
+/// The step with the sizes of its cell, band and strip, and the areas.
+fn grown(last: &Decided, step: Decided, own: u32) -> Decided
+    requires w { step.w ≤ 20000 }
+    requires h { step.h ≤ 20000 }
+    requires own { own ≤ 40000 }
+    requires cell_h { last.now.cell_h ≤ 40000000 }
+    requires band_w { last.now.band_w ≤ 40000000 }
+    requires band_area { last.now.band_area ≤ 1000000000000 }
+    requires area { last.now.area ≤ 1000000000000 }
+    ensures item { result.item ≡ step.item }
+    ensures value { fixed_of result ≡ fixed step.level (with_place (known_in step) (grown_place step.level (place_in last.now) (place_in step) own)) }
+{
+    let area = u64::from(step.w) * u64::from(step.h);
+    let begun = Decided {
+        cell_w: step.w,
+        cell_h: own,
+        band_w: step.w,
+        strip_w: step.w,
+        band_area: area,
+        area: last.area + area,
+        ..step
+    };
+    match step.level {
+        Level::NewPlate | Level::NewStrip => begun,
+        Level::NewBand => Decided {
+            strip_w: last.strip_w.max(step.w),
+            ..begun
+        },
+        Level::NewCell => Decided {
+            band_w: last.band_w + step.w,
+            strip_w: last.strip_w.max(last.band_w + step.w),
+            band_area: last.band_area + area,
+            ..begun
+        },
+        Level::Over => Decided {
+            cell_w: last.cell_w,
+            cell_h: last.cell_h + own,
+            band_w: last.band_w,
+            strip_w: last.strip_w.max(last.band_w),
+            band_area: last.band_area + area,
+            ..begun
+        },
     }
+}
+
+/// The step of these ranges behind `last`, in its place, where so many steps before it draw from its stack. Its cuts are still those of `last`.
+#[tactic(auto, using(plan_box::proofs::Sizes::width_small, plan_box::proofs::Sizes::height_small))]
+pub fn next_place(
+    instance: &Instance,
+    taken: u32,
+    last: &Decided,
+    level: Level,
+    ranges: &Packed,
+) -> Decided
+    requires ranges { AreRangesWithin (unpacked ranges.now) }
+    requires plates { last.now.plates ≤ 40000000 }
+    requires cell_h { last.now.cell_h ≤ 40000000 }
+    requires band_w { last.now.band_w ≤ 40000000 }
+    requires band_area { last.now.band_area ≤ 1000000000000 }
+    requires area { last.now.area ≤ 1000000000000 }
+    ensures value { (before : List Draw) → taken ≡ drawn_of before (unpacked ranges.now).stack.low → level ≡ begins before (unpacked ranges.now).kind.low → fixed_of result ≡ fixed level (with_place (known_in last.now) (place_of instance.now before (place_in last.now) (draw_at (unpacked ranges.now)))) }
+    ensures item { IfSome result.item IsItemInRange }
+    ensures rules { IsProblem instance.now }
+{
+    let stack = ranges.range(Var::Stack).0;
+    let turn = ranges.range(Var::Turn).0;
+    let kind = ranges.range(Var::Kind).0;
+    let lift = ranges.range(Var::Lift).0;
+    let item = next_item(instance, stack, taken);
+    let h = height_in(turn, item);
+    let begun = Decided {
+        level,
+        stack,
+        turn,
+        kind,
+        lift,
+        item,
+        plates: plates_behind(kind, last.plates),
+        w: width_in(turn, item),
+        h,
+        ..*last
+    };
+    let own = own_height(instance, h, lift);
+    grown(last, begun, own)
 }

@@ -2,17 +2,16 @@
 
 ghost use Rattle.std.specs.Prelude.{◌≡◌, ◌<◌, ◌≤◌, ◌↔◌, ◌^◌, All, IsTrue, MatchBool, MatchOption, length, map, take};
 ghost use Rattle.glass_base.specs.Plates.{Before};
-ghost use Rattle.plan_trace.specs.TraceRules.{Meets};
 ghost use Rattle.plan_trace.specs.declared.level.Level.TheVariants.{NewPlate};
 ghost use Rattle.plan_box.specs.Decisions.{all_decided};
 ghost use Rattle.plan_box.specs.Frames.{frame_of};
 ghost use Rattle.plan_box.specs.Leasts.{least_step as least_step_of, no_known};
 ghost use Rattle.plan_box.specs.Packed.{unpacked};
 ghost use Rattle.plan_box.specs.Reasons.{AtSome, IsFirstReason, IsRefuted, R1, R7, SomeFixed};
-ghost use Rattle.cert_check.specs.inner.Facts.{FactOf};
+ghost use Rattle.plan_box.specs.inner.Facts.{FactOf};
 ghost use Rattle.cert_check.specs.inner.Knowns.{AreKnown, fixed_of, known_in, levels_in};
 ghost use Rattle.cert_check.specs.inner.Paths.{AreStored};
-ghost use Rattle.cert_check.specs.inner.Within.{AreWithin};
+ghost use Rattle.plan_box.specs.inner.Within.{AreWithin};
 
 use crate::bounding::least_length;
 use crate::filling::fill;
@@ -43,11 +42,11 @@ fn is_fact_at(
 {
     let params = instance.params();
     match reason {
-        Reason::R1 => has_no_place(last, here),
+        Reason::R1 => has_no_place(here),
         Reason::R2 => has_narrow_gap(instance, whole, last, here, later),
         Reason::R3 => item_met(defects, here),
-        Reason::R4 => cut_met(instance, defects, last, here),
-        Reason::R5 => is_too_wide(params, last, here),
+        Reason::R4 => cut_met(instance, defects, here),
+        Reason::R5 => is_too_wide(params, here),
         Reason::R6 => breaks_a_rule(params, last, here),
         Reason::R7 => false,
     }
@@ -111,25 +110,23 @@ fn is_impossible(
     ensures { IsTrue result ↔ R1 instance.now (map unpacked ranges.now) }
 {
     is_fact(instance, defects, ranges, steps, Reason::R1)
-        || instance.before(instance.params().plates) < least_length(instance, ranges, steps)
+        || instance.before(instance.params().plates) < least_length(instance, steps)
 }
 
 /// The step that a decided step stands for at its least values.
 pub fn least_step(decided: &Decided) -> Step
     ensures { result ≡ least_step_of (known_in decided.now) }
 {
-    let place = &decided.place;
-    let ends = &decided.ends;
     Step {
-        stack: place.stack,
-        turn: place.turn,
-        kind: place.kind,
-        lift: place.lift,
-        a: ends.least_a,
-        b: ends.least_b,
-        c: ends.least_c,
-        d: ends.least_d,
-        e: ends.least_e,
+        stack: decided.stack,
+        turn: decided.turn,
+        kind: decided.kind,
+        lift: decided.lift,
+        a: decided.least_a,
+        b: decided.least_b,
+        c: decided.least_c,
+        d: decided.least_d,
+        e: decided.least_e,
     }
 }
 
@@ -142,15 +139,6 @@ fn write(steps: &[Decided], numbers: &mut Run<Step>)
     for (i, step) in steps.iter().enumerate() {
         numbers.set(i, least_step(step));
     }
-}
-
-/// Whether these steps break a rule of traces.
-fn breaks(instance: &Instance, defects: &DefectMap, steps: &[Step]) -> bool
-    requires few { length steps.now < 2 ^ 32 }
-    requires defects { defects.now ≡ instance.now.defects }
-    ensures { MatchBool result (¬ Meets instance.now steps.now) (Meets instance.now steps.now) }
-{
-    first_broken(instance, defects, steps).is_some()
 }
 
 /// Whether the box is a point whose numbers break a rule. They are its least values, where each cut has a place.
@@ -174,7 +162,7 @@ fn is_broken_point(
         return false;
     }
     write(steps, numbers);
-    breaks(instance, defects, &numbers.as_slice()[..steps.len()])
+    first_broken(instance, defects, &numbers.as_slice()[..steps.len()]).is_some()
 }
 
 /// The first reason that applies to the box of these ranges, of which these are the decided steps, if one does.

@@ -1,34 +1,32 @@
 //! How many items of each stack are drawn.
 
-ghost use Rattle.std.specs.Prelude.{◌≡◌, ◌<◌, ◌≤◌, [], ◌∷◌, length};
-ghost use Rattle.plan_trace.specs.Marks.{drawn};
-ghost use Rattle.plan_box.specs.Decisions.{draw_at};
+ghost use Rattle.std.specs.Prelude.{◌≡◌, ◌+◌, ◌<◌, ◌≤◌, All, [], length, slice_index_or, slice_set};
 ghost use Rattle.plan_box.specs.Packed.{unpacked};
-ghost use Rattle.cert_check.specs.inner.Follows.{HaveDrawn, draws_of};
+ghost use Rattle.plan_box.specs.inner.Within.{AreRangesWithin};
+ghost use Rattle.cert_check.specs.inner.Taken.{HaveDrawn};
 
 use glass_base::Run;
 use plan_box::{Packed, Var};
 
-/// Makes all counts 0; there is one for each stack that an instance can have.
-pub fn clear(taken: &mut Run<u32>)
-    requires { length taken.old.items ≡ 800 }
-    ensures { HaveDrawn [] taken.new.items }
+/// Makes the counts of the stacks 0 that these steps draw from.
+pub fn clear(taken: &mut Run<u32>, ranges: &[Packed])
+    requires many { length taken.old.items ≡ 800 }
+    requires within { All (λ x. AreRangesWithin (unpacked x)) ranges.now }
+    ensures { HaveDrawn ranges.now [] taken.new.items }
 {
-    for stack in 0..taken.len() {
-        taken.set(stack, 0);
+    for here in ranges {
+        taken.set(here.range(Var::Stack).0 as usize, 0);
     }
 }
 
-/// How many items of the stack of a step are drawn by the steps before it; the counts are then those with the step.
-pub fn draw(taken: &mut Run<u32>, before: &[Packed], ranges: &Packed) -> u32
-    requires counts { HaveDrawn (draws_of before.now) taken.old.items }
-    requires few { length before.now ≤ 800 }
-    requires stack { (unpacked ranges.now).stack.low < 800 }
-    ensures count { result ≡ drawn (draws_of before.now) (unpacked ranges.now).stack.low }
-    ensures counts { HaveDrawn (draw_at (unpacked ranges.now) ∷ draws_of before.now) taken.new.items }
+/// The count of the stack that a step draws from, before it; the step is then counted.
+pub fn draw(taken: &mut Run<u32>, step: &Packed) -> u32
+    requires inside { (unpacked step.now).stack.low < length taken.old.items }
+    requires few { slice_index_or taken.old.items (unpacked step.now).stack.low 0 ≤ 800 }
+    ensures count { result ≡ slice_index_or taken.old.items (unpacked step.now).stack.low 0 }
+    ensures counts { taken.new.items ≡ slice_set taken.old.items (unpacked step.now).stack.low (result + 1) }
 {
-    let _before = before;
-    let stack = ranges.range(Var::Stack).0 as usize;
+    let stack = step.range(Var::Stack).0 as usize;
     let count = taken.as_slice()[stack];
     taken.set(stack, count + 1);
     count

@@ -8,14 +8,13 @@ ghost use Rattle.plan_box.specs.Ranges.{root_of};
 ghost use Rattle.cert_log.specs.Good.{Reaches, MayClose, lesser};
 ghost use Rattle.cert_log.specs.declared.history.Cause.{Cause as CauseOf};
 ghost use Rattle.plan_box.specs.Bounds.{bound as bound_of};
-ghost use Rattle.plan_box.specs.Reasons.{IsFirstReason, IsRefuted, reason_number as number_of};
+ghost use Rattle.plan_box.specs.Reasons.{IsFirstReason, IsRefuted};
 ghost use Rattle.cert_log.specs.Trees.{IsTree};
 ghost use Rattle.cert_check.specs.inner.Knowns.{HasRoom};
-ghost use Rattle.cert_check.specs.inner.Paths.{top, below};
+ghost use Rattle.cert_check.specs.inner.Paths.{top};
 ghost use Rattle.cert_check.specs.Visits.{NodePasses};
-ghost use Rattle.cert_check.specs.inner.Walks.{boxes_after};
 ghost use Rattle.cert_check.specs.Faults.{NodeFails, FailsToClose};
-ghost use Rattle.cert_check.specs.inner.Walks.{MayGo, Counts, Finds};
+ghost use Rattle.cert_check.specs.inner.Walks.{Counts, Finds};
 
 use crate::bounding::bound;
 use crate::free::is_free_at;
@@ -74,21 +73,6 @@ impl Place {
     }
 }
 
-/// The number of a reason.
-fn reason_number(reason: Reason) -> u32
-    ensures { result ≡ number_of reason }
-{
-    match reason {
-        Reason::R1 => 1,
-        Reason::R2 => 2,
-        Reason::R3 => 3,
-        Reason::R4 => 4,
-        Reason::R5 => 5,
-        Reason::R6 => 6,
-        Reason::R7 => 7,
-    }
-}
-
 /// Whether a bound is at least the loss; never where there is none.
 fn reaches(loss: Option<u64>, bound: u64) -> bool
     ensures { IsTrue result ↔ Reaches loss bound }
@@ -126,7 +110,7 @@ fn judge_reason(
     ensures room { HasRoom (length instance.now.items) scratch.new }
 {
     let _loss = loss;
-    let said = reason_number(reason);
+    let said = reason.number();
     match first_reason(
         instance,
         defects,
@@ -136,7 +120,7 @@ fn judge_reason(
         &mut scratch.numbers,
     ) {
         Some(first) => {
-            let found = reason_number(first);
+            let found = first.number();
             if said == found {
                 None
             } else {
@@ -251,27 +235,16 @@ fn judge(
     }
 }
 
-/// Goes on behind a node that may stand at the box at hand.
-fn go(
-    instance: &Instance,
-    node: Node,
-    path: &mut Path,
-    tally: &mut Tally,
-    scratch: &mut Scratch,
-) -> Result<(), Memory>
-    requires frame { path.old.frame ≡ frame_of instance.now }
-    requires waits { path.old.boxes ≢ [] }
-    requires passes { MayGo (top path.old.boxes) node }
+/// Counts a node at the box at hand.
+fn count(instance: &Instance, node: Node, path: &Path, tally: &mut Tally, scratch: &mut Scratch)
+    requires frame { path.now.frame ≡ frame_of instance.now }
+    requires waits { path.now.boxes ≢ [] }
     requires few { tally.old.left < 2 ^ 64 - 1 }
     requires room { HasRoom (length instance.now.items) scratch.old }
-    ensures frame { path.new.frame ≡ path.old.frame }
-    ensures boxes { OnOk result (path.new.boxes ≡ boxes_after node (top path.old.boxes) (below path.old.boxes)) }
-    ensures counts { OnOk result (Counts instance.now node (top path.old.boxes) tally.old tally.new) }
+    ensures counts { Counts instance.now node (top path.now.boxes) tally.old tally.new }
     ensures room { HasRoom (length instance.now.items) scratch.new }
 {
     match node {
-        Node::Split { step, var } => path.split(step, var),
-        Node::Closed(_) => path.leave(),
         Node::Left => {
             let bound = bound(
                 instance,
@@ -281,8 +254,8 @@ fn go(
             );
             tally.least = with_bound(tally.least, bound);
             tally.left += 1;
-            path.leave()
         }
+        Node::Split { .. } | Node::Closed(_) => {}
     }
 }
 
@@ -313,7 +286,8 @@ pub(crate) fn walk(
         if let Some(why) = judge(instance, defects, loss, *node, &path, &mut scratch) {
             return Ok(Walked::Fault(place.line, why));
         }
-        go(instance, *node, &mut path, &mut tally, &mut scratch)?;
+        count(instance, *node, &path, &mut tally, &mut scratch);
+        path.pass(*node)?;
     }
     Ok(Walked::Whole(tally))
 }

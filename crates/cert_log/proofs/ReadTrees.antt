@@ -1,12 +1,16 @@
 -- What is read is one whole tree, and has this text.
 use Rattle.std.proofs.Common.{◌≡◌, ℕ, zero, suc, ◌+◌, ◌-◌, ◌≤◌, ◌⊎◌, inl, inr, true, false, List, [], ◌∷◌, ◌++◌, length, map, replicate, refl, sym, ap, ◌∙◌, subst, arith}
-use Rattle.std.specs.Prelude.{All}
+use Rattle.std.specs.Prelude.{◌<◌, ◌^◌, All, IfOk, Result, Ok, Err}
 use Rattle.std.specs.List.{flat_map}
 use Rattle.std.proofs.lemmas.List.{append_assoc, append-nil, length-append, length-replicate}
 use Rattle.std.proofs.lemmas.List.Elements.{All-nil, All-cons, All-append, All-replicate}
 use Rattle.plan_box.specs.declared.var.Var.{Var}
 use Rattle.cert_log.specs.declared.history.Cause.{Cause}
+use Rattle.cert_log.specs.declared.bad_cert.BadCert.{BadCert}
+use Rattle.cert_log.specs.declared.certificate.Certificate.{Certificate}
 use Rattle.cert_log.specs.declared.certificate.Node.{Node}
+use Rattle.cert_log.specs.Good.{IsVersion}
+use Rattle.cert_log.specs.Outcomes.{IsReading}
 use Rattle.cert_log.specs.Trees.{Tree, halved, closed, waiting, nodes_of, IsTree, FitsVersion, StepBelow}
 use Rattle.cert_log.specs.declared.place.Place.{Place}
 use Rattle.cert_log.specs.Texts.{Line, splits, closes, opens_one, opens, first_line, head_of, line_text, single_line, with_open, grouped, lines_of, lines_text}
@@ -148,3 +152,11 @@ read_is_text text c small w =
           ∙ ap (λ (s : List ℕ). first_line (head_of c) ++ s) (append-nil (lines_text w.lines))
           ∙ ap (λ (ls : List Line). first_line (head_of c) ++ lines_text ls) (sym (lines_again c.version w.lines w.begins.head.version f) ∙ ap (λ (ns : List Node). lines_of c.version ns) (sym w.nodes));
     }
+
+pub read_tree : (text : List ℕ) (r : Result Certificate BadCert) → length text < 2 ^ 63 → IsReading text r → IfOk r (λ c. IsTree c.nodes.items)
+read_tree text (Ok c) small is = let t = read_is_text text c small is in t.tree
+read_tree text (Err bad) small is = tt
+
+pub read_version : (text : List ℕ) (r : Result Certificate BadCert) → length text < 2 ^ 63 → IsReading text r → IfOk r (λ c. IsVersion 1 c ⊎ IsVersion 2 c)
+read_version text (Ok c) small is = let t = read_is_text text c small is in t.version
+read_version text (Err bad) small is = tt

@@ -1,8 +1,10 @@
 //! Reading a certificate.
 
-ghost use Rattle.std.specs.Prelude.{◌++◌, ◌<◌, ◌^◌, length};
-ghost use Rattle.cert_log.specs.Texts.{first_line};
+ghost use Rattle.std.specs.Prelude.{◌++◌, ◌<◌, ◌^◌, ◌⊎◌, length, IfOk};
+ghost use Rattle.cert_log.specs.Good.{IsVersion};
 ghost use Rattle.cert_log.specs.Outcomes.{IsHead, IsReading};
+ghost use Rattle.cert_log.specs.Texts.{first_line};
+ghost use Rattle.cert_log.specs.Trees.{IsTree};
 
 use crate::bad_cert::BadCert;
 use crate::certificate::Certificate;
@@ -65,7 +67,9 @@ fn read_nodes(alloc: Global, head: Head, text: &[u8]) -> Result<Certificate, Bad
 ///
 /// It takes time linear in the text, and memory for the nodes alone.
 pub fn read_cert(alloc: Global, bytes: &[u8]) -> Result<Certificate, BadCert>
-    ensures { IsReading bytes.now result }
+    ensures reading { IsReading bytes.now result }
+    ensures tree { IfOk result (λ c. IsTree c.nodes.items) }
+    ensures version { IfOk result (λ c. IsVersion 1 c ⊎ IsVersion 2 c) }
 {
     let (head, rest) = read_head(bytes).ok_or(BadCert::Head)?;
     read_nodes(alloc, head, rest)

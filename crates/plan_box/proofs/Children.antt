@@ -9,8 +9,8 @@ use Rattle.plan_box.specs.declared.var.Var.{Var}
 use Rattle.plan_box.specs.Decisions.{is_single, is_drawn, draw_at, decided}
 use Rattle.plan_box.specs.Halves.{half_at}
 use Rattle.plan_box.proofs.Counts.{decided_append, last_decided}
-use Rattle.plan_box.specs.Packed.{unpacked}
-use Rattle.plan_box.specs.inner.Stored.{limit_of, AreStored}
+use Rattle.plan_box.specs.Packed.{limit_of, unpacked}
+use Rattle.plan_box.specs.inner.Stored.{AreStored}
 use Rattle.plan_box.specs.Frames.{IsFrame}
 use Rattle.plan_box.specs.Ranges.{Span, Ranges, AreInFrame, span_of, with_span, full_ranges}
 use Rattle.plan_box.specs.Packed.{all_ranges}

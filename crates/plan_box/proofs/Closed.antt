@@ -54,11 +54,3 @@ point_from rs n le closed step v =
       | inl there ↦ closed_all rs step (closed step there) v
       | inr past ↦ past_free rs step v (omega (arith, le, past))
     ]
-
-not_both : (x : Bool) → x ≡ true → x ≡ false → ⊥
-not_both true e f = cc
-not_both false e f = cc
-
--- a box with an open step is no point
-pub open_no_point : (rs : List Ranges) (step : ℕ) → is_open rs step ≡ true → ¬ IsPoint rs
-open_no_point rs step e point = not_both (is_open rs step) e (closed_from rs step (λ v. point step v))

@@ -3,8 +3,7 @@ use Rattle.std.proofs.Common.{◌≡◌, ◌∙◌, sym, ℕ, zero, suc, ◌+◌
 use Rattle.plan_trace.specs.declared.level.Level.{Level}
 use Rattle.plan_trace.specs.Marks.{level_of, Draw, begins}
 use Rattle.plan_box.specs.declared.var.Var.{Var}
-use Rattle.plan_box.specs.Decisions.{is_single, is_drawn, draw_at, decided, opens, is_discrete, is_free_from, is_free}
-use Rattle.plan_box.specs.inner.Openings.{level_at}
+use Rattle.plan_box.specs.Decisions.{is_single, is_drawn, draw_at, decided, level_at, opens, is_discrete, is_free_from, is_free}
 use Rattle.plan_box.specs.Halves.{half_at, lower_half, upper_half, child_of}
 use Rattle.plan_box.specs.Ranges.{Span, Ranges, PlainBox, IsBox, span_of, with_span}
 use Rattle.plan_box.proofs.Shared.{free_inside, free_wide, kept, HoldsAt}

@@ -82,9 +82,6 @@ module _ (s : Step) (r : Ranges) (t : Step) (is_in : StepIn s r) (drawn : is_dra
       let e : s.e ≡ t.e = omega (arith, inh) in
       λ i. record { stack = (p i).stack; turn = (p i).turn; kind = (p i).kind; lift = (p i).lift; a = a i; b = b i; c = c' i; d = d' i; e = e i }
 
-low_cut : Place → Step → Cut
-low_cut p s = cut p s
-
 is_low : (b : Problem) (before : List Draw) (m : Level) (place : Place) (t : Step) (rs : List Ranges) (ss : List Step) → InBox ss rs →
     ((step : ℕ) (v : Var) → is_free_from before rs step v ≡ false) →
     EachStep (Rules b) m (cut place t) (attach (marks b before place (map draw_of ss)) ss) → ss ≡ low_steps before t rs

@@ -3,7 +3,7 @@ use Rattle.std.specs.Prelude.{◌≡◌, ℕ, zero, suc, ◌==◌, ◌&&◌, Lis
 use Rattle.cut_model.specs.declared.steps.Step.{Step}
 use Rattle.plan_trace.specs.declared.level.Level.{Level}
 use Rattle.plan_trace.specs.declared.level.Level.TheVariants.{NewPlate, NewStrip, NewBand, NewCell, Over}
-use Rattle.plan_trace.specs.Marks.{Draw, begins}
+use Rattle.plan_trace.specs.Marks.{Draw, begins, level_of}
 use Rattle.plan_box.specs.declared.var.Var.{Var}
 use Rattle.plan_box.specs.Ranges.{Span, Ranges, span_of}
 
@@ -27,6 +27,11 @@ decided (r ∷ rs) = cond (is_drawn r) (draw_at r ∷ decided rs) []
 -- all steps are decided
 abbrev pub all_decided : List Ranges → Bool
 all_decided rs = length (decided rs) == length rs
+
+-- what a decided step begins, by its place and its kind; the first step begins a plate
+abbrev pub level_at : ℕ → ℕ → Level
+level_at zero kind = NewPlate
+level_at (suc _) kind = level_of kind
 
 -- a decided step of this level opens the variable: it begins a piece that the variable is a side of
 abbrev pub opens : Level → Var → Bool

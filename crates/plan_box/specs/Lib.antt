@@ -7,4 +7,5 @@ pub mod Bounds
 pub mod Reasons
 pub mod Plans
 pub mod Packed
+pub mod Vars
 pub mod inner

@@ -2,6 +2,7 @@
 use Rattle.std.specs.Prelude.{ℕ, ◌-◌, ◌/◌, ◌%◌, List, ◌++◌, length, replicate}
 use Rattle.plan_box.specs.declared.frame.Frame.{Frame}
 use Rattle.plan_box.specs.declared.packed.Packed.{Packed}
+use Rattle.plan_box.specs.declared.var.Var.{Var}
 use Rattle.plan_box.specs.Ranges.{Span, Ranges, full_ranges}
 
 -- a range as its two ends
@@ -21,6 +22,13 @@ unpacked x = record {
   d = between x.d;
   e = between x.e;
 }
+
+-- the greatest high end that can be stored
+abbrev pub limit_of : Var → ℕ
+limit_of Var.Turn = 1
+limit_of Var.Kind = 4
+limit_of Var.Lift = 1
+limit_of _ = 65535
 
 -- the ranges of all steps, of which only the first ones are given: the others are full
 abbrev pub all_ranges : Frame → List Ranges → List Ranges

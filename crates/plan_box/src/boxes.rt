@@ -142,7 +142,7 @@ impl PlanBox {
     ghost use Rattle.plan_box.specs.Packed.{unpacked};
     ghost use Rattle.plan_box.specs.Ranges.{PlainBox, IsBox, full_ranges, root_of, span_of};
     ghost use Rattle.plan_box.specs.Packed.{all_ranges};
-    ghost use Rattle.plan_box.specs.Frames.{frame_of};
+    ghost use Rattle.plan_box.specs.Frames.{frame_of, IsFrame};
 
     /// The box of an instance in which every range is full.
     pub fn root(alloc: Global, instance: &Instance, id: u64) -> Result<PlanBox, Memory>
@@ -153,6 +153,18 @@ impl PlanBox {
             frame: Frame::of(instance),
             stored: Run::new(alloc),
         })
+    }
+
+    /// The box of a frame in which every range is full. The frame must be one that an instance can have. It takes no memory.
+    pub fn of_frame(alloc: Global, frame: Frame, id: u64) -> PlanBox
+        requires { IsFrame frame }
+        ensures { result ≡ root_of frame id }
+    {
+        PlanBox {
+            id,
+            frame,
+            stored: Run::new(alloc),
+        }
     }
 
     pub fn id(&self) -> u64

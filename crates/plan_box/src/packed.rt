@@ -2,8 +2,7 @@
 
 ghost use Rattle.std.specs.Prelude.{◌≡◌, ◌+◌, ◌*◌, ◌≤◌, ℕ};
 ghost use Rattle.plan_box.specs.Decisions.{is_drawn as is_drawn_of};
-ghost use Rattle.plan_box.specs.Packed.{unpacked};
-ghost use Rattle.plan_box.specs.inner.Stored.{limit_of};
+ghost use Rattle.plan_box.specs.Packed.{limit_of, unpacked};
 ghost use Rattle.plan_box.specs.Frames.{IsFrame};
 ghost use Rattle.plan_box.specs.Ranges.{Span, span_of, with_span, full_ranges};
 

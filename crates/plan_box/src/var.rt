@@ -25,8 +25,25 @@ pub enum Var {
 
 impl Var {
     ghost use Rattle.std.specs.Prelude.{◌≡◌};
-    ghost use Rattle.plan_box.specs.Decisions.{is_discrete as is_discrete_var, opens};
-    ghost use Rattle.plan_box.specs.inner.Openings.{level_at};
+    ghost use Rattle.plan_box.specs.Decisions.{is_discrete as is_discrete_var, level_at, opens};
+    ghost use Rattle.plan_box.specs.Vars.{var_number};
+
+    /// Its place in their order, from 0.
+    pub fn number(self) -> u32
+        ensures { result ≡ var_number self }
+    {
+        match self {
+            Var::Stack => 0,
+            Var::Turn => 1,
+            Var::Kind => 2,
+            Var::Lift => 3,
+            Var::A => 4,
+            Var::B => 5,
+            Var::C => 6,
+            Var::D => 7,
+            Var::E => 8,
+        }
+    }
 
     /// Whether it is one of the numbers that are known of every decided step.
     pub fn is_discrete(self) -> bool

@@ -5,20 +5,11 @@ use Rattle.plan_trace.specs.declared.level.Level.{Level}
 use Rattle.plan_trace.specs.declared.level.Level.TheVariants.{NewPlate, NewStrip}
 use Rattle.plan_box.specs.Leasts.{Fixed, fixed, Known, no_known}
 use Rattle.plan_box.specs.Ranges.{Ranges}
-use Rattle.plan_box.specs.Reasons.{Applies, StepR1, StepR2, StepR3, StepR4, StepR5, StepR6, fixed_levels, reason_number}
+use Rattle.plan_box.specs.Reasons.{Applies, fixed_levels, reason_number}
 use Rattle.plan_box.specs.declared.reason.Reason.{Reason}
+use Rattle.plan_box.specs.inner.Facts.{FactOf}
 use Rattle.box_bound.specs.declared.kept.Kept.{Kept}
 use Rattle.box_bound.specs.Kept.{blank}
-
--- the reason at one decided step; `whole` where all steps are decided
-abbrev pub StepOf : Problem → Bool → Reason → Level → Known → Level → Known → List Level → Type 0
-StepOf b whole Reason.R1 = StepR1
-StepOf b whole Reason.R2 = StepR2 b whole
-StepOf b whole Reason.R3 = StepR3 b.defects
-StepOf b whole Reason.R4 = StepR4 b
-StepOf b whole Reason.R5 = StepR5 b.params
-StepOf b whole Reason.R6 = StepR6 b.params
-StepOf b whole Reason.R7 = λ m j l k later. ⊥
 
 -- a reason for which a fact holds, and for none before it
 abbrev pub IsFirstOf : (Reason → Type 0) → Reason → Type 0
@@ -55,7 +46,7 @@ before_fixed x (y ∷ ks) (suc i) = before_fixed y ks i
 -- for each of the first `count` decided steps the first reason that is a fact at it or at one before it
 abbrev pub AreSeen : Problem → Bool → List Fixed → List (Option Reason) → ℕ → Type 0
 AreSeen b whole ks seen count =
-    (i : ℕ) → i < count → IsFirstIfAny (λ r. AmongFixed (StepOf b whole r) NewPlate no_known ks (suc i)) (slice_index_or seen i None)
+    (i : ℕ) → i < count → IsFirstIfAny (λ r. AmongFixed (FactOf b whole r) NewPlate no_known ks (suc i)) (slice_index_or seen i None)
 
 -- a strip begins at this level
 abbrev pub StartsStrip : Level → Type 0

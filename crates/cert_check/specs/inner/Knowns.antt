@@ -6,52 +6,50 @@ use Rattle.plan_trace.specs.declared.level.Level.TheVariants.{NewPlate}
 use Rattle.plan_trace.specs.Marks.{Place}
 use Rattle.plan_box.specs.Leasts.{Known, Fixed, fixed, known}
 use Rattle.plan_box.specs.Ranges.{Ranges}
-use Rattle.cert_check.specs.declared.ends.Ends.{Ends}
-use Rattle.cert_check.specs.declared.placed.Placed.{Placed}
 use Rattle.cert_check.specs.declared.scratch.Scratch.{Scratch}
 use Rattle.cert_check.specs.declared.steps.Decided.{Decided}
-use Rattle.cert_check.specs.inner.Within.{AreWithin}
+use Rattle.plan_box.specs.inner.Within.{AreWithin}
 
 -- the place of a step
-abbrev pub place_in : Placed → Place
-place_in p = record {
-  draw = record { stack = p.stack; turn = p.turn; kind = p.kind; lift = p.lift };
-  item = p.item;
-  plates = p.plates;
-  plate = p.plates - 1;
-  w = p.w;
-  h = p.h;
-  cell_w = p.cell_w;
-  cell_h = p.cell_h;
-  band_w = p.band_w;
-  strip_w = p.strip_w;
-  band_area = p.band_area;
-  area = p.area;
-}
-
--- what is known of a step at this place with these ends
-abbrev pub known_of : Placed → Ends → Known
-known_of p x = record {
-  place = place_in p;
-  least_a = x.least_a;
-  high_a = x.high_a;
-  least_b = x.least_b;
-  high_b = x.high_b;
-  least_c = x.least_c;
-  high_c = x.high_c;
-  least_d = x.least_d;
-  high_d = x.high_d;
-  least_e = x.least_e;
-  high_e = x.high_e;
+abbrev pub place_in : Decided → Place
+place_in k = record {
+  draw = record { stack = k.stack; turn = k.turn; kind = k.kind; lift = k.lift };
+  item = k.item;
+  plates = k.plates;
+  plate = k.plates - 1;
+  w = k.w;
+  h = k.h;
+  cell_w = k.cell_w;
+  cell_h = k.cell_h;
+  band_w = k.band_w;
+  strip_w = k.strip_w;
+  band_area = k.band_area;
+  area = k.area;
 }
 
 -- what is known of a step
 abbrev pub known_in : Decided → Known
-known_in k = known_of k.place k.ends
+known_in k = record {
+  place = place_in k;
+  least_a = k.least_a;
+  high_a = k.high_a;
+  least_b = k.least_b;
+  high_b = k.high_b;
+  least_c = k.least_c;
+  high_c = k.high_c;
+  least_d = k.least_d;
+  high_d = k.high_d;
+  least_e = k.least_e;
+  high_e = k.high_e;
+}
 
 -- the step as definitions have it
 abbrev pub fixed_of : Decided → Fixed
 fixed_of k = fixed k.level (known_in k)
+
+-- at another place
+abbrev pub with_place : Known → Place → Known
+with_place k p = record k { place = p }
 
 -- the decided steps of a box, with what is known of each; none of their numbers is large
 pub record AreKnown (b : Problem) (rs : List Ranges) (steps : List Decided) : Type 0 where
@@ -68,13 +66,10 @@ pub record HasRoom (items : ℕ) (s : Scratch) : Type 0 where
 abbrev pub levels_in : List Decided → List Level
 levels_in steps = map (λ k. k.level) steps
 
--- the ends that stand before the first step
-abbrev pub no_ends : Ends
-no_ends = record { least_a = 0; high_a = 0; least_b = 0; high_b = 0; least_c = 0; high_c = 0; least_d = 0; high_d = 0; least_e = 0; high_e = 0 }
-
--- the place that stands before the first step
-abbrev pub no_placed : Placed
-no_placed = record {
+-- stands before the first step
+abbrev pub nothing : Decided
+nothing = record {
+  level = NewPlate;
   stack = 0;
   turn = 0;
   kind = 0;
@@ -89,12 +84,14 @@ no_placed = record {
   strip_w = 0;
   band_area = 0;
   area = 0;
+  least_a = 0;
+  high_a = 0;
+  least_b = 0;
+  high_b = 0;
+  least_c = 0;
+  high_c = 0;
+  least_d = 0;
+  high_d = 0;
+  least_e = 0;
+  high_e = 0;
 }
-
--- stands before the first step
-abbrev pub nothing : Decided
-nothing = record { level = NewPlate; place = no_placed; ends = no_ends }
-
--- with other ends
-abbrev pub with_ends : Ends → Decided → Decided
-with_ends x k = record k { ends = x }

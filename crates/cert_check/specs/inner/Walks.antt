@@ -57,11 +57,15 @@ pub record Counts (b : Problem) (n : Node) (rs : List Ranges) (old new : Tally) 
   pub left : new.left ≡ old.left + length (node_bounds b rs n)
   pub few : new.left ≤ old.left + 1
 
--- the first nodes are walked, and these boxes wait
+-- the first nodes are walked, each at the box of its visit, and these boxes wait
+pub record HasCome (root : List Ranges) (nodes : List Node) (k : ℕ) (boxes : List (List Ranges)) (done : List Visit) : Type 0 where
+  pub visits_are : visits_from (root ∷ []) nodes ≡ done ++ visits_from boxes (drop k nodes)
+  pub nodes_are : map (λ x. x.node) done ≡ take k nodes
+
+-- the first nodes are walked and may stand at their boxes, and these boxes wait
 pub record IsWalking (b : Problem) (root : List Ranges) (loss : Option ℕ) (c : Certificate) (k : ℕ) (boxes : List (List Ranges)) (place : Place) (tally : Tally) : Type 0 where
   pub done : List Visit
-  pub visits_are : visits_from (root ∷ []) c.nodes.items ≡ done ++ visits_from boxes (drop k c.nodes.items)
-  pub nodes_are : map (λ x. x.node) done ≡ take k c.nodes.items
+  pub come : HasCome root c.nodes.items k boxes done
   pub passed : All (Passes b loss) done
   pub least : tally.least ≡ least_of loss (visit_bounds b done)
   pub left : tally.left ≡ length (visit_bounds b done)

@@ -3,18 +3,10 @@ use Rattle.std.specs.Prelude.{◌≡◌, ℕ, [], ◌+◌, ◌≤◌, List, leng
 use Rattle.glass_base.specs.Run.{Listed}
 use Rattle.plan_box.specs.declared.frame.Frame.{Frame}
 use Rattle.plan_box.specs.declared.packed.Packed.{Packed}
-use Rattle.plan_box.specs.declared.var.Var.{Var}
 use Rattle.plan_box.specs.Decisions.{decided}
 use Rattle.plan_box.specs.Frames.{IsFrame}
 use Rattle.plan_box.specs.Packed.{all_ranges, unpacked}
 use Rattle.plan_box.specs.Ranges.{AreInFrame, PlainBox}
-
--- the greatest high end that can be stored
-abbrev pub limit_of : Var → ℕ
-limit_of Var.Turn = 1
-limit_of Var.Kind = 4
-limit_of Var.Lift = 1
-limit_of _ = 65535
 
 pub record AreStored (f : Frame) (stored : List Packed) : Type 0 where
   pub frame : IsFrame f

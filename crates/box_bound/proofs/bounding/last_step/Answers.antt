@@ -3,10 +3,12 @@ use Rattle.std.proofs.lemmas.List.{length-take-le, take_all}
 use Rattle.plan_box.specs.declared.packed.Packed.{Packed}
 use Rattle.plan_box.specs.Leasts.{last_known, no_known}
 use Rattle.plan_box.specs.Packed.{unpacked}
-use Rattle.box_bound.specs.Kept.{blank, early, follow, known_of, late}
-use Rattle.box_bound.specs.inner.Within.{limit}
-use Rattle.box_bound.proofs.Extending.{followed_last, known_within}
-use Rattle.box_bound.proofs.Sizes.{within_more, within_same}
+use Rattle.box_bound.specs.Kept.{blank, early, known_of, late}
+use Rattle.plan_box.specs.inner.Follows.{follow}
+use Rattle.plan_box.specs.inner.Within.{limit}
+use Rattle.plan_box.proofs.Following.{followed_last}
+use Rattle.plan_box.proofs.Limits.{known_within}
+use Rattle.plan_box.proofs.Sizes.{within_more, within_same}
 use Rattle.box_bound.proofs.bounding.last_step.Goals as goal
 
 pub next-last-requires-clause-within : goal.next-last-requires-clause-within
@@ -17,7 +19,7 @@ pub loop-i-preserved : goal.loop-i-preserved
 loop-i-preserved c =
     let y = c.next-last.result in
     record {
-      last = followed_last c.args.instance.now c.args.ranges.now c.loop-i.i blank.ranges y (early c.loop-i.last) (omega arith) c.loop-i.invariant.last c.next-last.ensures.value;
+      last = followed_last c.args.instance.now c.args.ranges.now c.loop-i.i blank.ranges y.level (early y) (early c.loop-i.last) (omega arith) c.loop-i.invariant.last c.next-last.ensures.value;
       ends = ap (known_of y.place) c.next-last.ensures.ends;
     }
 

@@ -3,7 +3,8 @@ use Rattle.glass_base.specs.declared.params.Params.{Params}
 use Rattle.glass_base.specs.Items.{area_of}
 use Rattle.plan_box.specs.Bounds.{ceil_div, reached}
 use Rattle.box_bound.specs.Kept.{late}
-use Rattle.box_bound.proofs.Lengths.{area_most, max_none, none_reached, reached_by}
+use Rattle.box_bound.proofs.Lengths.{max_none}
+use Rattle.plan_box.proofs.LeastLengths.{area_most, none_reached, reached_by}
 use Rattle.box_bound.proofs.bounding.length_by.Goals as goal
 
 pub ceil_div-glass-requires-clause-fits : goal.ceil_div-glass-requires-clause-fits

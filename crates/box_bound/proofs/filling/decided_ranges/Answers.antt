@@ -3,7 +3,9 @@ use Rattle.std.proofs.lemmas.List.{length-map, length-take-le, take-append-le, t
 use Rattle.plan_box.specs.Decisions.{decided}
 use Rattle.plan_box.specs.Packed.{unpacked}
 use Rattle.plan_box.specs.Ranges.{Ranges, AreInFrame, full_ranges}
-use Rattle.box_bound.proofs.Filled.{decided_stored, taken_within}
+use Rattle.plan_box.specs.declared.frame.Frame.{Frame}
+use Rattle.plan_box.proofs.Limits.{taken_within}
+use Rattle.box_bound.proofs.Filled.{decided_stored, stored_in_frame}
 use Rattle.box_bound.proofs.filling.decided_ranges.Goals as goal
 
 pub slice_bounds-result-end : goal.slice_bounds-result-end
@@ -34,5 +36,6 @@ pub returns-clause-within : goal.returns-clause-within
 returns-clause-within c =
     let f = c.args.bx.now.frame in
     let stored = c.stored-stored.result.now in
-    taken_within c.args.instance.now c.items-items.ensures.rules f stored c.decided-decided.result (replicate (f.items - length (map unpacked stored)) (full_ranges f)) c.requires
-    (subst (λ (rs : List Ranges). All (AreInFrame f) rs) (sym c.stored-stored.ensures) c.frame-frame.ensures.rules.in_frame)
+    let rest : List Ranges = replicate (f.items - length (map unpacked stored)) (full_ranges f) in
+    let in_frame = stored_in_frame f stored rest (subst (λ (rs : List Ranges). All (AreInFrame f) rs) (sym c.stored-stored.ensures) c.frame-frame.ensures.rules.in_frame) in
+    taken_within c.args.instance.now c.items-items.ensures.rules stored c.decided-decided.result (subst (λ (g : Frame). All (λ x. AreInFrame g (unpacked x)) stored) c.requires in_frame)

@@ -7,7 +7,8 @@ use Rattle.plan_trace.specs.TraceRules.{Meets}
 use Rattle.plan_box.specs.Leasts.{least_step, least_steps}
 use Rattle.box_bound.specs.declared.kept.Kept.{Kept}
 use Rattle.box_bound.specs.Kept.{late}
-use Rattle.box_bound.proofs.Writing.{least_map, whole_count}
+use Rattle.box_bound.proofs.Writing.{whole_count}
+use Rattle.plan_box.proofs.PointTests.{least_map}
 use Rattle.box_bound.proofs.probing.broken_at.Goals as goal
 
 pub write-requires : goal.write-requires
@@ -17,7 +18,7 @@ write-requires c =
 
 pub returns-clause-trace : goal.returns-clause-trace
 returns-clause-trace c =
-    c.write.ensures ∙ ap (map (λ (k : Kept). least_step (late k))) c.kept.ensures ∙ sym (least_map c.args.leasts.now.steps) ∙ ap least_steps c.requires.leasts.values
+    c.write.ensures ∙ ap (map (λ (k : Kept). least_step (late k))) c.kept.ensures ∙ sym (least_map (λ k. k.level) late c.args.leasts.now.steps) ∙ ap least_steps c.requires.leasts.values
 
 pub returns-clause-broken : goal.returns-clause-broken
 returns-clause-broken c =

@@ -1,7 +1,7 @@
 use Rattle.plan_trace.specs.Broken.{IsFirstBroken}
 use Rattle.plan_trace.specs.TraceRules.{Meets}
 use Rattle.plan_trace.proofs.Breaches.{first_broken_not_meets}
-use Rattle.box_bound.proofs.Writing.{some_found}
+use Rattle.plan_box.proofs.PointTests.{some_found}
 use Rattle.box_bound.proofs.refuting.breaks.Goals as goal
 
 pub returns : goal.returns

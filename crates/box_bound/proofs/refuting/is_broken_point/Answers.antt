@@ -1,4 +1,4 @@
-use Rattle.box_bound.proofs.Pointed.{point_test}
+use Rattle.plan_box.proofs.PointTests.{point_test}
 use Rattle.box_bound.proofs.refuting.is_broken_point.Goals as goal
 
 pub returns : goal.returns

@@ -5,7 +5,7 @@ use Rattle.plan_box.specs.declared.reason.Reason.{Reason}
 use Rattle.plan_box.specs.Reasons.{R7}
 use Rattle.plan_box.proofs.Counts.{decided_few}
 use Rattle.box_bound.proofs.Firsts.{first_seventh, none_refuted}
-use Rattle.box_bound.proofs.Seeing.{not_both}
+use Rattle.plan_box.proofs.PointTests.{not_both}
 use Rattle.box_bound.proofs.refuting.refuted.Goals as goal
 
 pub slice_bounds-numbers-end : goal.slice_bounds-numbers-end

@@ -1,7 +1,7 @@
 use Rattle.plan_box.specs.declared.reason.Reason.{Reason}
 use Rattle.plan_box.specs.Reasons.{R7}
 use Rattle.box_bound.proofs.Firsts.{first_seventh, none_refuted}
-use Rattle.box_bound.proofs.Seeing.{not_both}
+use Rattle.plan_box.proofs.PointTests.{not_both}
 use Rattle.box_bound.proofs.refuting.refuted_at.Goals as goal
 
 pub is_broken_point_at-requires-clause-possible : goal.is_broken_point_at-requires-clause-possible

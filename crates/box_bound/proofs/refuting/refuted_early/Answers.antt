@@ -6,10 +6,11 @@ use Rattle.plan_box.specs.Leasts.{Fixed, least_steps, no_known, settle}
 use Rattle.plan_box.specs.Packed.{unpacked}
 use Rattle.plan_box.specs.Ranges.{Ranges}
 use Rattle.plan_box.specs.Reasons.{SomeFixed}
-use Rattle.box_bound.specs.Kept.{follow}
-use Rattle.box_bound.specs.inner.Seen.{IsFirstIfAny, StepOf}
+use Rattle.plan_box.specs.inner.Follows.{follow}
+use Rattle.box_bound.specs.inner.Seen.{IsFirstIfAny}
+use Rattle.plan_box.specs.inner.Facts.{FactOf}
 use Rattle.box_bound.proofs.Firsts.{early_first}
-use Rattle.box_bound.proofs.Following.{known_follows}
+use Rattle.plan_box.proofs.Following.{known_follows}
 use Rattle.box_bound.proofs.refuting.refuted_early.Goals as goal
 
 pub returns-clause-first : goal.returns-clause-first
@@ -22,8 +23,8 @@ returns-clause-first c =
     let whole : (length c.decided_ranges-ranges.result.now == length c.items.result.now) ≡ all_decided rs = rw (had.count, items) refl in
     let same = ap (λ (qs : List Ranges). settle (follow b [] no_known qs)) had.ranges ∙ sym (known_follows b rs) in
     early_first b rs c.seen_in-seen.result c.with_length.result c.length_of.result c.is_too_long.result
-    (subst (λ (ks : List Fixed). IsFirstIfAny (λ r. SomeFixed (StepOf b (all_decided rs) r) NewPlate no_known ks) c.seen_in-seen.result) same
-    (subst (λ (w : Bool). IsFirstIfAny (λ r. SomeFixed (StepOf b w r) NewPlate no_known (settle (follow b [] no_known (map unpacked c.decided_ranges-ranges.result.now)))) c.seen_in-seen.result) whole c.seen_in-seen.ensures.seen))
+    (subst (λ (ks : List Fixed). IsFirstIfAny (λ r. SomeFixed (FactOf b (all_decided rs) r) NewPlate no_known ks) c.seen_in-seen.result) same
+    (subst (λ (w : Bool). IsFirstIfAny (λ r. SomeFixed (FactOf b w r) NewPlate no_known (settle (follow b [] no_known (map unpacked c.decided_ranges-ranges.result.now)))) c.seen_in-seen.result) whole c.seen_in-seen.ensures.seen))
     c.length_of.ensures.value c.is_too_long.ensures c.with_length.ensures.long c.with_length.ensures.short
 
 pub returns-clause-numbers : goal.returns-clause-numbers

@@ -4,10 +4,12 @@ use Rattle.std.proofs.lemmas.List.{take_rest}
 use Rattle.plan_trace.specs.declared.level.Level.TheVariants.{NewPlate}
 use Rattle.plan_box.specs.declared.reason.Reason.{Reason}
 use Rattle.plan_box.specs.Leasts.{fixed, no_known}
-use Rattle.box_bound.specs.Kept.{blank, late_fixed}
+use Rattle.plan_box.proofs.Levels.{levels_are}
+use Rattle.box_bound.specs.Kept.{blank, late, late_fixed}
 use Rattle.box_bound.specs.inner.Drawn.{levels_of}
-use Rattle.box_bound.specs.inner.Seen.{AmongFixed, AreSeen, IsFirstIfAny, StepOf}
-use Rattle.box_bound.proofs.Seeing.{before_more, late_at, late_levels, seen_more, seen_put, seen_start}
+use Rattle.box_bound.specs.inner.Seen.{AmongFixed, AreSeen, IsFirstIfAny}
+use Rattle.plan_box.specs.inner.Facts.{FactOf}
+use Rattle.box_bound.proofs.Seeing.{before_more, late_at, seen_more, seen_put, seen_start}
 use Rattle.box_bound.proofs.seen.look.Goals as goal
 
 pub loop-i-init : goal.loop-i-init
@@ -30,9 +32,9 @@ loop-i-preserved c =
     let here = get_or steps i blank in
     let ks = map late_fixed steps in
     let at = late_at steps i blank (omega arith) in
-    let found = subst (λ (o : Option Reason). IsFirstIfAny (λ r. AmongFixed (StepOf b c.args.whole r) NewPlate no_known ks (i + 1)) o) (sym c.earlier-found.ensures)
-    (seen_more (StepOf b c.args.whole) ks i (i + 1) (late_fixed c.loop-i.last) (late_fixed here) (map late_fixed (drop (i + 1) steps)) _ c.loop-i.found c.seen_at-next.result (omega arith) at
-    c.loop-i.invariant.last (ap levels_of (take_rest ranges (i + 1)) ∙ c.requires.levels.later (i + 1) (omega arith) ∙ sym (late_levels (drop (i + 1) steps))) c.loop-i.invariant.found c.seen_at-next.ensures) in
+    let found = subst (λ (o : Option Reason). IsFirstIfAny (λ r. AmongFixed (FactOf b c.args.whole r) NewPlate no_known ks (i + 1)) o) (sym c.earlier-found.ensures)
+    (seen_more (FactOf b c.args.whole) ks i (i + 1) (late_fixed c.loop-i.last) (late_fixed here) (map late_fixed (drop (i + 1) steps)) _ c.loop-i.found c.seen_at-next.result (omega arith) at
+    c.loop-i.invariant.last (ap levels_of (take_rest ranges (i + 1)) ∙ c.requires.levels.later (i + 1) (omega arith) ∙ sym (levels_are (λ k. k.level) late (drop (i + 1) steps))) c.loop-i.invariant.found c.seen_at-next.ensures) in
     record {
       many = ap length c.set.ensures.new ∙ length-set c.loop-i.seen.items i c.earlier-found.result ∙ c.loop-i.invariant.many;
       last = sym (before_more (fixed NewPlate no_known) ks i (i + 1) (late_fixed here) (map late_fixed (drop (i + 1) steps)) (omega arith) at);

@@ -4,8 +4,8 @@ use Rattle.plan_box.specs.declared.packed.Packed.{Packed}
 use Rattle.plan_box.specs.Leasts.{Fixed, least_step, least_steps, settle_at}
 use Rattle.cut_model.specs.declared.steps.Step.{Step}
 use Rattle.box_bound.specs.Kept.{blank, early}
-use Rattle.box_bound.specs.inner.Drawn.{draws_of}
-use Rattle.box_bound.specs.inner.Seen.{StepOf}
+use Rattle.plan_box.specs.inner.Follows.{draws_of}
+use Rattle.plan_box.specs.inner.Facts.{FactOf}
 use Rattle.box_bound.specs.inner.Walks.{AreLevels, steps_from}
 use Rattle.box_bound.proofs.Recursed.{are_levels, head_is, head_within, seen_is, step_within, steps_one, written_one}
 use Rattle.box_bound.proofs.walking.+walk.Goals as goal
@@ -42,7 +42,7 @@ returns-clause-seen t c =
     let y = c.next-step.result in
     let later = steps_from b ranges (c.args.at + 1) (early y) in
     let one = steps_one b ranges c.args.at (early c.args.last.now) y blank.ranges (omega (arith, c.if-at-ranges.false, c.requires.inside)) c.next-step.ensures.value in
-    seen_is (StepOf b c.args.whole) c.settled_before-here.result y c.settled_before-here.result.ends (steps_from b ranges c.args.at (early c.args.last.now)) later c.seen_behind-seen.result c.settled_before-here.ensures.ends
+    seen_is (FactOf b c.args.whole) c.settled_before-here.result y c.settled_before-here.result.ends (steps_from b ranges c.args.at (early c.args.last.now)) later c.seen_behind-seen.result c.settled_before-here.ensures.ends
     (c.settled_before-here.ensures.late later c.walk-behind.ensures.first) one
     (c.seen_behind-seen.ensures later c.walk-behind.ensures.first (subst (λ (rs : List Packed). AreLevels later rs) (sym (take_rest ranges (c.args.at + 1))) (are_levels b (draws_of (take (c.args.at + 1) ranges)) (early y) (drop (c.args.at + 1) ranges))) c.walk-behind.ensures.seen)
 

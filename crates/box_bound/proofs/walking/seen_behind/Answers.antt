@@ -3,7 +3,8 @@ use Rattle.plan_box.specs.declared.reason.Reason.{Reason}
 use Rattle.plan_box.specs.Reasons.{SomeFixed}
 use Rattle.box_bound.specs.declared.kept.Kept.{Kept}
 use Rattle.box_bound.specs.Kept.{late}
-use Rattle.box_bound.specs.inner.Seen.{IsFirstIfAny, StepOf}
+use Rattle.box_bound.specs.inner.Seen.{IsFirstIfAny}
+use Rattle.plan_box.specs.inner.Facts.{FactOf}
 use Rattle.box_bound.specs.inner.Walks.{IsHead}
 use Rattle.box_bound.proofs.Recursed.{seen_first}
 use Rattle.box_bound.proofs.walking.seen_behind.Goals as goal
@@ -13,6 +14,6 @@ returns-in-Some-split_first c = λ ks head levels seen.
     let b = c.args.instance.now in
     let step = c.args.step.now in
     let there = subst (λ (o : Option Kept). IsHead o ks) c.in-Some.is head in
-    subst (λ (o : Option Reason). IsFirstIfAny (λ reason. SomeFixed (StepOf b c.args.whole reason) step.level (late step) ks) o) (sym c.earlier.ensures)
-    (seen_first (StepOf b c.args.whole) step.level (late step) ks c.in-Some.next c.args.ranges.now c.in-Some-split_first.later.now c.in-Some-split_first.field-0-0.now c.seen_at.result c.args.behind.now.seen there levels
+    subst (λ (o : Option Reason). IsFirstIfAny (λ reason. SomeFixed (FactOf b c.args.whole reason) step.level (late step) ks) o) (sym c.earlier.ensures)
+    (seen_first (FactOf b c.args.whole) step.level (late step) ks c.in-Some.next c.args.ranges.now c.in-Some-split_first.later.now c.in-Some-split_first.field-0-0.now c.seen_at.result c.args.behind.now.seen there levels
     c.in-Some-split_first.ensures.cases.0 c.seen_at.ensures seen)

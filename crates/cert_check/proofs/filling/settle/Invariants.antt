@@ -10,6 +10,3 @@ invariant-loop-i l = record {
   front : take l.i l.steps.items ≡ take l.i l.initial.steps.items;
   back : map fixed_of (take (l.count - l.i) (drop l.i l.steps.items)) ≡ settle (map fixed_of (take (l.count - l.i) (drop l.i l.initial.steps.items)));
 }
-
-abbrev pub decreases-loop-i : goal.decreases-loop-i
-decreases-loop-i l = l.i

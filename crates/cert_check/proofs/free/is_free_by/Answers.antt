@@ -4,8 +4,7 @@ use Rattle.std.proofs.lemmas.Option.{slice_get-get_or}
 use Rattle.plan_box.specs.Packed.{unpacked}
 use Rattle.plan_box.specs.Ranges.{Ranges, span_of}
 use Rattle.plan_box.specs.declared.packed.Packed.{Packed}
-use Rattle.plan_box.specs.Decisions.{is_single, is_discrete, opens}
-use Rattle.plan_box.specs.inner.Openings.{level_at}
+use Rattle.plan_box.specs.Decisions.{is_single, is_discrete, level_at, opens}
 use Rattle.plan_box.proofs.Children.{no_ranges}
 use Rattle.plan_box.proofs.Freed.{decided_is, later_free, next_is, past_free}
 use Rattle.cert_check.proofs.Turns.{read_at}

@@ -1,40 +1,47 @@
-use Rattle.std.proofs.Common.{◌≡◌, ◌++◌, ◌∷◌, [], ◌∙◌, ap, map, List, ℕ, sym, arith, false, true, rules}
+use Rattle.std.proofs.Common.{rules, ◌≡◌, ◌∷◌, ◌∙◌, ◌-◌, ◌++◌, [], ap, map, List, ℕ, suc, sym, arith, false, true, length, reverse, slice_get, slice_set, take, Some}
+use Rattle.std.proofs.lemmas.Option.{slice_get_within}
 use Rattle.plan_box.specs.Packed.{unpacked}
 use Rattle.plan_box.specs.Ranges.{Ranges}
 use Rattle.cert_check.specs.declared.path.Turn.{Turn}
-use Rattle.cert_check.proofs.Turns.{beside_upper, to_upper, last_turn, turns_before, turns_push, turned}
+use Rattle.cert_check.specs.inner.Paths.{beside}
+use Rattle.cert_check.proofs.Turns.{beside_upper, last_is, last_popped, last_set, to_upper, turned, turns_before}
 use Rattle.cert_check.proofs.path.back.Goals as goal
+use Rattle.cert_check.proofs.path.back.Goals.{In-Some}
 
-pub returns-then-not-turn-clause-path : goal.returns-then-not-turn-clause-path
-returns-then-not-turn-clause-path c =
-    let p = c.loop-turn.invariant.path in let t = c.in-Some.turn in
-    let is = last_turn c.args.frame _ _ t c.in-Some.ensures.last p.each_turn in
-    record {
-      stored = c.replace.ensures.stored;
-      each_step = c.replace.ensures.each_step ∙ p.each_step;
-      each_turn = turns_push c.args.frame c.pop.new.self.items _ (turned t) c.in_ok-append.ensures.ok (turns_before c.args.frame _ _ t c.in-Some.ensures.last p.each_turn) (record { inside = is.inside; wide = is.wide; within = is.within });
-    }
+-- the turn that is at hand is the last one
+is_last : (c : In-Some) → slice_get c.loop-turn.turns.items (length c.loop-turn.turns.items - 1) ≡ Some c.in-Some.field-0.now
+is_last c = rw (c.as_slice.ensures) at (sym c.in-Some.ensures.value)
+
+count_is : (c : In-Some) → length c.loop-turn.turns.items ≡ suc (length c.loop-turn.turns.items - 1)
+count_is c = omega (arith, slice_get_within c.loop-turn.turns.items (length c.loop-turn.turns.items - 1) c.in-Some.field-0.now (is_last c))
 
 pub returns-then-not-turn-clause-boxes : goal.returns-then-not-turn-clause-boxes
 returns-then-not-turn-clause-boxes c =
-    let t = c.in-Some.turn in
+    let k = (goal.at.returns-then-not-turn-clause-boxes c).In-Some in
+    let t = c.in-Some.field-0.now in
+    let old : List Turn = c.loop-turn.turns.items in
     let low : t.upper ≡ false = search rules in
-    ap (λ (ts : List Turn). map unpacked c.replace.new.stored.items ∷ Rattle.cert_check.specs.inner.Paths.beside (map unpacked c.replace.new.stored.items) (Rattle.std.proofs.Common.reverse ts)) c.in_ok-append.ensures.ok
-    ∙ to_upper (map unpacked c.loop-turn.stored.items) (map unpacked c.replace.new.stored.items) c.loop-turn.turns.items c.pop.new.self.items t c.in-Some.ensures.last low c.replace.ensures.ranges
+    let new : c.set.new.self.items ≡ take (length old - 1) old ++ turned t ∷ [] =
+    c.set.ensures.new ∙ ap (λ (n : ℕ). slice_set old (n - 1) (turned t)) c.len-last.ensures ∙ last_set old (length old - 1) (turned t) (count_is k) in
+    ap (λ (ts : List Turn). map unpacked c.replace.new.stored.items ∷ beside (map unpacked c.replace.new.stored.items) (reverse ts)) new
+    ∙ to_upper (map unpacked c.loop-turn.stored.items) (map unpacked c.replace.new.stored.items) old (take (length old - 1) old) t (last_is old (length old - 1) t (count_is k) (is_last k)) low c.replace.ensures.ranges
     ∙ c.loop-turn.invariant.boxes
 
 pub loop-turn-preserved : goal.loop-turn-preserved
 loop-turn-preserved c =
-    let p = c.loop-turn.invariant.path in let t = c.in-Some.turn in
+    let k = (goal.at.loop-turn-preserved c).In-Some in
+    let p = c.loop-turn.invariant.path in let t = c.in-Some.field-0.now in
+    let old : List Turn = c.loop-turn.turns.items in
     let up : t.upper ≡ true = search rules in
+    let last : old ≡ c.pop.new.self.items ++ t ∷ [] = last_popped old c.pop.new.self.items c.pop.result (length old - 1) t c.pop.ensures.last (count_is k) c.pop.ensures.empty (is_last k) in
     record {
       path = record {
         stored = c.replace-in-Some.ensures.stored;
         each_step = c.replace-in-Some.ensures.each_step ∙ p.each_step;
-        each_turn = turns_before c.args.frame _ _ t c.in-Some.ensures.last p.each_turn;
+        each_turn = turns_before c.args.frame _ _ t last p.each_turn;
       };
       boxes =
-          ap (λ (rs : List Ranges). Rattle.cert_check.specs.inner.Paths.beside rs (Rattle.std.proofs.Common.reverse c.pop.new.self.items)) c.replace-in-Some.ensures.ranges
-          ∙ sym (beside_upper (map unpacked c.loop-turn.stored.items) c.loop-turn.turns.items c.pop.new.self.items t c.in-Some.ensures.last up)
+          ap (λ (rs : List Ranges). beside rs (reverse c.pop.new.self.items)) c.replace-in-Some.ensures.ranges
+          ∙ sym (beside_upper (map unpacked c.loop-turn.stored.items) old c.pop.new.self.items t last up)
           ∙ c.loop-turn.invariant.boxes;
     }

@@ -3,9 +3,10 @@ use Rattle.plan_trace.specs.declared.level.Level.TheVariants.{NewPlate}
 use Rattle.plan_box.specs.Leasts.{no_known}
 use Rattle.plan_box.specs.Reasons.{SomeFixed}
 use Rattle.cert_check.specs.declared.steps.Decided.{Decided}
-use Rattle.cert_check.specs.inner.Facts.{FactOf}
+use Rattle.plan_box.specs.inner.Facts.{FactOf}
 use Rattle.cert_check.specs.inner.Knowns.{fixed_of, known_in, levels_in, nothing}
-use Rattle.cert_check.proofs.Somes.{not_both, rest_is, some_here, some_next, some_none}
+use Rattle.plan_box.proofs.PointTests.{not_both}
+use Rattle.cert_check.proofs.Somes.{rest_is, some_here, some_next, some_none}
 use Rattle.cert_check.proofs.refuting.is_fact_at_some.Goals as goal
 
 pub loop-i-preserved : goal.loop-i-preserved

@@ -1,8 +1,9 @@
-use Rattle.std.proofs.Common.{◌≡◌, ◌<◌, ℕ, get_or, length}
+use Rattle.std.proofs.Common.{◌≡◌, length, take, get_or, All}
+use Rattle.plan_box.specs.Packed.{unpacked}
 use Rattle.cert_check.proofs.taken.clear.Given as goal
 
-abbrev pub invariant-loop-stack : goal.invariant-loop-stack
-invariant-loop-stack l = record {
+abbrev pub invariant-loop-here : goal.invariant-loop-here
+invariant-loop-here l = record {
   many : length l.taken.items ≡ 800;
-  zeros : (n : ℕ) → n < l.stack → get_or l.taken.items n 0 ≡ 0;
+  zero : All (λ r. get_or l.taken.items (unpacked r).stack.low 0 ≡ 0) (take l.here-index l.ranges);
 }

@@ -1,0 +1,143 @@
+//! The causes of closed nodes, where a certificate does not say them.
+
+ghost use Rattle.std.specs.Prelude.{◌≡◌, ◌≢◌, [], ◌∷◌, IfOk, length, map};
+ghost use Rattle.std.specs.List.{AllZip};
+ghost use Rattle.plan_box.specs.Frames.{frame_of};
+ghost use Rattle.plan_box.specs.Packed.{unpacked};
+ghost use Rattle.plan_box.specs.Ranges.{root_of};
+ghost use Rattle.cert_log.specs.Good.{IsGood};
+ghost use Rattle.cert_check.specs.Causes.{IsNamed, IsReasoned, IsTrueCause};
+ghost use Rattle.cert_check.specs.inner.Knowns.{HasRoom};
+ghost use Rattle.cert_check.specs.inner.Naming.{IsNamedAt, IsNamedNode};
+ghost use Rattle.cert_check.specs.inner.Paths.{AreStored, top};
+ghost use Rattle.cert_check.specs.inner.Walks.{visits_from};
+
+use crate::path::Path;
+use crate::refuting::first_reason;
+use crate::scratch::Scratch;
+use cert_log::{Cause, Certificate, Node};
+use defect_map::DefectMap;
+use glass_base::{Instance, Memory, Run, append};
+use plan_box::Packed;
+use std::alloc::Global;
+
+/// The true cause for which a box is closed: the first reason that applies to it, or else its bound.
+fn true_cause(
+    instance: &Instance,
+    defects: &DefectMap,
+    ranges: &[Packed],
+    scratch: &mut Scratch,
+) -> Cause
+    requires defects { defects.now ≡ instance.now.defects }
+    requires stored { AreStored (frame_of instance.now) ranges.now }
+    requires each_step { length ranges.now ≡ length instance.now.items }
+    requires room { HasRoom (length instance.now.items) scratch.old }
+    ensures cause { IsTrueCause instance.now (map unpacked ranges.now) result }
+    ensures room { HasRoom (length instance.now.items) scratch.new }
+{
+    match first_reason(
+        instance,
+        defects,
+        ranges,
+        &mut scratch.steps,
+        &mut scratch.taken,
+        &mut scratch.numbers,
+    ) {
+        Some(reason) => Cause::Reason(reason),
+        None => Cause::Bound,
+    }
+}
+
+/// A cause that was said, or the true one.
+fn name_cause(
+    instance: &Instance,
+    defects: &DefectMap,
+    cause: Cause,
+    ranges: &[Packed],
+    scratch: &mut Scratch,
+) -> Cause
+    requires defects { defects.now ≡ instance.now.defects }
+    requires stored { AreStored (frame_of instance.now) ranges.now }
+    requires each_step { length ranges.now ≡ length instance.now.items }
+    requires room { HasRoom (length instance.now.items) scratch.old }
+    ensures named { IsNamed instance.now (map unpacked ranges.now) cause result }
+    ensures room { HasRoom (length instance.now.items) scratch.new }
+{
+    match cause {
+        Cause::Unsaid => true_cause(instance, defects, ranges, scratch),
+        Cause::Bound => Cause::Bound,
+        Cause::Reason(reason) => Cause::Reason(reason),
+    }
+}
+
+/// The node with its cause named, where it stands at the box at hand.
+fn name_node(
+    instance: &Instance,
+    defects: &DefectMap,
+    node: Node,
+    path: &Path,
+    scratch: &mut Scratch,
+) -> Node
+    requires defects { defects.now ≡ instance.now.defects }
+    requires frame { path.now.frame ≡ frame_of instance.now }
+    requires waits { path.now.boxes ≢ [] }
+    requires room { HasRoom (length instance.now.items) scratch.old }
+    ensures named { IsNamedNode instance.now (top path.now.boxes) node result }
+    ensures room { HasRoom (length instance.now.items) scratch.new }
+{
+    match node {
+        Node::Closed(cause) => {
+            let named = name_cause(instance, defects, cause, path.stored(), scratch);
+            Node::Closed(named)
+        }
+        Node::Split { step, var } => Node::Split { step, var },
+        Node::Left => Node::Left,
+    }
+}
+
+/// The nodes of a certificate with their causes named.
+fn name_nodes(
+    alloc: Global,
+    instance: &Instance,
+    defects: &DefectMap,
+    cert: &Certificate,
+) -> Result<Run<Node>, Memory>
+    requires defects { defects.now ≡ instance.now.defects }
+    requires good { IsGood instance.now (root_of (frame_of instance.now) 0).ranges cert.now.loss cert.now }
+    ensures { IfOk result (λ run. AllZip (IsNamedAt instance.now) (visits_from ((root_of (frame_of instance.now) 0).ranges ∷ []) cert.now.nodes.items) run.items) }
+{
+    let mut path = Path::new(alloc, instance)?;
+    let mut scratch = Scratch::new(alloc, instance.items().len())?;
+    let mut nodes = Run::new(alloc);
+    for node in cert.nodes.as_slice() {
+        let named = name_node(instance, defects, *node, &path, &mut scratch);
+        append(&mut nodes, named)?;
+        path.pass(*node)?;
+    }
+    Ok(nodes)
+}
+
+/// The certificate of version 2 that says the same as one that is right for the box of all plans. Where a closed node has no cause, it is the
+/// first reason that applies to its box, or the bound where none does.
+///
+/// Only want of memory is refused. It takes memory for the nodes, and some that depends on the instance and the depth of the tree.
+pub fn reasoned(
+    alloc: Global,
+    instance: &Instance,
+    map: &DefectMap,
+    cert: &Certificate,
+) -> Result<Certificate, Memory>
+    requires map { map.now ≡ instance.now.defects }
+    requires good { IsGood instance.now (root_of (frame_of instance.now) 0).ranges cert.now.loss cert.now }
+    ensures good { IfOk result (λ d. IsGood instance.now (root_of (frame_of instance.now) 0).ranges cert.now.loss d) }
+    ensures reasoned { IfOk result (λ d. IsReasoned instance.now (root_of (frame_of instance.now) 0).ranges cert.now d) }
+{
+    let nodes = name_nodes(alloc, instance, map, cert)?;
+    Ok(Certificate {
+        version: 2,
+        loss: cert.loss,
+        bound: cert.bound,
+        left: cert.left,
+        nodes,
+    })
+}
