@@ -1,0 +1,5 @@
+pub mod Keeps
+pub mod Rows
+pub mod Joined
+pub mod Drained
+pub mod Examples

@@ -1,0 +1,4 @@
+pub mod Tallies
+pub mod Arms
+pub mod Gathers
+pub mod inner

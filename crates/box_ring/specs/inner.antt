@@ -1,0 +1,4 @@
+pub mod Rule
+pub mod Neighbours
+pub mod Deques
+pub mod Rings
