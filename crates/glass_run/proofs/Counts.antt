@@ -8,7 +8,7 @@ use Rattle.std.specs.Str.Parse.{ParsesUnsigned, digits_value}
 use Rattle.std.specs.Str.Pattern.{LacksTextAt}
 use Rattle.std.proofs.lemmas.Bool.{cases_Bool}
 use Rattle.std.proofs.lemmas.Str.Parse.{IsDigitsTest, numerals_by_value, parse_digits}
-use Rattle.glass_run.specs.Grammar.{count_front, count_value, has_leading_zero, is_number, number_upto}
+use Rattle.glass_run.specs.Grammar.{count_front, count_value, has_leading_zero, is_number, number_within}
 use Rattle.glass_run.specs.declared.grammar.Count.{Count}
 use Rattle.glass_run.proofs.Prefixes.{front_differs}
 
@@ -43,11 +43,11 @@ digits_of_number text e =
     (b.1, grind (arith, b.0))
 
 -- a number that does not fit is above all that can be set
-pub too_large : {E : Type 0} (most : ℕ) (text : List ℕ) (r : Result ℕ E) (e : E) → most < 2 ^ 32 → is_number text ≡ true → ParsesUnsigned 32 10 text r → r ≡ Err e → None ≡ number_upto most text
-too_large {E} most text r e small number parses is =
+pub too_large : {E : Type 0} (least most : ℕ) (text : List ℕ) (r : Result ℕ E) (e : E) → most < 2 ^ 32 → is_number text ≡ true → ParsesUnsigned 32 10 text r → r ≡ Err e → None ≡ number_within least most text
+too_large {E} least most text r e small number parses is =
     let d = digits_of_number text number in
     let fails = parse_digits (numerals_by_value AreDigits tells) 32 text (Err e) (subst (λ (q : Result ℕ E). ParsesUnsigned 32 10 text q) is parses) d.0 in
-    outside (nat_le 1 (digits_value 10 text)) most (digits_value 10 text) (is_number text) (λ le. fails (d.1, omega (arith, le, small)))
+    outside (nat_le least (digits_value 10 text)) most (digits_value 10 text) (is_number text) (λ le. fails (d.1, omega (arith, le, small)))
   where
     outside : (low : Bool) (most n : ℕ) (number : Bool) → (n ≤ most → ⊥) → None ≡ cond (number && (low && nat_le n most)) (Some n) None
     outside low most n number above = elim (cases_Bool (nat_le n most)) [

@@ -1,15 +1,19 @@
 -- The answer to the texts that were fetched is the answer to what the files hold.
-use Rattle.std.proofs.Common.{◌≡◌, IfSome, List, ℕ, Option, Some, None, sym, ap, subst, ◌∙◌, inl, inr}
+use Rattle.std.proofs.Common.{◌≡◌, IfSome, List, ℕ, Option, Some, None, sym, subst, inl, inr}
 use Rattle.std.specs.Prelude.{Ok}
 use Rattle.glass_io.specs.Told.{Contents}
 use Rattle.glass_run.specs.Answers.{Answer}
+use Rattle.glass_run.specs.Checks.{Converts, Verifies}
+use Rattle.glass_base.specs.declared.role.Role.TheVariants as role
 use Rattle.glass_base.specs.Problem.{Problem}
-use Rattle.glass_run.specs.Commands.{Answers, AnswersInstance, AnswersTexts, flaws_of}
-use Rattle.glass_run.specs.Instances.{InstanceRefused, IsInstanceOf}
+use Rattle.glass_run.specs.Commands.{Answers, AnswersInstance, AnswersTexts, HasInstance, HasNoInstance, out_of}
+use Rattle.glass_run.specs.inner.Forms.{OnTold, Tells}
+use Rattle.glass_run.specs.declared.notices.Stop.{Stop}
+use Rattle.glass_run.specs.declared.notices.Stop.TheVariants as stop
 use Rattle.glass_run.specs.declared.grammar.Verb.{Verb}
 use Rattle.glass_run.specs.declared.grammar.Verb.TheVariants as verb
 use Rattle.glass_run.specs.Grammar.{Line, files_of}
-use Rattle.glass_run.specs.Texts.{Texts, texts_of}
+use Rattle.glass_run.specs.Texts.{Texts, text_for, text_or_empty, texts_of}
 
 pub with_texts : (told : Option Contents) (line : Line) (texts : Texts) (answer : Answer) → IfSome told (λ contents. texts_of contents (files_of line) ≡ Ok texts) → AnswersTexts line texts answer →
     IfSome told (λ contents. Answers contents line answer)
@@ -17,25 +21,26 @@ with_texts None line texts answer e h = tt
 with_texts (Some contents) line texts answer e h = rw e h
 
 -- the answer of each command to an instance is that of its name
-pub draft_answers : (line : Line) (texts : Texts) (b : Problem) (answer : Answer) → line.verb ≡ verb.Draft → AnswersInstance verb.Draft line texts b answer → AnswersInstance line.verb line texts b answer
-draft_answers line texts b answer e h = subst (λ (v : Verb). AnswersInstance v line texts b answer) (sym e) h
+pub answers_as : (of : Verb) (line : Line) (texts : Texts) (b : Problem) (answer : Answer) → line.verb ≡ of → AnswersInstance of line texts b answer → AnswersInstance line.verb line texts b answer
+answers_as of line texts b answer e h = subst (λ (v : Verb). AnswersInstance v line texts b answer) (sym e) h
 
-pub plan_answers : (line : Line) (texts : Texts) (b : Problem) (answer : Answer) → line.verb ≡ verb.Plan → AnswersInstance verb.Plan line texts b answer → AnswersInstance line.verb line texts b answer
-plan_answers line texts b answer e h = subst (λ (v : Verb). AnswersInstance v line texts b answer) (sym e) h
+pub verify_answers : (line : Line) (texts : Texts) (b : Problem) (answer : Answer) (plan : Option (List ℕ)) (text : List ℕ) → line.verb ≡ verb.Verify → plan ≡ text_for texts role.Plan →
+    text ≡ text_or_empty texts role.Cert → Verifies b plan text answer → AnswersInstance line.verb line texts b answer
+verify_answers line texts b answer plan text of is says h =
+    answers_as verb.Verify line texts b answer of
+    (subst (λ (p : Option (List ℕ)). Verifies b p (text_or_empty texts role.Cert) answer) is (subst (λ (t : List ℕ). Verifies b plan t answer) says h))
 
-pub judge_answers : (line : Line) (texts : Texts) (b : Problem) (answer : Answer) → line.verb ≡ verb.Judge → AnswersInstance verb.Judge line texts b answer → AnswersInstance line.verb line texts b answer
-judge_answers line texts b answer e h = subst (λ (v : Verb). AnswersInstance v line texts b answer) (sym e) h
+pub convert_answers : (line : Line) (texts : Texts) (b : Problem) (answer : Answer) (plan : Option (List ℕ)) (text : List ℕ) → line.verb ≡ verb.Convert → plan ≡ text_for texts role.Plan →
+    text ≡ text_or_empty texts role.Cert → Converts b plan text (out_of line) answer → AnswersInstance line.verb line texts b answer
+convert_answers line texts b answer plan text of is says h =
+    answers_as verb.Convert line texts b answer of
+    (subst (λ (p : Option (List ℕ)). Converts b p (text_or_empty texts role.Cert) (out_of line) answer) is (subst (λ (t : List ℕ). Converts b plan t (out_of line) answer) says h))
 
--- the answer to the instance that the texts say
-pub said_instance : (verb : Verb) (line : Line) (texts : Texts) (flaws : Option (List ℕ)) (b : Problem) (answer : Answer) → line.verb ≡ verb → flaws ≡ flaws_of verb texts →
-    IsInstanceOf texts flaws b → AnswersInstance verb line texts b answer → AnswersTexts line texts answer
-said_instance verb line texts flaws b answer e given is h =
-    let same : flaws ≡ flaws_of line.verb texts = given ∙ ap (λ (v : Verb). flaws_of v texts) (sym e) in
-    inl (b, subst (λ (f : Option (List ℕ)). IsInstanceOf texts f b) same is, subst (λ (v : Verb). AnswersInstance v line texts b answer) (sym e) h)
+-- the answer to the instance of a line
+pub said_instance : (line : Line) (texts : Texts) (b : Problem) (answer : Answer) → HasInstance line.verb line texts b → AnswersInstance line.verb line texts b answer → AnswersTexts line texts answer
+said_instance line texts b answer is h = inl (b, is, h)
 
--- the answer where they say none
-pub said_none : (verb : Verb) (line : Line) (texts : Texts) (flaws : Option (List ℕ)) (told answer : Answer) → line.verb ≡ verb → flaws ≡ flaws_of verb texts →
-    InstanceRefused texts flaws told → answer ≡ told → AnswersTexts line texts answer
-said_none verb line texts flaws told answer e given refused is =
-    let same : flaws ≡ flaws_of line.verb texts = given ∙ ap (λ (v : Verb). flaws_of v texts) (sym e) in
-    inr (subst (λ (f : Option (List ℕ)). InstanceRefused texts f answer) same (subst (λ (a : Answer). InstanceRefused texts flaws a) (sym is) refused))
+-- the answer where there is none
+pub said_none : (line : Line) (texts : Texts) (s : Stop) (answer : Answer) → OnTold (HasNoInstance line.verb texts) s → Tells s answer → AnswersTexts line texts answer
+said_none line texts stop.Memory answer refused is = absurd is
+said_none line texts (stop.Told notice) answer refused is = inr (subst (λ (a : Answer). HasNoInstance line.verb texts a) (sym is) refused)

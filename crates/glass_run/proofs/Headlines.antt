@@ -22,10 +22,10 @@ use Rattle.glass_run.specs.declared.grammar.Verb.{Verb}
 use Rattle.glass_run.specs.declared.grammar.Verb.TheVariants as verb
 use Rattle.glass_run.specs.declared.status.Status.{Status}
 use Rattle.glass_run.specs.declared.status.Status.TheVariants as status
-use Rattle.glass_run.proofs.Statuses.{IsRefused, Refuses, instance_refused, plan_refused, texts_refuse}
+use Rattle.glass_run.proofs.Statuses.{IsRefused, Refuses, none_refused, plan_refused, texts_refuse}
 
 -- where nothing is stored all names hold what they held
-unchanged : (a b : Option Contents) → Stands [] a b → SameContents a b
+pub unchanged : (a b : Option Contents) → Stands [] a b → SameContents a b
 unchanged None None h = refl
 unchanged None (Some b) h = absurd h
 unchanged (Some a) None h = absurd h
@@ -42,7 +42,7 @@ held_other s a other true is ne = absurd (ne (sym ((bytes_eq-Decides s.name othe
 held_other s a other false is ne = refl
 
 -- where one file is stored its name holds it, and no other name changes
-one_stored : (s : Store) (a b : Option Contents) → Stands (s ∷ []) a b → Stored s.name s.bytes a b
+pub one_stored : (s : Store) (a b : Option Contents) → Stands (s ∷ []) a b → Stored s.name s.bytes a b
 one_stored s None None h = tt
 one_stored s None (Some b) h = absurd h
 one_stored s (Some a) None h = absurd h
@@ -60,7 +60,7 @@ pub record Says (line : Line) (held : Contents) (answer : Answer) : Type 0 where
 
 texts_say : (line : Line) (held : Contents) (texts : Texts) (answer : Answer) → ¬ Refuses answer → texts_of held (files_of line) ≡ Ok texts → AnswersTexts line texts answer → Says line held answer
 texts_say line held texts answer accepts is (inl said) = record { texts = texts; b = said.0; reads = record { texts_are = is; instance_is = said.1 }; answers = said.2 }
-texts_say line held texts answer accepts is (inr refused) = absurd (accepts (instance_refused texts _ answer refused))
+texts_say line held texts answer accepts is (inr refused) = absurd (accepts (none_refused line.verb texts answer refused))
 
 fetched_say : (line : Line) (held : Contents) (answer : Answer) (fetched : Result Texts Answer) → ¬ Refuses answer → texts_of held (files_of line) ≡ fetched → IfErr fetched Refuses → AnswersFetched line fetched answer →
     Says line held answer

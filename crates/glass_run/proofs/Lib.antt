@@ -10,5 +10,8 @@ mod Endings
 mod Judged
 mod Given
 mod Statuses
+mod Checked
 mod Headlines
 mod SearchHeadline
+mod CheckHeadlines
+mod CheckRefusals

@@ -12,8 +12,11 @@ use Rattle.cert_log.proofs.GoodNodes.{good_counts, no_larger_than_full}
 use Rattle.glass_run.specs.Answers.{Answer}
 use Rattle.glass_run.specs.Commands.{AnswersInstance, out_of, second_out_of}
 use Rattle.glass_run.specs.Grammar.{Line, count_in}
-use Rattle.glass_run.specs.Headlines.{Ended, IsSearchEnd, StoresSearch}
+use Rattle.glass_run.specs.Headlines.{Ended, IsSearch, IsSearchEnd, StoresSearch}
 use Rattle.glass_run.specs.Plans.{PlansWithin, ending, handled, planned, root_ranges}
+use Rattle.glass_run.specs.Texts.{Texts}
+use Rattle.cert_check.specs.declared.verdict.Verdict.{Verdict}
+use Rattle.cert_check.specs.Faults.{Answers as CheckAnswers}
 use Rattle.glass_run.specs.Runs.{Completes, LineRun, Prints, RunsTo, Stands, World}
 use Rattle.glass_run.specs.declared.grammar.Count.TheVariants as count
 use Rattle.glass_run.specs.declared.grammar.Verb.{Verb}
@@ -101,11 +104,26 @@ no_open b c budget depth good spent is enough some =
     few : (full handled left nodes budget : ℕ) → nodes < full → handled + left ≡ nodes → handled ≡ budget → full - 1 ≤ budget → 0 < left → ⊥
     few full handled left nodes budget a e f g h = omega arith
 
-stores_search : (line : Line) (held : Contents) (old new : World) (answer : Answer) (result : Status) → line.verb ≡ verb.Plan → IsSearchEnd result → result ≡ answer.status → Says line held answer →
+-- both commands answer so
+plans_by : (search : Verb) → IsSearch search → (line : Line) (texts : Texts) (b : Problem) (answer : Answer) → AnswersInstance search line texts b answer →
+    PlansWithin b (count_in line count.Budget) (out_of line) (second_out_of line) answer
+plans_by verb.Draft is line texts b answer h = absurd is
+plans_by verb.Plan is line texts b answer h = h
+plans_by verb.Gen is line texts b answer h = h
+plans_by verb.Judge is line texts b answer h = absurd is
+plans_by verb.Verify is line texts b answer h = absurd is
+plans_by verb.Convert is line texts b answer h = absurd is
+
+-- a check accepts a certificate that is right
+accepts_good : (b : Problem) (rs : List Ranges) (loss : Option ℕ) (c : Certificate) → IsGood b rs loss c → (verdict : Verdict) → CheckAnswers b rs loss c verdict → verdict ≡ Verdict.Accept c.bound c.left
+accepts_good b rs loss c good (Verdict.Accept bound left) h = (ap (λ (n : Option ℕ). Verdict.Accept n left) h.1) ∙ ap (λ (n : ℕ). Verdict.Accept c.bound n) h.2
+accepts_good b rs loss c good (Verdict.Refuse at why) h = absurd (h.1 good)
+
+stores_search : (line : Line) (held : Contents) (old new : World) (answer : Answer) (result : Status) (search : Verb) → IsSearch search → line.verb ≡ search → IsSearchEnd result → result ≡ answer.status → Says line held answer →
     Stands answer.stores old.shelf.contents new.shelf.contents → Prints answer.lines old.paper new.paper → StoresSearch line held old new result
-stores_search line held old new answer result of end is s stored prints =
+stores_search line held old new answer result search searches of end is s stored prints =
     let budget = count_in line count.Budget in
-    let plans : PlansWithin s.b budget (out_of line) (second_out_of line) answer = subst (λ (v : Verb). AnswersInstance v line s.texts s.b answer) of s.answers in
+    let plans : PlansWithin s.b budget (out_of line) (second_out_of line) answer = plans_by search searches line s.texts s.b answer (subst (λ (v : Verb). AnswersInstance v line s.texts s.b answer) of s.answers) in
     elim plans [
       | inl p ↦
           let found = p.1.found in
@@ -120,6 +138,7 @@ stores_search line held old new answer result of end is s stored prints =
             stored = subst (λ (a : Answer). Stands a.stores old.shelf.contents new.shelf.contents) p.1.answer_is stored;
             prints = subst (λ (a : Answer). Prints a.lines old.paper new.paper) p.1.answer_is prints;
             good = found.good;
+            accepted = accepts_good s.b (root_ranges s.b) c.loss c found.good;
             plan_is = found.plan_is;
             bounds = found.bounds;
             left_open = ((λ e. stopped_left c (sym ended ∙ e)), (λ some. ended ∙ left_stopped c some));
@@ -132,7 +151,7 @@ stores_search line held old new answer result of end is s stored prints =
       | inr refused ↦ absurd (subst IsSearchEnd (is ∙ ap (λ (a : Answer). a.status) refused.1) end)
     ]
 
-pub search_ended : (words : List (List ℕ)) (line : Line) (held : Contents) (old new : World) (result : Status) → IsSearchEnd result → Ended words verb.Plan line held old new result → StoresSearch line held old new result
-search_ended words line held old new result end e =
+pub search_ended : (words : List (List ℕ)) (line : Line) (held : Contents) (old new : World) (result : Status) (search : Verb) → IsSearch search → IsSearchEnd result → Ended words search line held old new result → StoresSearch line held old new result
+search_ended words line held old new result search searches end e =
     let c = completes line old new result end (subst (λ (o : Option Line). RunsTo o old new result) e.line_is e.runs) in
-    stores_search line held old new c.answer result e.verb_is end c.status_is (completed_says line held old new result e.told (accepts result end) c) c.stored c.prints
+    stores_search line held old new c.answer result search searches e.verb_is end c.status_is (completed_says line held old new result e.told (accepts result end) c) c.stored c.prints

@@ -12,11 +12,17 @@ use Rattle.glass_base.specs.declared.role.Role.TheVariants as role
 use Rattle.glass_io.specs.Told.{Contents}
 use Rattle.plan_csv.specs.declared.bad_plan.BadPlan.{BadPlan}
 use Rattle.plan_csv.specs.declared.bad_plan.BadPlan.TheVariants as bad_plan
+use Rattle.cert_log.specs.declared.bad_cert.BadCert.{BadCert}
+use Rattle.cert_log.specs.declared.bad_cert.BadCert.TheVariants as bad_cert
 use Rattle.glass_run.specs.Answers.{Answer, ListsRefused, TextRefused, params_refused, too_long}
+use Rattle.glass_run.specs.Checks.{CertRefused}
+use Rattle.glass_run.specs.Commands.{HasNoInstance}
 use Rattle.glass_run.specs.Instances.{InstanceRefused}
 use Rattle.glass_run.specs.Instances.InstanceRefused.{bad_batch, bad_defects, bad_lists, bad_params as bad_parameters, bad_plates}
 use Rattle.glass_run.specs.Judgements.{PlanRefused}
 use Rattle.glass_run.specs.Texts.{Texts, limit_of, or_refused, text_of, texts_of}
+use Rattle.glass_run.specs.declared.grammar.Verb.{Verb}
+use Rattle.glass_run.specs.declared.grammar.Verb.TheVariants as verb
 use Rattle.glass_run.specs.declared.status.Status.{Status}
 use Rattle.glass_run.specs.declared.status.Status.TheVariants as status
 
@@ -91,3 +97,20 @@ plan_refused (bad_plan.Parent row) answer h = rw h tt
 plan_refused (bad_plan.Level row cut) answer h = rw h tt
 plan_refused (bad_plan.Size row column) answer h = rw h tt
 plan_refused (bad_plan.Kind row) answer h = rw h tt
+
+-- and that to a text that says no certificate
+pub cert_refused : (reason : BadCert) (answer : Answer) → CertRefused reason answer → Refuses answer
+cert_refused bad_cert.Memory answer h = absurd h
+cert_refused bad_cert.Head answer h = rw h tt
+cert_refused (bad_cert.Line line) answer h = rw h tt
+cert_refused (bad_cert.Short lines) answer h = rw h tt
+cert_refused (bad_cert.Trailing line) answer h = rw h tt
+
+-- and that of a command that has no instance
+pub none_refused : (of : Verb) (texts : Texts) (answer : Answer) → HasNoInstance of texts answer → Refuses answer
+none_refused verb.Draft texts answer h = instance_refused texts _ answer h
+none_refused verb.Plan texts answer h = instance_refused texts _ answer h
+none_refused verb.Gen texts answer h = absurd h
+none_refused verb.Judge texts answer h = instance_refused texts _ answer h
+none_refused verb.Verify texts answer h = instance_refused texts _ answer h
+none_refused verb.Convert texts answer h = instance_refused texts _ answer h

@@ -4,11 +4,14 @@ use Rattle.glass_base.specs.Problem.{Problem}
 use Rattle.glass_base.specs.declared.role.Role.TheVariants as role
 use Rattle.glass_io.specs.Told.{Contents}
 use Rattle.glass_run.specs.declared.grammar.Count.TheVariants as count
+use Rattle.glass_gen.specs.Drawn.{IsDrawn}
+use Rattle.glass_run.specs.declared.grammar.Lead.TheVariants as lead
 use Rattle.glass_run.specs.declared.grammar.Verb.{Verb}
 use Rattle.glass_run.specs.declared.grammar.Verb.TheVariants as verb
 use Rattle.glass_run.specs.Answers.{Answer}
+use Rattle.glass_run.specs.Checks.{Converts, Verifies}
 use Rattle.glass_run.specs.Drafts.{Drafts}
-use Rattle.glass_run.specs.Grammar.{Line, files_of, count_in, stored_names}
+use Rattle.glass_run.specs.Grammar.{Line, files_of, count_in, lead_in, stored_names}
 use Rattle.glass_run.specs.Instances.{InstanceRefused, IsInstanceOf}
 use Rattle.glass_run.specs.Judgements.{JudgesText}
 use Rattle.glass_run.specs.Plans.{PlansWithin}
@@ -22,23 +25,34 @@ out_of line = slice_index_or (stored_names line) 0 []
 abbrev pub second_out_of : Line → List ℕ
 second_out_of line = slice_index_or (stored_names line) 1 []
 
--- the answer of each command to the instance that its texts say
+-- the answer of each command to its instance
 abbrev pub AnswersInstance : Verb → Line → Texts → Problem → Answer → Type 0
 AnswersInstance verb.Draft line texts b answer = Drafts b (out_of line) answer
 AnswersInstance verb.Plan line texts b answer = PlansWithin b (count_in line count.Budget) (out_of line) (second_out_of line) answer
+AnswersInstance verb.Gen line texts b answer = PlansWithin b (count_in line count.Budget) (out_of line) (second_out_of line) answer
 AnswersInstance verb.Judge line texts b answer = JudgesText b (text_or_empty texts role.Plan) answer
+AnswersInstance verb.Verify line texts b answer = Verifies b (text_for texts role.Plan) (text_or_empty texts role.Cert) answer
+AnswersInstance verb.Convert line texts b answer = Converts b (text_for texts role.Plan) (text_or_empty texts role.Cert) (out_of line) answer
 
 -- the text of the defects that each command plans with; a draft is made on plates without defects
 abbrev pub flaws_of : Verb → Texts → Option (List ℕ)
 flaws_of verb.Draft texts = None
-flaws_of verb.Plan texts = text_for texts role.Defects
-flaws_of verb.Judge texts = text_for texts role.Defects
+flaws_of _ texts = text_for texts role.Defects
+
+-- the instance of each command: the one that its texts say; `gen` has the one that its numbers give
+abbrev pub HasInstance : Verb → Line → Texts → Problem → Type 0
+HasInstance verb.Gen line texts b = IsDrawn b (lead_in line lead.Start) (lead_in line lead.Items) (lead_in line lead.Defects)
+HasInstance of line texts b = IsInstanceOf texts (flaws_of of texts) b
+
+-- the answer of each command where its texts say no instance
+abbrev pub HasNoInstance : Verb → Texts → Answer → Type 0
+HasNoInstance verb.Gen texts answer = ⊥
+HasNoInstance of texts answer = InstanceRefused texts (flaws_of of texts) answer
 
 -- the answer of a command to its texts
 abbrev pub AnswersTexts : Line → Texts → Answer → Type 0
 AnswersTexts line texts answer =
-    ((b : Problem) × IsInstanceOf texts (flaws_of line.verb texts) b × AnswersInstance line.verb line texts b answer)
-    ⊎ InstanceRefused texts (flaws_of line.verb texts) answer
+    ((b : Problem) × HasInstance line.verb line texts b × AnswersInstance line.verb line texts b answer) ⊎ HasNoInstance line.verb texts answer
 
 -- the answer of a command to its texts, or to the first file that gives none
 abbrev pub AnswersFetched : Line → Result Texts Answer → Answer → Type 0

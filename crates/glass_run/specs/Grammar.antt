@@ -10,14 +10,19 @@ use Rattle.glass_base.specs.declared.role.Role.{Role}
 use Rattle.glass_base.specs.declared.role.Role.TheVariants as role
 use Rattle.glass_run.specs.declared.grammar.Count.{Count}
 use Rattle.glass_run.specs.declared.grammar.Count.TheVariants as count
+use Rattle.glass_run.specs.declared.grammar.Lead.{Lead}
+use Rattle.glass_run.specs.declared.grammar.Lead.TheVariants as lead
 use Rattle.glass_run.specs.declared.grammar.Verb.{Verb}
 use Rattle.glass_run.specs.declared.grammar.Verb.TheVariants as verb
 
--- what the words of a command are: its own word, a name for each file that it reads and for each that it stores, in this order,
--- and then options, which name further files that it reads, or set numbers
+-- what the words of a command are: its own word, then a number for each of these, a name for each file that it reads and for each that
+-- it stores, in this order, and then options, which name further files that it reads, or set numbers; a dash may stand in the place of
+-- a file that it can do without
 pub record Pattern : Type 0 where
   pub word : List ℕ
+  pub leads : List Lead
   pub reads : List Role
+  pub without : List Role
   pub stores : List Role
   pub options : List Role
   pub counts : List Count
@@ -25,29 +30,62 @@ pub record Pattern : Type 0 where
 abbrev pub pattern_of : Verb → Pattern
 pattern_of verb.Draft = record {
   word = codes "draft";
+  leads = [];
   reads = role.Batch ∷ [];
+  without = [];
   stores = role.Plan ∷ [];
   options = role.Params ∷ role.Plates ∷ [];
   counts = [];
 }
 pattern_of verb.Plan = record {
   word = codes "plan";
+  leads = [];
   reads = role.Batch ∷ role.Defects ∷ [];
+  without = [];
   stores = role.Plan ∷ role.Cert ∷ [];
   options = role.Params ∷ role.Plates ∷ [];
   counts = count.Workers ∷ count.Budget ∷ [];
 }
+pattern_of verb.Gen = record {
+  word = codes "gen";
+  leads = lead.Start ∷ lead.Items ∷ lead.Defects ∷ [];
+  reads = [];
+  without = [];
+  stores = role.Plan ∷ role.Cert ∷ [];
+  options = [];
+  counts = count.Workers ∷ count.Budget ∷ [];
+}
 pattern_of verb.Judge = record {
   word = codes "judge";
+  leads = [];
   reads = role.Batch ∷ role.Defects ∷ role.Plan ∷ [];
+  without = [];
   stores = [];
+  options = role.Params ∷ role.Plates ∷ [];
+  counts = [];
+}
+pattern_of verb.Verify = record {
+  word = codes "verify";
+  leads = [];
+  reads = role.Batch ∷ role.Defects ∷ role.Plan ∷ role.Cert ∷ [];
+  without = role.Plan ∷ [];
+  stores = [];
+  options = role.Params ∷ role.Plates ∷ [];
+  counts = [];
+}
+pattern_of verb.Convert = record {
+  word = codes "convert";
+  leads = [];
+  reads = role.Batch ∷ role.Defects ∷ role.Plan ∷ role.Cert ∷ [];
+  without = role.Plan ∷ [];
+  stores = role.Cert ∷ [];
   options = role.Params ∷ role.Plates ∷ [];
   counts = [];
 }
 
 -- all commands
 abbrev pub verbs : List Verb
-verbs = verb.Draft ∷ verb.Plan ∷ verb.Judge ∷ []
+verbs = verb.Draft ∷ verb.Plan ∷ verb.Gen ∷ verb.Judge ∷ verb.Verify ∷ verb.Convert ∷ []
 
 -- the order in which the files of a command line are fetched and read
 abbrev pub fetch_order : List Role
@@ -62,11 +100,20 @@ role_word role.Plan = codes "plan"
 role_word role.Cert = codes "cert"
 role_word role.Plates = codes "plates"
 
+-- a word is a dash alone
+abbrev pub is_dash : List ℕ → Bool
+is_dash (a ∷ []) = a == 45
+is_dash _ = false
+
 -- a file name is not empty, is not a dash alone, and does not begin with two dashes
 abbrev pub is_name : List ℕ → Bool
 is_name [] = false
 is_name (a ∷ []) = not (a == 45)
 is_name (a ∷ b ∷ rest) = not ((a == 45) && (b == 45))
+
+-- the file that a word in the place of a name stands for: a dash stands for none
+abbrev pub name_said : List ℕ → Option (List ℕ)
+name_said word = if is_dash word then None else Some word
 
 -- what stands before the file name in an option
 abbrev pub option_front : Role → List ℕ
@@ -105,17 +152,41 @@ has_leading_zero _ = false
 abbrev pub is_number : List ℕ → Bool
 is_number text = nat_lt 0 (length text) && list_all is_ascii_digit text && not (has_leading_zero text)
 
--- the number that a text says, from 1 to this one
-abbrev pub number_upto : ℕ → List ℕ → Option ℕ
-number_upto most text =
+-- the number that a text says, from the least to the greatest that it may be
+abbrev pub number_within : ℕ → ℕ → List ℕ → Option ℕ
+number_within least most text =
     let n = digits_value 10 text in
-    if is_number text && (nat_le 1 n && nat_le n most) then Some n else None
+    if is_number text && (nat_le least n && nat_le n most) then Some n else None
+
+-- the numbers before the names by their order
+abbrev pub lead_place : Lead → ℕ
+lead_place lead.Start = 0
+lead_place lead.Items = 1
+lead_place lead.Defects = 2
+
+abbrev pub is_lead : Lead → Lead → Bool
+is_lead of other = lead_place of == lead_place other
+
+-- the least and the greatest number that can stand before the names
+abbrev pub lead_least : Lead → ℕ
+lead_least lead.Start = 0
+lead_least lead.Items = 1
+lead_least lead.Defects = 0
+
+abbrev pub lead_most : Lead → ℕ
+lead_most lead.Start = 4294967295
+lead_most lead.Items = 800
+lead_most lead.Defects = 20000
+
+-- the number that a word before the names is
+abbrev pub lead_value : Lead → List ℕ → Option ℕ
+lead_value of word = number_within (lead_least of) (lead_most of) word
 
 -- the number that a word sets
 abbrev pub count_value : Count → List ℕ → Option ℕ
 count_value of word =
     let front = count_front of in
-    if bytes_eq (take (length front) word) front then number_upto (count_most of) (drop (length front) word) else None
+    if bytes_eq (take (length front) word) front then number_within 1 (count_most of) (drop (length front) word) else None
 
 abbrev pub is_count : Count → List ℕ → Bool
 is_count of word = is_some (count_value of word)
@@ -145,11 +216,32 @@ abbrev pub are_options : Pattern → List (List ℕ) → Bool
 are_options pattern words =
     list_all (is_command_option pattern) words && list_all (is_once words) pattern.options && list_all (is_count_once words) pattern.counts
 
--- a command line: its command, the names of files behind it, and its options
+-- a command line: its command, the numbers behind it, the names of files, and its options
 pub record Line : Type 0 where
   pub verb : Verb
+  pub leads : List (List ℕ)
   pub names : List (List ℕ)
   pub options : List (List ℕ)
+
+-- the number of this kind that a line says before its names
+abbrev pub lead_at : Line → Lead → Option ℕ
+lead_at line of =
+    option_and_then (lead_value of) (option_and_then (λ place. slice_get line.leads place) (position (λ other. is_lead of other) (pattern_of line.verb).leads))
+
+-- whether each number that stands before the names of a command is said, and no other word
+abbrev pub are_leads_said : Line → Bool
+are_leads_said line =
+    let pattern = pattern_of line.verb in
+    (length line.leads == length pattern.leads) && list_all (λ of. is_some (lead_at line of)) pattern.leads
+
+-- the name of the file of this role, where it is one of the names of a line
+abbrev pub name_at : Line → Role → Option (List ℕ)
+name_at line of =
+    option_and_then name_said (option_and_then (λ place. slice_get line.names place) (position (λ other. is_role of other) (pattern_of line.verb).reads))
+
+-- whether a line names the file of this role that its command reads, or its command can do without
+abbrev pub is_read_named : Line → Role → Bool
+is_read_named line of = is_some (name_at line of) || list_any (λ other. is_role of other) (pattern_of line.verb).without
 
 -- the names under which a line stores
 abbrev pub stored_names : Line → List (List ℕ)
@@ -168,18 +260,24 @@ abbrev pub is_named_once : Line → List ℕ → Bool
 is_named_once line name =
     (count_by (λ n. bytes_eq n name) line.names + count_by (option_names (pattern_of line.verb).options name) line.options) == 1
 
--- whether the names and options are those of the line's command; a name that is stored differs from all other names
-abbrev pub is_line : Line → Bool
-is_line line =
+-- whether the names are those of the line's command
+abbrev pub are_files_named : Line → Bool
+are_files_named line =
     let pattern = pattern_of line.verb in
-    (length line.names == length pattern.reads + length pattern.stores) && list_all is_name line.names && are_options pattern line.options
-    && list_all (is_named_once line) (stored_names line)
+    (length line.names == length pattern.reads + length pattern.stores) && list_all (λ word. is_name word || is_dash word) line.names
+    && list_all (is_read_named line) pattern.reads && list_all is_name (stored_names line)
 
--- the words behind a command's own as its names and its options
+-- whether the numbers, names and options are those of the line's command; a name that is stored differs from all other names
+abbrev pub is_line : Line → Bool
+is_line line = are_leads_said line && are_files_named line && are_options (pattern_of line.verb) line.options && list_all (is_named_once line) (stored_names line)
+
+-- the words behind a command's own as its numbers, its names and its options
 abbrev pub line_with : Verb → List (List ℕ) → Line
 line_with of words =
+    let numbers = length (pattern_of of).leads in
     let many = length (pattern_of of).reads + length (pattern_of of).stores in
-    record { verb = of; names = take many words; options = drop many words }
+    let behind = drop numbers words in
+    record { verb = of; leads = take numbers words; names = take many behind; options = drop many behind }
 
 abbrev pub line_if : Line → Option Line
 line_if line = if is_line line then Some line else None
@@ -193,10 +291,6 @@ abbrev pub line_of : List (List ℕ) → Option Line
 line_of [] = None
 line_of (word ∷ words) = option_and_then (λ of. line_if (line_with of words)) (verb_of word)
 
--- the name of the file of this role, where it is one of the names of a line
-abbrev pub name_at : Line → Role → Option (List ℕ)
-name_at line of = option_and_then (λ place. slice_get line.names place) (position (λ other. is_role of other) (pattern_of line.verb).reads)
-
 -- the name of the file of this role, where an option names it
 abbrev pub name_by_option : Line → Role → Option (List ℕ)
 name_by_option line of = option_and_then (option_name of) (find (is_option of) line.options)
@@ -208,6 +302,10 @@ name_of line of = option_or (name_at line of) (name_by_option line of)
 -- the number that a line sets, or the usual one
 abbrev pub count_in : Line → Count → ℕ
 count_in line of = unwrap_or (option_and_then (count_value of) (find (is_count of) line.options)) (count_usual of)
+
+-- the number of this kind that stands before a line's names
+abbrev pub lead_in : Line → Lead → ℕ
+lead_in line of = unwrap_or (lead_at line of) (lead_least of)
 
 -- the file of this role with its name, if the line names it
 abbrev pub file_of : Line → Role → Option (Role × List ℕ)

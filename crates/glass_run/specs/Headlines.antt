@@ -1,5 +1,5 @@
 -- What a user may conclude from how a run ended.
-use Rattle.std.specs.Prelude.{◌≡◌, ◌≢◌, ◌↔◌, ◌+◌, ◌-◌, ◌^◌, ◌<◌, ◌≤◌, ℕ, List, Option, Some, Ok, option_map}
+use Rattle.std.specs.Prelude.{◌≡◌, ◌≢◌, ◌↔◌, ◌+◌, ◌-◌, ◌^◌, ◌<◌, ◌≤◌, ℕ, List, Option, Some, Ok, option_map, codes}
 use Rattle.glass_base.specs.Problem.{Problem}
 use Rattle.glass_base.specs.declared.role.Role.TheVariants as role
 use Rattle.glass_io.specs.Told.{Contents, SameContents, Stored}
@@ -11,19 +11,24 @@ use Rattle.plan_box.specs.Frames.{frame_of}
 use Rattle.plan_box.specs.Halves.{IsDepth}
 use Rattle.cert_log.specs.declared.certificate.Certificate.{Certificate}
 use Rattle.cert_log.specs.Good.{IsGood, Reaches}
+use Rattle.cert_log.specs.Texts.{cert_text}
+use Rattle.cert_check.specs.declared.verdict.Verdict.{Verdict}
+use Rattle.cert_check.specs.declared.verdict.Why.{Why}
+use Rattle.cert_check.specs.Faults.{Answers as CheckAnswers, IsFirstFault}
 use Rattle.plan_draft.specs.Drafts.{HasNoDraft, IsDraftPlan}
 use Rattle.plan_csv.specs.PlanTexts.{plan_said}
 use Rattle.plan_csv.specs.Solutions.{solution_text}
-use Rattle.glass_run.specs.Commands.{flaws_of, out_of, second_out_of}
+use Rattle.glass_run.specs.Checks.{IsConverted, IsLawfulToo, SayBoth, bound_line, loss_in, refused_line}
+use Rattle.glass_run.specs.Commands.{HasInstance, out_of, second_out_of}
 use Rattle.glass_run.specs.Drafts.{no_draft_line, summary}
 use Rattle.glass_run.specs.Grammar.{Line, count_in, files_of, line_of}
-use Rattle.glass_run.specs.Instances.{IsInstanceOf}
 use Rattle.glass_run.specs.Judgements.{IsFirstBroken, lawful_line, unlawful_line}
 use Rattle.glass_run.specs.Plans.{HasLoss, handled, planned, root_ranges, search_summary}
 use Rattle.glass_run.specs.Runs.{Prints, RunsTo, Stands, World}
-use Rattle.glass_run.specs.Texts.{Texts, text_or_empty, texts_of}
+use Rattle.glass_run.specs.Texts.{Texts, text_for, text_or_empty, texts_of}
 use Rattle.glass_run.specs.declared.grammar.Count.TheVariants as count
 use Rattle.glass_run.specs.declared.grammar.Verb.{Verb}
+use Rattle.glass_run.specs.declared.grammar.Verb.TheVariants as verb
 use Rattle.glass_run.specs.declared.status.Status.{Status}
 use Rattle.glass_run.specs.declared.status.Status.TheVariants as status
 
@@ -34,10 +39,10 @@ pub record Ended (words : List (List ℕ)) (verb : Verb) (line : Line) (held : C
   pub told : old.shelf.contents ≡ Some held
   pub runs : RunsTo (line_of words) old new result
 
--- the instance of a line, and the texts that say it
+-- the instance of a line, and the texts of its files
 pub record SaidBy (line : Line) (held : Contents) (texts : Texts) (b : Problem) : Type 0 where
   pub texts_are : texts_of held (files_of line) ≡ Ok texts
-  pub instance_is : IsInstanceOf texts (flaws_of line.verb texts) b
+  pub instance_is : HasInstance line.verb line texts b
 
 -- OUT holds the text of a lawful plan of the instance, and its loss and its number of plates are printed
 pub record StoresLawfulPlan (line : Line) (held : Contents) (old new : World) : Type 0 where
@@ -83,6 +88,25 @@ pub record FindsUnlawful (line : Line) (held : Contents) (old new : World) : Typ
   pub unchanged : SameContents old.shelf.contents new.shelf.contents
   pub prints : Prints (unlawful_line broken) old.paper new.paper
 
+-- the command searches for a plan
+abbrev pub IsSearch : Verb → Type 0
+IsSearch verb.Plan = Unit {0}
+IsSearch verb.Gen = Unit {0}
+IsSearch _ = ⊥
+
+-- the command judges a plan
+abbrev pub IsJudging : Verb → Type 0
+IsJudging verb.Judge = Unit {0}
+IsJudging verb.Verify = Unit {0}
+IsJudging verb.Convert = Unit {0}
+IsJudging _ = ⊥
+
+-- the command checks a certificate
+abbrev pub IsCheck : Verb → Type 0
+IsCheck verb.Verify = Unit {0}
+IsCheck verb.Convert = Unit {0}
+IsCheck _ = ⊥
+
 -- a search ended in one of these ways
 abbrev pub IsSearchEnd : Status → Type 0
 IsSearchEnd status.Optimal = Unit {0}
@@ -102,6 +126,8 @@ pub record StoresSearch (line : Line) (held : Contents) (old new : World) (resul
   pub stored : Stands (planned b (out_of line) (second_out_of line) certificate plan).stores old.shelf.contents new.shelf.contents
   pub prints : Prints (search_summary certificate (option_map neighbour_count plan)) old.paper new.paper
   pub good : IsGood b (root_ranges b) certificate.loss certificate
+  -- a check of it accepts it
+  pub accepted : (verdict : Verdict) → CheckAnswers b (root_ranges b) certificate.loss certificate verdict → verdict ≡ Verdict.Accept certificate.bound certificate.left
   -- a printed plan is lawful and has the printed loss
   pub plan_is : HasLoss b certificate.loss plan
   -- every lawful plan loses at least the printed bound; where none is printed, there is no lawful plan
@@ -116,3 +142,51 @@ pub record StoresSearch (line : Line) (held : Contents) (old new : World) (resul
   pub enough : (depth : ℕ) → IsDepth (frame_of b) depth → 2 ^ (depth + 1) - 1 ≤ count_in line count.Budget → result ≢ status.Stopped
   -- never worse than the draft
   pub no_worse : (draft : Forest) → IsDraftPlan b draft → Reaches certificate.loss (loss_of b draft)
+
+-- the plan that PLAN says is lawful, if there is one, and CERT says a certificate that is right for the box of all plans and for this plan's
+-- loss; so every lawful plan loses at least its bound, and where it has none, there is no lawful plan
+pub record FindsRight (line : Line) (held : Contents) (texts : Texts) (b : Problem) (certificate : Certificate) : Type 0 where
+  pub plan : Option Forest
+  pub reads : SaidBy line held texts b
+  pub said : SayBoth b (text_for texts role.Plan) (text_or_empty texts role.Cert) plan certificate
+  pub lawful : IsLawfulToo b plan
+  pub good : IsGood b (root_ranges b) (loss_in b plan) certificate
+  pub bounds : (other : Forest) → IsLawful b other → Reaches certificate.bound (loss_of b other)
+
+-- it is so, and the certificate's bound and its number of open boxes are printed
+pub record Accepts (line : Line) (held : Contents) (old new : World) : Type 0 where
+  pub texts : Texts
+  pub b : Problem
+  pub certificate : Certificate
+  pub right : FindsRight line held texts b certificate
+  pub unchanged : SameContents old.shelf.contents new.shelf.contents
+  pub prints : Prints (bound_line (codes "accepted") certificate) old.paper new.paper
+
+-- it is so, and NEW holds the text of the certificate of version 2 that says the same and names the causes, and is right as well; its bound
+-- and its number of open boxes are printed
+pub record StoresConverted (line : Line) (held : Contents) (old new : World) : Type 0 where
+  pub texts : Texts
+  pub b : Problem
+  pub certificate : Certificate
+  pub converted : Certificate
+  pub right : FindsRight line held texts b certificate
+  pub names : IsConverted b certificate converted
+  pub stored : Stored (out_of line) (cert_text converted) old.shelf.contents new.shelf.contents
+  pub prints : Prints (bound_line (codes "converted") converted) old.paper new.paper
+
+-- the plan that PLAN says is lawful, if there is one, and the certificate that CERT says is not right for the box of all plans and for this
+-- plan's loss; the first check that it fails is printed
+pub record FindsWrong (line : Line) (held : Contents) (old new : World) : Type 0 where
+  pub texts : Texts
+  pub b : Problem
+  pub plan : Option Forest
+  pub certificate : Certificate
+  pub at : ℕ
+  pub why : Why
+  pub reads : SaidBy line held texts b
+  pub said : SayBoth b (text_for texts role.Plan) (text_or_empty texts role.Cert) plan certificate
+  pub lawful : IsLawfulToo b plan
+  pub wrong : ¬ IsGood b (root_ranges b) (loss_in b plan) certificate
+  pub first : IsFirstFault b (root_ranges b) (loss_in b plan) certificate at why
+  pub unchanged : SameContents old.shelf.contents new.shelf.contents
+  pub prints : Prints (refused_line at why) old.paper new.paper

@@ -6,6 +6,7 @@ pub mod Instances
 pub mod Drafts
 pub mod Plans
 pub mod Judgements
+pub mod Checks
 pub mod Commands
 pub mod Runs
 pub mod Headlines

@@ -1,3 +1,5 @@
+pub mod Breaches
+pub mod Checked
 pub mod Forms
 pub mod Searches
 pub mod Deliveries

@@ -1,7 +1,7 @@
 //! The commands, each a row of one table.
 
 ghost use Rattle.std.specs.Prelude.{◌≡◌};
-ghost use Rattle.glass_run.specs.Grammar.{fetch_order, option_front as option_front_of, role_word as role_word_of, count_front as count_front_of, count_most as count_most_of, count_usual as count_usual_of, verbs};
+ghost use Rattle.glass_run.specs.Grammar.{fetch_order, option_front as option_front_of, role_word as role_word_of, count_front as count_front_of, count_most as count_most_of, count_usual as count_usual_of, lead_least as lead_least_of, lead_most as lead_most_of, verbs};
 
 use glass_base::Role;
 
@@ -12,8 +12,48 @@ pub enum Verb {
     Draft,
     /// Searches for a plan, and stores it with its certificate.
     Plan,
+    /// Searches for a plan of an instance that is drawn.
+    Gen,
     /// Judges a solution file.
     Judge,
+    /// Judges a solution file and checks a certificate.
+    Verify,
+    /// Does what `Verify` does, and stores the certificate with its causes named.
+    Convert,
+}
+
+/// A number that stands before the names.
+#[derive(Clone, Copy, Debug, PartialEq, Eq)]
+pub enum Lead {
+    /// The start from which an instance is drawn.
+    Start,
+    /// How many items are drawn.
+    Items,
+    /// How many defects are drawn.
+    Defects,
+}
+
+impl Lead {
+    ghost use Rattle.std.specs.Prelude.{◌≡◌};
+    ghost use Rattle.glass_run.specs.Grammar.{is_lead, lead_place};
+
+    /// Its place in the order in which the numbers stand, from 0.
+    fn place(self) -> usize
+        ensures { result ≡ lead_place self }
+    {
+        match self {
+            Lead::Start => 0,
+            Lead::Items => 1,
+            Lead::Defects => 2,
+        }
+    }
+
+    /// Whether this is the same number as another one.
+    pub(crate) fn is(self, other: Lead) -> bool
+        ensures { result ≡ is_lead self other }
+    {
+        self.place() == other.place()
+    }
 }
 
 /// A count that an option sets.
@@ -25,19 +65,29 @@ pub enum Count {
     Budget,
 }
 
-/// What the words of a command are: its own word, a name for each file that it reads and for each that it stores, in this order,
-/// and then its options, which name further files that it reads, or set counts.
+/// What the words of a command are: its own word, then a number for each of `leads`, a name for each file that it reads and for each that
+/// it stores, in this order, and then its options, which name further files that it reads, or set counts. A dash may stand in the place
+/// of a file that it can do without.
 #[derive(Clone, Copy, Debug)]
 pub struct Form {
     pub word: &'static str,
+    pub leads: &'static [Lead],
     pub reads: &'static [Role],
+    pub without: &'static [Role],
     pub stores: &'static [Role],
     pub options: &'static [Role],
     pub counts: &'static [Count],
 }
 
 /// All commands.
-pub(crate) const VERBS: [Verb; 3] = [Verb::Draft, Verb::Plan, Verb::Judge];
+pub(crate) const VERBS: [Verb; 6] = [
+    Verb::Draft,
+    Verb::Plan,
+    Verb::Gen,
+    Verb::Judge,
+    Verb::Verify,
+    Verb::Convert,
+];
 
 /// The order in which the files of a command line are fetched and read.
 pub(crate) const FETCH_ORDER: [Role; 6] = [
@@ -60,22 +110,55 @@ impl Verb {
         match self {
             Verb::Draft => Form {
                 word: "draft",
+                leads: &[],
                 reads: &[Role::Batch],
+                without: &[],
                 stores: &[Role::Plan],
                 options: &[Role::Params, Role::Plates],
                 counts: &[],
             },
             Verb::Plan => Form {
                 word: "plan",
+                leads: &[],
                 reads: &[Role::Batch, Role::Defects],
+                without: &[],
                 stores: &[Role::Plan, Role::Cert],
                 options: &[Role::Params, Role::Plates],
                 counts: &[Count::Workers, Count::Budget],
             },
+            Verb::Gen => Form {
+                word: "gen",
+                leads: &[Lead::Start, Lead::Items, Lead::Defects],
+                reads: &[],
+                without: &[],
+                stores: &[Role::Plan, Role::Cert],
+                options: &[],
+                counts: &[Count::Workers, Count::Budget],
+            },
             Verb::Judge => Form {
                 word: "judge",
+                leads: &[],
                 reads: &[Role::Batch, Role::Defects, Role::Plan],
+                without: &[],
                 stores: &[],
+                options: &[Role::Params, Role::Plates],
+                counts: &[],
+            },
+            Verb::Verify => Form {
+                word: "verify",
+                leads: &[],
+                reads: &[Role::Batch, Role::Defects, Role::Plan, Role::Cert],
+                without: &[Role::Plan],
+                stores: &[],
+                options: &[Role::Params, Role::Plates],
+                counts: &[],
+            },
+            Verb::Convert => Form {
+                word: "convert",
+                leads: &[],
+                reads: &[Role::Batch, Role::Defects, Role::Plan, Role::Cert],
+                without: &[Role::Plan],
+                stores: &[Role::Cert],
                 options: &[Role::Params, Role::Plates],
                 counts: &[],
             },
@@ -138,5 +221,27 @@ pub(crate) fn count_usual(count: Count) -> u32
     match count {
         Count::Workers => 4,
         Count::Budget => 100_000,
+    }
+}
+
+/// The least number that can stand before the names.
+pub(crate) fn lead_least(lead: Lead) -> u32
+    ensures { result ≡ lead_least_of lead }
+{
+    match lead {
+        Lead::Start => 0,
+        Lead::Items => 1,
+        Lead::Defects => 0,
+    }
+}
+
+/// The greatest number that can stand before the names.
+pub(crate) fn lead_most(lead: Lead) -> u32
+    ensures { result ≡ lead_most_of lead }
+{
+    match lead {
+        Lead::Start => u32::MAX,
+        Lead::Items => 800,
+        Lead::Defects => 20_000,
     }
 }

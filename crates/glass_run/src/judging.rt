@@ -5,6 +5,7 @@ ghost use Rattle.cut_model.specs.Families.{families_of};
 ghost use Rattle.cut_model.specs.Fits.{Fits};
 ghost use Rattle.cut_model.specs.Rules.{KeepsCutRules};
 ghost use Rattle.cut_model.specs.Tree.{tree};
+ghost use Rattle.glass_run.specs.inner.Breaches.{IsBreachIfAny};
 ghost use Rattle.glass_run.specs.inner.Forms.{notice_in};
 ghost use Rattle.glass_run.specs.Judgements.{Judges, JudgesText, PlanRefused, lawful as lawful_of, unlawful as unlawful_of};
 
@@ -22,7 +23,7 @@ use stack_order::judge_order;
 use std::alloc::Global;
 
 /// The notice of a plan that breaks a rule.
-fn unlawful(alloc: Global, broken: &Broken) -> Result<Notice, Memory>
+pub(crate) fn unlawful(alloc: Global, broken: &Broken) -> Result<Notice, Memory>
     ensures { IfOk result (λ n. notice_in n ≡ unlawful_of broken.now) }
 {
     Ok(Notice {
@@ -42,7 +43,7 @@ fn lawful(alloc: Global, loss: u64) -> Result<Notice, Memory>
 }
 
 /// The notice of a text that is no plan.
-fn plan_refused(alloc: Global, reason: BadPlan) -> Result<Notice, Memory>
+pub(crate) fn plan_refused(alloc: Global, reason: BadPlan) -> Result<Notice, Memory>
     ensures { IfOk result (λ n. PlanRefused reason (notice_in n)) }
 {
     match reason {
@@ -56,15 +57,32 @@ fn plan_refused(alloc: Global, reason: BadPlan) -> Result<Notice, Memory>
     }
 }
 
-/// The notice of a plan that keeps the rules on cuts: its loss, or its first breach of a rule on the order of items.
-fn judge_items(alloc: Global, instance: &Instance, plan: &Plan) -> Result<Notice, Memory>
+/// The first breach of a rule on the order of items, of a plan that keeps the rules on cuts, if there is one.
+fn order_breach(alloc: Global, instance: &Instance, plan: &Plan) -> Result<Option<Broken>, Memory>
     requires fits { Fits (tree plan.now) }
     requires cuts { All (KeepsCutRules instance.now) (families_of instance.now (tree plan.now)) }
-    ensures { IfOk result (λ n. Judges instance.now (tree plan.now) (notice_in n)) }
+    ensures { IfOk result (IsBreachIfAny instance.now (tree plan.now)) }
 {
     match judge_order(alloc, instance, plan)? {
-        Ok(()) => lawful(alloc, loss(instance, plan)),
-        Err(broken) => unlawful(alloc, &broken),
+        Ok(()) => Ok(None),
+        Err(broken) => Ok(Some(broken)),
+    }
+}
+
+/// The first breach of a plan, if there is one. The rules on cuts come before those on the order of items.
+pub(crate) fn first_breach(
+    alloc: Global,
+    instance: &Instance,
+    map: &DefectMap,
+    plan: &Plan,
+) -> Result<Option<Broken>, Memory>
+    requires map { map.now ≡ instance.now.defects }
+    requires fits { Fits (tree plan.now) }
+    ensures { IfOk result (IsBreachIfAny instance.now (tree plan.now)) }
+{
+    match judge_cuts(instance, map, plan) {
+        Ok(()) => order_breach(alloc, instance, plan),
+        Err(broken) => Ok(Some(broken)),
     }
 }
 
@@ -74,9 +92,9 @@ fn judge_plan(alloc: Global, instance: &Instance, plan: &Plan) -> Result<Notice,
     ensures { IfOk result (λ n. Judges instance.now (tree plan.now) (notice_in n)) }
 {
     let map = DefectMap::new(alloc, instance)?;
-    match judge_cuts(instance, &map, plan) {
-        Ok(()) => judge_items(alloc, instance, plan),
-        Err(broken) => unlawful(alloc, &broken),
+    match first_breach(alloc, instance, &map, plan)? {
+        None => lawful(alloc, loss(instance, plan)),
+        Some(broken) => unlawful(alloc, &broken),
     }
 }
 

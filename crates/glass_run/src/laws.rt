@@ -5,8 +5,9 @@
 ghost use Rattle.std.specs.Prelude.{ℕ, List};
 ghost use Rattle.glass_io.specs.Told.{Contents};
 ghost use Rattle.glass_run.specs.Grammar.{Line};
-ghost use Rattle.glass_run.specs.Headlines.{Ended, FindsLawful, FindsNoDraft, FindsUnlawful, IsSearchEnd, StoresLawfulPlan, StoresSearch};
+ghost use Rattle.glass_run.specs.Headlines.{Accepts, Ended, FindsLawful, FindsNoDraft, FindsUnlawful, FindsWrong, IsCheck, IsJudging, IsSearch, IsSearchEnd, StoresConverted, StoresLawfulPlan, StoresSearch};
 ghost use Rattle.glass_run.specs.Runs.{World};
+ghost use Rattle.glass_run.specs.declared.grammar.Verb.{Verb};
 ghost use Rattle.glass_run.specs.declared.grammar.Verb.TheVariants as verb;
 ghost use Rattle.glass_run.specs.declared.status.Status.{Status};
 ghost use Rattle.glass_run.specs.declared.status.Status.TheVariants as status;
@@ -22,12 +23,12 @@ pub fn missing_drafts_are_true()
     ensures { (words : List (List ℕ)) → (line : Line) → (held : Contents) → (old new : World) → Ended words verb.Draft line held old new status.NoDraft → FindsNoDraft line held old new }
 {}
 
-/// Where `plan` ends with `optimal`, `stopped` or `infeasible`: a printed plan is lawful and has the printed loss, and OUT holds its text;
-/// CERT holds the text of a certificate that is right for the box of all plans; every lawful plan loses at least the printed bound;
+/// Where `plan` or `gen` ends with `optimal`, `stopped` or `infeasible`: a printed plan is lawful and has the printed loss, and OUT holds its text;
+/// CERT holds the text of a certificate that is right for the box of all plans, so that a check accepts it; every lawful plan loses at least the printed bound;
 /// `optimal` or `infeasible` is printed exactly where no box is left open; `stopped` only where exactly the budgeted number of boxes was
 /// closed or split; the plan is never worse than the draft.
 pub fn searches_are_right()
-    ensures { (words : List (List ℕ)) → (line : Line) → (held : Contents) → (old new : World) → (result : Status) → IsSearchEnd result → Ended words verb.Plan line held old new result → StoresSearch line held old new result }
+    ensures { (words : List (List ℕ)) → (line : Line) → (held : Contents) → (old new : World) → (result : Status) → (search : Verb) → IsSearch search → IsSearchEnd result → Ended words search line held old new result → StoresSearch line held old new result }
 {}
 
 /// Where `judge` is done, the plan that the text says is lawful, and what is printed is its loss.
@@ -35,7 +36,26 @@ pub fn done_judgements_are_lawful()
     ensures { (words : List (List ℕ)) → (line : Line) → (held : Contents) → (old new : World) → Ended words verb.Judge line held old new status.Done → FindsLawful line held old new }
 {}
 
-/// Where `judge` says unlawful, the plan that the text says is not lawful, and what is printed is its first breach.
+/// Where `judge`, `verify` or `convert` says unlawful, the plan that the text says is not lawful, and what is printed is its first breach.
 pub fn unlawful_judgements_are_true()
-    ensures { (words : List (List ℕ)) → (line : Line) → (held : Contents) → (old new : World) → Ended words verb.Judge line held old new status.Unlawful → FindsUnlawful line held old new }
+    ensures { (words : List (List ℕ)) → (line : Line) → (held : Contents) → (old new : World) → (judging : Verb) → IsJudging judging → Ended words judging line held old new status.Unlawful → FindsUnlawful line held old new }
+{}
+
+/// Where `verify` is done, the plan that PLAN says is lawful, or PLAN is a dash and stands for no plan; every lawful plan loses at least the
+/// printed bound, and where that is `none`, there is no lawful plan; CERT says a certificate that shows it, which is right for the box of all
+/// plans and for the loss of the plan, and leaves as many boxes open as is printed.
+pub fn done_checks_are_right()
+    ensures { (words : List (List ℕ)) → (line : Line) → (held : Contents) → (old new : World) → Ended words verb.Verify line held old new status.Done → Accepts line held old new }
+{}
+
+/// Where `convert` is done, all that holds of `verify` holds, and NEW holds the text of the certificate of version 2 that says the same and
+/// names the cause of each closed box.
+pub fn done_conversions_are_right()
+    ensures { (words : List (List ℕ)) → (line : Line) → (held : Contents) → (old new : World) → Ended words verb.Convert line held old new status.Done → StoresConverted line held old new }
+{}
+
+/// Where `verify` or `convert` says refused, the plan that PLAN says is lawful, or there is none, but the certificate that CERT says is not
+/// right for it, and what is printed is the first check that it fails.
+pub fn refused_checks_are_true()
+    ensures { (words : List (List ℕ)) → (line : Line) → (held : Contents) → (old new : World) → (check : Verb) → IsCheck check → Ended words check line held old new status.Refused → FindsWrong line held old new }
 {}

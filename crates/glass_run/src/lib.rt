@@ -1,6 +1,7 @@
 //! The commands of Glass, over files and a sink that may be real or in memory.
 #![tactic(auto)]
 
+mod checking;
 mod drafting;
 mod fetching;
 pub mod grammar;

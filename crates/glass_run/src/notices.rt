@@ -2,7 +2,7 @@
 
 ghost use Rattle.std.specs.Prelude.{◌≡◌, ℕ, List, IfOk};
 ghost use Rattle.glass_run.specs.Answers.{ListsRefused, TextRefused, absent as absent_of, bad_input as bad_input_of, params_refused as params_refused_of, too_long as too_long_of};
-ghost use Rattle.glass_run.specs.inner.Forms.{answer_in, notice_in};
+ghost use Rattle.glass_run.specs.inner.Forms.{Tells, answer_in, notice_in};
 ghost use Rattle.glass_run.specs.declared.notices.Stop.TheVariants.{Memory as OutOfReach};
 
 use crate::lines::{absent_line, bad_input_line, too_long_line};
@@ -36,6 +36,16 @@ pub(crate) fn reply_with(alloc: Global, notice: Notice) -> Reply
         status: notice.status,
         outputs: Run::new(alloc),
         lines: notice.lines,
+    }
+}
+
+/// The reply that tells why the texts of a command were not read to the end.
+pub(crate) fn reply_at(alloc: Global, stop: Stop) -> Result<Reply, Memory>
+    ensures { IfOk result (λ r. (names : List (List ℕ)) → Tells stop (answer_in names r)) }
+{
+    match stop {
+        Stop::Told(notice) => Ok(reply_with(alloc, notice)),
+        Stop::Memory => Err(Memory),
     }
 }
 

@@ -1,24 +1,25 @@
 //! The top call.
 
-ghost use Rattle.std.specs.Prelude.{◌≡◌, ◌≢◌, ◌⊎◌, [], map, option_map, slice_index_or, IfOk, IfErr, IfSome, OnOk, IsErrOf};
+ghost use Rattle.std.specs.Prelude.{◌≡◌, ◌≢◌, ◌⊎◌, [], map, option_map, slice_index_or, IfOk, IfErr, IfSome, MatchResult, OnOk, IsErrOf};
 ghost use Rattle.std.specs.String.{string_bytes};
 ghost use Rattle.glass_io.specs.Told.{CountsStore, SameContents};
 ghost use Rattle.glass_io.specs.declared.files.Trouble.TheVariants.{Failed, Memory as OutOfMemory};
-ghost use Rattle.glass_run.specs.Commands.{Answers, AnswersInstance, AnswersTexts, flaws_of};
+ghost use Rattle.glass_run.specs.Commands.{Answers, AnswersInstance, AnswersTexts, HasInstance, HasNoInstance, flaws_of};
 ghost use Rattle.glass_run.specs.inner.Deliveries.{Delivers, Ends};
-ghost use Rattle.glass_run.specs.inner.Forms.{CountsFetches, OnFault, answer_in, line_in, store_in, texts_in};
-ghost use Rattle.glass_run.specs.Grammar.{Line, files_of, line_of, stored_names};
-ghost use Rattle.glass_run.specs.Instances.{IsInstanceOf};
+ghost use Rattle.glass_run.specs.inner.Forms.{CountsFetches, OnFault, OnTold, answer_in, line_in, store_in, texts_in};
+ghost use Rattle.glass_run.specs.Grammar.{Line, files_of, lead_in, line_of, stored_names};
+ghost use Rattle.glass_gen.specs.Drawn.{IsDrawn};
 ghost use Rattle.glass_run.specs.Runs.{CutShort, RunsTo, Stands, StandsInPart, world};
 ghost use Rattle.glass_run.specs.Texts.{Reaches};
 
+use crate::checking::{convert_texts, verify_texts};
 use crate::drafting::draft_instance;
 use crate::fetching::{NoReply, fetch_files};
-use crate::grammar::{Count, Verb};
+use crate::grammar::{Count, Lead, Verb};
 use crate::instances::instance_of;
 use crate::judging::judge_text;
 use crate::lines::{USAGE_LINE, read_fault_line};
-use crate::notices::{Stop, reply_with};
+use crate::notices::{Stop, reply_at, reply_with};
 use crate::planning::plan_instance;
 use crate::reply::{Output, Reply};
 use crate::status::Status;
@@ -26,6 +27,7 @@ use crate::texts::{Text, text_of_role, text_or_empty};
 use crate::words::{CommandLine, line_named};
 use box_workers::Gate;
 use glass_base::{Instance, Memory, Role};
+use glass_gen::generate;
 use glass_io::{Files, Sink, Trouble};
 use std::alloc::Global;
 use std::sync::Wait;
@@ -40,18 +42,25 @@ fn reply_to_instance<R: Threads + Wait + Sync, G: Gate + Sync>(
     instance: &Instance,
     gate: &G,
 ) -> Result<Reply, Memory>
-    requires { IsInstanceOf (texts_in texts.now) (flaws_of line.now.verb (texts_in texts.now)) instance.now }
     ensures { let said = line_in line.now in IfOk result (λ r. AnswersInstance said.verb said (texts_in texts.now) instance.now (answer_in (stored_names said) r)) }
 {
     match line.verb {
         Verb::Draft => draft_instance(alloc, instance),
-        Verb::Plan => {
+        Verb::Plan | Verb::Gen => {
             let (workers, budget) = (line.count(Count::Workers), line.count(Count::Budget));
             plan_instance(rt, alloc, instance, workers, budget, gate)
         }
         Verb::Judge => {
             let notice = judge_text(alloc, instance, text_or_empty(texts, Role::Plan))?;
             Ok(reply_with(alloc, notice))
+        }
+        Verb::Verify => {
+            let plan = text_of_role(texts, Role::Plan);
+            verify_texts(alloc, instance, plan, text_or_empty(texts, Role::Cert))
+        }
+        Verb::Convert => {
+            let plan = text_of_role(texts, Role::Plan);
+            convert_texts(alloc, instance, plan, text_or_empty(texts, Role::Cert))
         }
     }
 }
@@ -62,8 +71,31 @@ fn flaws(verb: Verb, texts: &[Text]) -> Option<&[u8]>
 {
     match verb {
         Verb::Draft => None,
-        Verb::Plan => text_of_role(texts, Role::Defects),
-        Verb::Judge => text_of_role(texts, Role::Defects),
+        Verb::Plan | Verb::Gen | Verb::Judge | Verb::Verify | Verb::Convert => {
+            text_of_role(texts, Role::Defects)
+        }
+    }
+}
+
+/// The instance that the numbers of a line give.
+fn drawn_instance(alloc: Global, line: &CommandLine<'_>) -> Result<Instance, Memory>
+    ensures { let said = line_in line.now in IfOk result (λ instance. IsDrawn instance (lead_in said Lead.Start) (lead_in said Lead.Items) (lead_in said Lead.Defects)) }
+{
+    let start = line.lead(Lead::Start);
+    let items = line.lead(Lead::Items);
+    let defects = line.lead(Lead::Defects);
+    generate(alloc, start, items, defects)
+}
+
+/// The instance of a line: the one that its texts say, or the one that its numbers give.
+fn instance_for(alloc: Global, line: &CommandLine<'_>, texts: &[Text]) -> Result<Instance, Stop>
+    ensures { let said = line_in line.now in MatchResult result (HasInstance said.verb said (texts_in texts.now)) (OnTold (HasNoInstance said.verb (texts_in texts.now))) }
+{
+    match line.verb {
+        Verb::Gen => Ok(drawn_instance(alloc, line)?),
+        Verb::Draft | Verb::Plan | Verb::Judge | Verb::Verify | Verb::Convert => {
+            instance_of(alloc, texts, flaws(line.verb, texts))
+        }
     }
 }
 
@@ -77,10 +109,9 @@ fn reply_to_texts<R: Threads + Wait + Sync, G: Gate + Sync>(
 ) -> Result<Reply, Memory>
     ensures { let said = line_in line.now in IfOk result (λ r. AnswersTexts said (texts_in texts.now) (answer_in (stored_names said) r)) }
 {
-    match instance_of(alloc, texts, flaws(line.verb, texts)) {
+    match instance_for(alloc, line, texts) {
         Ok(instance) => reply_to_instance(rt, alloc, line, texts, &instance, gate),
-        Err(Stop::Told(notice)) => Ok(reply_with(alloc, notice)),
-        Err(Stop::Memory) => Err(Memory),
+        Err(stop) => reply_at(alloc, stop),
     }
 }
 

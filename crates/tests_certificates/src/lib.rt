@@ -1,4 +1,4 @@
-//! Tests of the reader and of the checker of certificates, which no command calls yet.
+//! Tests of the reader and of the checker of certificates, called as a library.
 #![tactic(auto)]
 
 #[cfg(test)]

@@ -1,8 +1,7 @@
-ghost use Rattle.std.specs.Prelude.{◌≡◌, [], ◌∷◌, ◌⊎◌, IfOk};
-ghost use Rattle.cert_log.specs.Trees.{IsTree};
+ghost use Rattle.std.specs.Prelude.{◌≡◌};
 
 use cert_check::{Verdict, Why, check_cert};
-use cert_log::{BadCert, Certificate, read_cert};
+use cert_log::{BadCert, read_cert};
 use defect_map::DefectMap;
 use glass_base::{Instance, Item, Memory, Params, Run, append};
 use plan_box::Var;
@@ -25,13 +24,6 @@ fn instance(alloc: Global) -> Result<Instance, Fail> {
     Ok(Instance::new(alloc, Params::usual(), items, Run::new(alloc))?)
 }
 
-/// The certificate of a text.
-fn read(alloc: Global, text: &str) -> Result<Certificate, BadCert>
-    ensures { IfOk result (λ c. IsTree c.nodes.items × ((c.version ≡ 1) ⊎ (c.version ≡ 2))) }
-{
-    read_cert(alloc, text.as_bytes())
-}
-
 /// What a check answers to a text, where the best plan that is known loses 813,000 mm²; or how the text is refused.
 fn answer(
     alloc: Global,
@@ -41,7 +33,7 @@ fn answer(
 ) -> Result<Result<Verdict, BadCert>, Memory>
     requires { map.now ≡ instance.now.defects }
 {
-    match read(alloc, text) {
+    match read_cert(alloc, text.as_bytes()) {
         Ok(cert) => Ok(Ok(check_cert(alloc, instance, map, Some(813_000), &cert)?)),
         Err(bad) => Ok(Err(bad)),
     }

@@ -21,11 +21,11 @@ use Rattle.glass_run.specs.Texts.{Texts}
 
 -- the row that a form is
 abbrev pub pattern_in : Form → Pattern
-pattern_in f = record { word = f.word.now; reads = f.reads.now; stores = f.stores.now; options = f.options.now; counts = f.counts.now }
+pattern_in f = record { word = f.word.now; leads = f.leads.now; reads = f.reads.now; without = f.without.now; stores = f.stores.now; options = f.options.now; counts = f.counts.now }
 
 -- the line that a command line is
 abbrev pub line_in : CommandLine → Line
-line_in l = record { verb = l.verb; names = map string_bytes l.names.now; options = map string_bytes l.options.now }
+line_in l = record { verb = l.verb; leads = map string_bytes l.leads.now; names = map string_bytes l.names.now; options = map string_bytes l.options.now }
 
 -- a file to be fetched, by its role and its name
 abbrev pub file_in : Wanted → Role × List ℕ
@@ -64,6 +64,11 @@ GathersAll (Err notice) said = said ≡ Err (notice_in notice)
 abbrev pub OnTold : (Answer → Type 0) → Stop → Type 0
 OnTold P (stop.Told notice) = P (notice_in notice)
 OnTold P stop.Memory = Unit {0}
+
+-- the answer is the notice by which reading stopped; where memory ran out, there is none
+abbrev pub Tells : Stop → Answer → Type 0
+Tells (stop.Told notice) answer = answer ≡ notice_in notice
+Tells stop.Memory answer = ⊥
 
 -- this holds of the role whose read failed, if one did
 abbrev pub OnFault : (Role → Type 0) → NoReply → Type 0

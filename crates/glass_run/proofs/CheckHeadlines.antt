@@ -1,0 +1,93 @@
+-- What a user may conclude from how a check of a certificate ended.
+use Rattle.std.proofs.Common.{◌≡◌, ℕ, List, sym, ap, subst, ◌∙◌, inl, inr, Option}
+use Rattle.glass_base.specs.Problem.{Problem, IsProblem}
+use Rattle.glass_base.specs.declared.role.Role.TheVariants as role
+use Rattle.glass_io.specs.Told.{Contents}
+use Rattle.cut_model.specs.Tree.{Forest}
+use Rattle.cert_log.specs.declared.certificate.Certificate.{Certificate}
+use Rattle.cert_log.specs.Texts.{cert_text}
+use Rattle.cert_log.proofs.Covers.{bounds_each_plan}
+use Rattle.glass_run.specs.Answers.{Answer}
+use Rattle.glass_run.specs.Checks.{Converts, IsAccepted, NotAccepted, Verifies, loss_in}
+use Rattle.glass_run.specs.Checks.NotAccepted.{bad_cert, bad_plan, bad_tree, broken_plan}
+use Rattle.glass_run.specs.Commands.{AnswersInstance, HasInstance, out_of}
+use Rattle.glass_run.specs.Grammar.{Line}
+use Rattle.glass_run.specs.Headlines.{Accepts, Ended, FindsRight, SaidBy, StoresConverted}
+use Rattle.glass_run.specs.Runs.{Completes, Prints, RunsTo, Stands, World}
+use Rattle.glass_run.specs.Texts.{Texts, text_for, text_or_empty}
+use Rattle.glass_run.specs.declared.grammar.Verb.{Verb}
+use Rattle.glass_run.specs.declared.grammar.Verb.TheVariants as verb
+use Rattle.glass_run.specs.declared.status.Status.TheVariants as status
+use Rattle.glass_run.proofs.Headlines.{Says, completed_says, one_stored, unchanged}
+use Rattle.glass_run.proofs.Statuses.{IsRefused, cert_refused, plan_refused}
+
+-- an instance keeps the rules of instances, of whatever command it is
+rules_of : (of : Verb) (line : Line) (texts : Texts) (b : Problem) → HasInstance of line texts b → IsProblem b
+rules_of verb.Draft line texts b h = h.made.rules
+rules_of verb.Plan line texts b h = h.made.rules
+rules_of verb.Gen line texts b h = h.made.rules
+rules_of verb.Judge line texts b h = h.made.rules
+rules_of verb.Verify line texts b h = h.made.rules
+rules_of verb.Convert line texts b h = h.made.rules
+
+-- an answer to what is not accepted has none of the statuses of what is
+never_done : (b : Problem) (plan_text : Option (List ℕ)) (text : List ℕ) (answer : Answer) → status.Done ≡ answer.status → NotAccepted b plan_text text answer → ⊥
+never_done b plan_text text answer is (bad_plan reason refused h) = subst IsRefused (sym is) (plan_refused reason answer h)
+never_done b plan_text text answer is (bad_cert plan reason said reading h) = subst IsRefused (sym is) (cert_refused reason answer h)
+never_done b plan_text text answer is (broken_plan plan c broken said unlawful first e) = let wrong = is ∙ ap (λ (a : Answer). a.status) e in cc wrong
+never_done b plan_text text answer is (bad_tree plan c at why said lawful wrong first e) = let wrong = is ∙ ap (λ (a : Answer). a.status) e in cc wrong
+
+finds_right : (line : Line) (held : Contents) (texts : Texts) (b : Problem) (plan : Option Forest) (c : Certificate) → SaidBy line held texts b →
+    IsAccepted b (text_for texts role.Plan) (text_or_empty texts role.Cert) plan c → FindsRight line held texts b c
+finds_right line held texts b plan c reads accepted = record {
+  plan = plan;
+  reads = reads;
+  said = accepted.said;
+  lawful = accepted.lawful;
+  good = accepted.good;
+  bounds = bounds_each_plan b 0 (loss_in b plan) c (rules_of line.verb line texts b reads.instance_is) accepted.good;
+}
+
+accepts : (line : Line) (held : Contents) (old new : World) (answer : Answer) → line.verb ≡ verb.Verify → status.Done ≡ answer.status → Says line held answer →
+    Stands answer.stores old.shelf.contents new.shelf.contents → Prints answer.lines old.paper new.paper → Accepts line held old new
+accepts line held old new answer of is s stored prints =
+    let verifies : Verifies s.b (text_for s.texts role.Plan) (text_or_empty s.texts role.Cert) answer = subst (λ (v : Verb). AnswersInstance v line s.texts s.b answer) of s.answers in
+    elim verifies [
+      | inl v ↦ record {
+        texts = s.texts;
+        b = s.b;
+        certificate = v.1;
+        right = finds_right line held s.texts s.b v.0 v.1 s.reads v.2;
+        unchanged = unchanged old.shelf.contents new.shelf.contents (subst (λ (a : Answer). Stands a.stores old.shelf.contents new.shelf.contents) v.3 stored);
+        prints = subst (λ (a : Answer). Prints a.lines old.paper new.paper) v.3 prints;
+      }
+      | inr other ↦ absurd (never_done s.b (text_for s.texts role.Plan) (text_or_empty s.texts role.Cert) answer is other)
+    ]
+
+converts : (line : Line) (held : Contents) (old new : World) (answer : Answer) → line.verb ≡ verb.Convert → status.Done ≡ answer.status → Says line held answer →
+    Stands answer.stores old.shelf.contents new.shelf.contents → Prints answer.lines old.paper new.paper → StoresConverted line held old new
+converts line held old new answer of is s stored prints =
+    let converts : Converts s.b (text_for s.texts role.Plan) (text_or_empty s.texts role.Cert) (out_of line) answer = subst (λ (v : Verb). AnswersInstance v line s.texts s.b answer) of s.answers in
+    elim converts [
+      | inl v ↦ record {
+        texts = s.texts;
+        b = s.b;
+        certificate = v.1;
+        converted = v.2;
+        right = finds_right line held s.texts s.b v.0 v.1 s.reads v.3;
+        names = v.4;
+        stored = one_stored (record { name = out_of line; bytes = cert_text v.2 }) old.shelf.contents new.shelf.contents (subst (λ (a : Answer). Stands a.stores old.shelf.contents new.shelf.contents) v.5 stored);
+        prints = subst (λ (a : Answer). Prints a.lines old.paper new.paper) v.5 prints;
+      }
+      | inr other ↦ absurd (never_done s.b (text_for s.texts role.Plan) (text_or_empty s.texts role.Cert) answer is other)
+    ]
+
+pub done_check : (words : List (List ℕ)) (line : Line) (held : Contents) (old new : World) → Ended words verb.Verify line held old new status.Done → Accepts line held old new
+done_check words line held old new e =
+    let c : Completes line old new status.Done = subst (λ (o : Option Line). RunsTo o old new status.Done) e.line_is e.runs in
+    accepts line held old new c.answer e.verb_is c.status_is (completed_says line held old new status.Done e.told (λ h. h) c) c.stored c.prints
+
+pub done_conversion : (words : List (List ℕ)) (line : Line) (held : Contents) (old new : World) → Ended words verb.Convert line held old new status.Done → StoresConverted line held old new
+done_conversion words line held old new e =
+    let c : Completes line old new status.Done = subst (λ (o : Option Line). RunsTo o old new status.Done) e.line_is e.runs in
+    converts line held old new c.answer e.verb_is c.status_is (completed_says line held old new status.Done e.told (λ h. h) c) c.stored c.prints

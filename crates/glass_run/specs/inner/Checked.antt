@@ -1,0 +1,38 @@
+-- The parts of a check of a plan and a certificate.
+use Rattle.std.specs.Prelude.{◌≡◌, ℕ, List, Option, Some, None, Err}
+use Rattle.glass_base.specs.Problem.{Problem}
+use Rattle.cut_model.specs.declared.broken.Broken.{Broken}
+use Rattle.cut_model.specs.Lawful.{IsLawful}
+use Rattle.cut_model.specs.Tree.{Forest}
+use Rattle.plan_csv.specs.declared.bad_plan.BadPlan.{BadPlan}
+use Rattle.cert_log.specs.declared.bad_cert.BadCert.{BadCert}
+use Rattle.cert_log.specs.declared.certificate.Certificate.{Certificate}
+use Rattle.cert_log.specs.Good.{IsGood}
+use Rattle.cert_log.specs.Outcomes.{IsReading}
+use Rattle.cert_check.specs.declared.verdict.Why.{Why}
+use Rattle.cert_check.specs.Faults.{IsFirstFault}
+use Rattle.glass_run.specs.Answers.{Answer}
+use Rattle.glass_run.specs.Checks.{CertRefused, IsAccepted, RefusesPlan, refused}
+use Rattle.glass_run.specs.Judgements.{IsFirstBroken, PlanRefused, unlawful}
+use Rattle.glass_run.specs.Plans.{root_ranges}
+
+-- the answer to the text of a plan that is refused
+abbrev pub RefusesPlanText : Problem → Option (List ℕ) → Answer → Type 0
+RefusesPlanText b text answer = (reason : BadPlan) × RefusesPlan b text reason × PlanRefused reason answer
+
+-- the answer to the text of a certificate that is refused
+abbrev pub RefusesCertText : List ℕ → Answer → Type 0
+RefusesCertText text answer = (reason : BadCert) × IsReading text (Err reason) × CertRefused reason answer
+
+-- the answer to a plan that is not lawful
+abbrev pub IsUnlawful : Problem → Option Forest → Answer → Type 0
+IsUnlawful b None answer = ⊥
+IsUnlawful b (Some plan) answer = (broken : Broken) × ¬ IsLawful b plan × IsFirstBroken b plan broken × (answer ≡ unlawful broken)
+
+-- the answer to a certificate that is not right
+abbrev pub IsWrong : Problem → Option ℕ → Certificate → Answer → Type 0
+IsWrong b loss c answer = (line : ℕ) × (why : Why) × ¬ IsGood b (root_ranges b) loss c × IsFirstFault b (root_ranges b) loss c line why × (answer ≡ refused line why)
+
+-- the certificate is accepted with the plan that the text says, or without one
+abbrev pub IsAcceptedFor : Problem → Option (List ℕ) → List ℕ → Certificate → Type 0
+IsAcceptedFor b plan_text cert_text c = (plan : Option Forest) × IsAccepted b plan_text cert_text plan c

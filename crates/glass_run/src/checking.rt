@@ -1,0 +1,266 @@
+//! What `verify` and `convert` answer to an instance and the texts of a plan and of a certificate.
+
+ghost use Rattle.std.specs.Prelude.{◌≡◌, ◌⊎◌, ℕ, List, [], Ok, IfOk, MatchResult, option_map, slice_index_or};
+ghost use Rattle.cut_model.specs.Tree.{tree};
+ghost use Rattle.cert_log.specs.declared.certificate.Certificate.{Certificate as CertificateOf};
+ghost use Rattle.cert_log.specs.Good.{IsGood, IsVersion};
+ghost use Rattle.cert_log.specs.Outcomes.{IsReading};
+ghost use Rattle.cert_log.specs.Trees.{IsTree};
+ghost use Rattle.glass_run.specs.Checks.{CertRefused, Converts, IsConverted, IsLawfulToo, IsPlanIn, NotAccepted, Verifies, accepted as accepted_of, converted as converted_of, loss_in, refused as refused_of};
+ghost use Rattle.glass_run.specs.Judgements.{PlanRefused, unlawful as unlawful_of};
+ghost use Rattle.glass_run.specs.Plans.{root_ranges};
+ghost use Rattle.glass_run.specs.inner.Checked.{IsAcceptedFor, IsUnlawful, IsWrong, RefusesCertText, RefusesPlanText};
+ghost use Rattle.glass_run.specs.inner.Forms.{OnTold, answer_in, notice_in};
+ghost use Rattle.glass_run.specs.inner.Searches.{FitsToo};
+
+use crate::judging::{first_breach, plan_refused, unlawful};
+use crate::lines::{bound_line, refused_line};
+use crate::notices::{Stop, bad_input, reply_at, reply_with};
+use crate::reply::{Notice, Output, Reply};
+use crate::status::Status;
+use cert_check::{Verdict, Why, check_cert, reasoned};
+use cert_log::{BadCert, Certificate, read_cert, write_cert};
+use cut_model::{Broken, Plan};
+use defect_map::DefectMap;
+use glass_base::{Instance, Memory, Role, Run, append};
+use loss_area::loss;
+use plan_csv::{BadPlan, read_plan};
+use std::alloc::Global;
+
+/// The notice of a text that is no certificate.
+fn cert_refused(alloc: Global, reason: BadCert) -> Result<Notice, Memory>
+    ensures { IfOk result (λ n. CertRefused reason (notice_in n)) }
+{
+    match reason {
+        BadCert::Memory => Err(Memory),
+        BadCert::Head => bad_input(alloc, Role::Cert, 30, 1, 0),
+        BadCert::Line(line) => bad_input(alloc, Role::Cert, 31, line, 0),
+        BadCert::Short(lines) => bad_input(alloc, Role::Cert, 32, lines, 0),
+        BadCert::Trailing(line) => bad_input(alloc, Role::Cert, 33, line, 0),
+    }
+}
+
+/// The notice of a certificate that fails this check.
+fn refused(alloc: Global, line: u64, why: Why) -> Result<Notice, Memory>
+    ensures { IfOk result (λ n. notice_in n ≡ refused_of line why) }
+{
+    Ok(Notice {
+        status: Status::Refused,
+        lines: refused_line(alloc, line, why)?,
+    })
+}
+
+/// The notice of a certificate that is right.
+fn accepted(alloc: Global, certificate: &Certificate) -> Result<Notice, Memory>
+    ensures { IfOk result (λ n. notice_in n ≡ accepted_of certificate.now) }
+{
+    Ok(Notice {
+        status: Status::Done,
+        lines: bound_line(alloc, "accepted", certificate)?,
+    })
+}
+
+/// What is told of a text that is no plan.
+fn stop_at_plan(alloc: Global, reason: BadPlan) -> Stop
+    ensures { OnTold (PlanRefused reason) result }
+{
+    match plan_refused(alloc, reason) {
+        Ok(notice) => Stop::Told(notice),
+        Err(memory) => Stop::from(memory),
+    }
+}
+
+/// What is told of a text that is no certificate.
+fn stop_at_cert(alloc: Global, reason: BadCert) -> Stop
+    ensures { OnTold (CertRefused reason) result }
+{
+    match cert_refused(alloc, reason) {
+        Ok(notice) => Stop::Told(notice),
+        Err(memory) => Stop::from(memory),
+    }
+}
+
+/// What is told of a plan that breaks a rule.
+fn stop_at_breach(alloc: Global, broken: &Broken) -> Stop
+    ensures { OnTold (λ answer. answer ≡ unlawful_of broken.now) result }
+{
+    match unlawful(alloc, broken) {
+        Ok(notice) => Stop::Told(notice),
+        Err(memory) => Stop::from(memory),
+    }
+}
+
+/// What is told of a certificate that fails this check.
+fn stop_at_check(alloc: Global, line: u64, why: Why) -> Stop
+    ensures { OnTold (λ answer. answer ≡ refused_of line why) result }
+{
+    match refused(alloc, line, why) {
+        Ok(notice) => Stop::Told(notice),
+        Err(memory) => Stop::from(memory),
+    }
+}
+
+/// The plan that a text says, if there is a text.
+fn read_plan_in(
+    alloc: Global,
+    instance: &Instance,
+    text: Option<&[u8]>,
+) -> Result<Option<Plan>, Stop>
+    ensures plan { MatchResult result (λ plan. IsPlanIn instance.now (option_map (λ bytes. bytes.now) text.entry) (option_map tree plan)) (OnTold (RefusesPlanText instance.now (option_map (λ bytes. bytes.now) text.entry))) }
+    ensures fits { IfOk result FitsToo }
+{
+    let Some(bytes) = text else {
+        return Ok(None);
+    };
+    match read_plan(alloc, instance, bytes) {
+        Ok(plan) => Ok(Some(plan)),
+        Err(reason) => Err(stop_at_plan(alloc, reason)),
+    }
+}
+
+/// The certificate that a text says.
+fn read_cert_in(alloc: Global, text: &[u8]) -> Result<Certificate, Stop>
+    ensures reading { MatchResult result (λ c. IsReading text.now (Ok c)) (OnTold (RefusesCertText text.now)) }
+    ensures tree { IfOk result (λ c. IsTree c.nodes.items) }
+    ensures version { IfOk result (λ c. IsVersion 1 c ⊎ IsVersion 2 c) }
+{
+    match read_cert(alloc, text) {
+        Ok(certificate) => Ok(certificate),
+        Err(reason) => Err(stop_at_cert(alloc, reason)),
+    }
+}
+
+/// Goes on where a plan is lawful, or there is none.
+fn judge_plan_in(
+    alloc: Global,
+    instance: &Instance,
+    map: &DefectMap,
+    plan: &Option<Plan>,
+) -> Result<(), Stop>
+    requires map { map.now ≡ instance.now.defects }
+    requires fits { FitsToo plan.now }
+    ensures { MatchResult result (λ _. IsLawfulToo instance.now (option_map tree plan.now)) (OnTold (IsUnlawful instance.now (option_map tree plan.now))) }
+{
+    let Some(plan) = plan else {
+        return Ok(());
+    };
+    match first_breach(alloc, instance, map, plan)? {
+        None => Ok(()),
+        Some(broken) => Err(stop_at_breach(alloc, &broken)),
+    }
+}
+
+/// The loss of a plan in mm², if there is one.
+fn loss_of_plan(instance: &Instance, plan: &Option<Plan>) -> Option<u64>
+    requires { FitsToo plan.now }
+    ensures { result ≡ loss_in instance.now (option_map tree plan.now) }
+{
+    match plan {
+        None => None,
+        Some(plan) => Some(loss(instance, plan)),
+    }
+}
+
+/// Goes on where a certificate is right for the box of all plans and for this loss.
+fn check_cert_in(
+    alloc: Global,
+    instance: &Instance,
+    map: &DefectMap,
+    loss: Option<u64>,
+    certificate: &Certificate,
+) -> Result<(), Stop>
+    requires map { map.now ≡ instance.now.defects }
+    requires tree { IsTree certificate.now.nodes.items }
+    requires version { IsVersion 1 certificate.now ⊎ IsVersion 2 certificate.now }
+    ensures { MatchResult result (λ _. IsGood instance.now (root_ranges instance.now) loss certificate.now) (OnTold (IsWrong instance.now loss certificate.now)) }
+{
+    match check_cert(alloc, instance, map, loss, certificate)? {
+        Verdict::Accept { .. } => Ok(()),
+        Verdict::Refuse { line, why } => Err(stop_at_check(alloc, line, why)),
+    }
+}
+
+/// The certificate that a text says, where it is right for the loss of the plan that another one says, and this is lawful; or what is told of
+/// the first that fails: the text of the plan, that of the certificate, the plan, the certificate.
+fn accepted_certificate(
+    alloc: Global,
+    instance: &Instance,
+    map: &DefectMap,
+    plan_text: Option<&[u8]>,
+    cert_text: &[u8],
+) -> Result<Certificate, Stop>
+    requires { map.now ≡ instance.now.defects }
+    ensures { MatchResult result (IsAcceptedFor instance.now (option_map (λ bytes. bytes.now) plan_text.entry) cert_text.now) (OnTold (NotAccepted instance.now (option_map (λ bytes. bytes.now) plan_text.entry) cert_text.now)) }
+{
+    let plan = read_plan_in(alloc, instance, plan_text)?;
+    let certificate = read_cert_in(alloc, cert_text)?;
+    judge_plan_in(alloc, instance, map, &plan)?;
+    let loss = loss_of_plan(instance, &plan);
+    check_cert_in(alloc, instance, map, loss, &certificate)?;
+    Ok(certificate)
+}
+
+/// The reply to the texts of a plan, or none, and of a certificate: its bound and its number of open boxes, or a refusal.
+pub(crate) fn verify_texts(
+    alloc: Global,
+    instance: &Instance,
+    plan_text: Option<&[u8]>,
+    cert_text: &[u8],
+) -> Result<Reply, Memory>
+    ensures { IfOk result (λ r. (names : List (List ℕ)) → Verifies instance.now (option_map (λ bytes. bytes.now) plan_text.entry) cert_text.now (answer_in names r)) }
+{
+    let map = DefectMap::new(alloc, instance)?;
+    match accepted_certificate(alloc, instance, &map, plan_text, cert_text) {
+        Ok(certificate) => Ok(reply_with(alloc, accepted(alloc, &certificate)?)),
+        Err(stop) => reply_at(alloc, stop),
+    }
+}
+
+/// The reply that stores a certificate of version 2.
+fn reply_with_cert(alloc: Global, certificate: &Certificate) -> Result<Reply, Memory>
+    requires { IsVersion 2 certificate.now }
+    ensures { IfOk result (λ r. (names : List (List ℕ)) → answer_in names r ≡ converted_of (slice_index_or names 0 []) certificate.now) }
+{
+    let lines = bound_line(alloc, "converted", certificate)?;
+    let bytes = write_cert(alloc, certificate)?;
+    let mut outputs = Run::new(alloc);
+    append(&mut outputs, Output { place: 0, bytes })?;
+    Ok(Reply {
+        status: Status::Done,
+        outputs,
+        lines,
+    })
+}
+
+/// The reply that stores a right certificate with its causes named.
+fn convert(
+    alloc: Global,
+    instance: &Instance,
+    map: &DefectMap,
+    certificate: &Certificate,
+) -> Result<Reply, Memory>
+    requires map { map.now ≡ instance.now.defects }
+    requires good { IsGood instance.now (root_ranges instance.now) certificate.now.loss certificate.now }
+    ensures { IfOk result (λ r. (d : CertificateOf) × IsConverted instance.now certificate.now d × ((names : List (List ℕ)) → answer_in names r ≡ converted_of (slice_index_or names 0 []) d)) }
+{
+    let named = reasoned(alloc, instance, map, certificate)?;
+    reply_with_cert(alloc, &named)
+}
+
+/// The reply to the texts of a plan, or none, and of a certificate: the certificate is stored with its causes named, or refused as by
+/// [`verify_texts`].
+pub(crate) fn convert_texts(
+    alloc: Global,
+    instance: &Instance,
+    plan_text: Option<&[u8]>,
+    cert_text: &[u8],
+) -> Result<Reply, Memory>
+    ensures { IfOk result (λ r. (names : List (List ℕ)) → Converts instance.now (option_map (λ bytes. bytes.now) plan_text.entry) cert_text.now (slice_index_or names 0 []) (answer_in names r)) }
+{
+    let map = DefectMap::new(alloc, instance)?;
+    let certificate = match accepted_certificate(alloc, instance, &map, plan_text, cert_text) {
+        Ok(certificate) => certificate,
+        Err(stop) => return reply_at(alloc, stop),
+    };
+    convert(alloc, instance, &map, &certificate)
+}
