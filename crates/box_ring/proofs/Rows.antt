@@ -4,7 +4,7 @@ use Rattle.std.specs.Prelude.{Option, Some}
 use Rattle.plan_box.specs.declared.frame.Frame.{Frame}
 use Rattle.box_ring.specs.declared.tally.Tally.{Tally}
 use Rattle.box_ring.specs.Tallies.{tally}
-use Rattle.box_ring.specs.Arms.{Deque, ArmState, frame, new_arm, EachStays, first_or, Links, IsRing, AllOfFrame, IsFresh, AllFresh}
+use Rattle.box_ring.specs.Arms.{Deque, ArmState, frame, new_arm, Stays, EachStays, first_or, Links, IsRing, AllOfFrame, IsFresh, AllFresh}
 
 -- a list with one element more is longer by one
 pub longer : {A : Type 0} (all xs : List A) (x : A) → all ≡ xs ++ x ∷ [] → length all ≡ length xs + 1
@@ -71,6 +71,18 @@ new_fresh d v w next f e g = record {
   other_taken = ap (λ (k : Tally). k.taken) g;
   misses = refl;
   missed = refl;
+}
+
+pub stays_none : (a : ArmState) → Stays a a
+stays_none a = record { deque = refl; next = refl; parts = refl; frame = refl; other_put = refl }
+
+pub stays_twice : (a b c : ArmState) → Stays a b → Stays b c → Stays a c
+stays_twice a b c p q = record {
+  deque = q.deque ∙ p.deque;
+  next = q.next ∙ p.next;
+  parts = q.parts ∙ p.parts;
+  frame = q.frame ∙ p.frame;
+  other_put = q.other_put ∙ p.other_put;
 }
 
 first_same : (xs ys : List ArmState) (end now : Deque) → EachStays xs ys → now ≡ end → first_or ys now ≡ first_or xs end

@@ -73,8 +73,8 @@ fn whole(own: Boxes, other: Option<Neighbour>) -> Boxes
     deque
 }
 
-/// The deques of a ring's arms, each with both parts of its pass. The arms are taken from the last one on: each brings a part of the pass
-/// of the deque before, and the last one that of the first.
+/// The deques of a ring's arms, each with both parts of its pass. The arms are taken from the last one on, and each has the other part
+/// for the deque of the arm taken before it; the last arm has that for the first one's deque.
 fn collect(alloc: Global, arms: Run<Arm>) -> Result<Vec<Boxes>, (Run<Arm>, Memory)>
     requires { IsRing arms.items }
     ensures whole { IfOk result (λ deques. AllWhole (views deques.items)) }
