@@ -1,7 +1,7 @@
 #!/usr/bin/env bash
 # Prints how long `verify` takes, and its peak memory (by GNU time), for the certificates of searches that their budgets stopped: of drawn
-# instances of 50 items, with some 100,000 and 1,000,000 nodes. START ITEMS DEFECTS, and perhaps BUDGET, as arguments ask for the certificate of
-# another search than those of the table. The program is built first where it is not yet.
+# instances of 50 items, with some 100,000 and 1,000,000 nodes, and of 16 items, with 10,000,000. START ITEMS DEFECTS, and perhaps BUDGET, as
+# arguments ask for the certificate of another search than those of the table. The program is built first where it is not yet.
 set -euo pipefail
 top=$(cd "$(dirname "$(readlink -f "$0")")/.." && pwd)
 program=$top/crates/glass_program/out/glass_program
@@ -30,9 +30,10 @@ tell() {
 }
 search "$top/glass" 7 1 0 1
 if [ $# -gt 0 ]; then
-  tell "$1" "$2" "$3" "${4:-500000}"
+  tell "$1" "$2" "$3" "${4:-1000000}"
   exit
 fi
-tell 7 50 0 50000
-tell 7 50 0 500000
-tell 7 50 20 500000
+tell 7 50 0 100000
+tell 7 50 0 1000000
+tell 7 50 20 1000000
+tell 7 16 5 10000000
