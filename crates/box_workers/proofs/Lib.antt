@@ -2,6 +2,8 @@ pub mod Lists
 pub mod Probing
 pub mod Steps
 pub mod Progress
+pub mod Worked
+pub mod Traffic
 pub mod Outcome
 pub mod Tickets
 pub mod Accounts

@@ -1,4 +1,5 @@
 pub mod Handling
 pub mod Runs
+pub mod Works
 pub mod Histories
 pub mod inner

@@ -39,19 +39,23 @@ abbrev pub Within : Problem → List Ranges → ℕ → Act → Type 0
 Within b rs seen (Act.Closed threshold cause) = threshold ≤ seen
 Within b rs seen (Act.Split step v) = bound b rs < seen
 
--- a box was handled by one worker alone, whose loss was this one before
+-- a box was handled by a worker whose loss was this one before
 pub record IsHandled (b : Problem) (w : Words) (loss : ℕ) (e : Event) : Type 0 where
   pub frame : e.box.frame ≡ frame_of b
   pub valid : IsBox e.box
   pub probed : IsProbed b e.box.ranges e.probed
   pub in_budget : e.ticket < w.budget
-  pub seen : e.seen ≡ min w.first loss
   pub act : IsAct b e.box.ranges e.seen (min loss e.probed) e.act
 
--- these boxes were handled in this order by one worker alone, whose loss was this one before
+-- these boxes were handled in this order by a worker whose loss was this one before
 abbrev pub AreHandled : Problem → Words → ℕ → List Event → Type 0
 AreHandled b w loss [] = Unit {0}
 AreHandled b w loss (e ∷ es) = IsHandled b w loss e × AreHandled b w (min loss e.probed) es
+
+-- each look saw exactly the least of this loss and the probed losses of the boxes before
+abbrev pub AreSeen : ℕ → List Event → Type 0
+AreSeen loss [] = Unit {0}
+AreSeen loss (e ∷ es) = (e.seen ≡ loss) × AreSeen (min loss e.probed) es
 
 -- a threshold is this loss, and the bound of a box that was split is below it
 abbrev pub Reached : Problem → List Ranges → ℕ → Act → Type 0
@@ -66,6 +70,7 @@ AreReached b loss (e ∷ es) = Reached b e.box.ranges (min loss e.probed) e.act 
 -- what one worker alone did, in order: it saw the best loss exactly, and its tickets rise; no one else drew or looked
 pub record IsAlone (b : Problem) (w : Words) (v : View) (events : List Event) (spent : List ℕ) : Type 0 where
   pub handled : AreHandled b w no_loss events
+  pub seen : AreSeen w.first events
   pub reached : AreReached b w.first events
   pub rising : AllPairs (λ (d : Event) (e : Event). d.ticket < e.ticket) events
   pub tickets : v.tickets ≡ tickets_of events ++ spent

@@ -7,8 +7,10 @@ pub mod handling;
 pub mod laws;
 mod running;
 pub mod searching;
+pub mod working;
 
 pub use gate::{Gate, OpenGate};
 pub use hand::Hand;
 pub use handling::{Done, handle};
 pub use searching::search;
+pub use working::{Rest, work};

@@ -1,12 +1,10 @@
 //! The work of one worker over a list of boxes that wait.
-ghost use Rattle.std.specs.Prelude.{◌≡◌, ◌≤◌, ◌++◌, ◌∷◌, [], All, length, OnOk, IfOk, MatchBool};
+ghost use Rattle.std.specs.Prelude.{◌≡◌, ◌≤◌, ◌<◌, ◌++◌, ◌∷◌, [], All, length, OnOk, IfOk, MatchBool};
 ghost use Rattle.plan_box.specs.Frames.{frame_of};
 ghost use Rattle.plan_box.specs.Ranges.{PlainBox};
 ghost use Rattle.box_bound.specs.Leastings.{IsOf};
 ghost use Rattle.shared_best.specs.Seats.{IsSeatOf};
-ghost use Rattle.shared_best.specs.Words.{newcomer};
 ghost use Rattle.box_workers.specs.Handling.{Spends};
-ghost use Rattle.box_workers.specs.inner.Hands.{IsFresh};
 ghost use Rattle.box_workers.specs.inner.Rounds.{Turns, HasEnded};
 
 use crate::gate::Gate;
@@ -85,11 +83,14 @@ pub(crate) fn run<G: Gate>(
     requires map { map.now ≡ instance.now.defects }
     requires frames { All (λ (x : PlainBox). x.frame ≡ frame_of instance.now) waiting.old.items }
     requires limits { (starts ≤ 160000000) × (shared.now.budget ≤ 10000000) }
-    requires hand { IsFresh instance.now hand.old }
+    requires leasts { IsOf instance.now hand.old.leasts }
+    requires scratch { length hand.old.scratch.steps.items ≡ length instance.now.items }
     requires seat { IsSeatOf shared.now seat.old }
-    requires newcomer { seat.old.view ≡ newcomer shared.now.first }
-    ensures ends { OnOk result (HasEnded instance.now shared.now starts waiting.old.items seat.new hand.new waiting.new.items) }
+    requires allowance { shared.now.budget < seat.old.view.allowance }
+    ensures ends { OnOk result (HasEnded instance.now shared.now starts waiting.old.items seat.old seat.new hand.old hand.new waiting.new.items) }
 {
+    // Read for its range.
+    let _best = hand.loss;
     while let Some(bx) = waiting.pop() {
         if !turn(
             alloc, instance, map, shared, seat, hand, starts, waiting, bx, gate,

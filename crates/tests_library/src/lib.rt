@@ -7,3 +7,5 @@ mod arms;
 mod seats;
 #[cfg(test)]
 mod tests;
+#[cfg(test)]
+mod workers;

@@ -15,6 +15,13 @@ pub record IsFresh (b : Problem) (k : Hand) : Type 0 where
   pub scratch : length k.scratch.steps.items ≡ length b.items
   pub leasts : IsOf b k.leasts
 
+-- the same worker with the same notes, plan and loss
+pub record IsLike (old new : Hand) : Type 0 where
+  pub worker : new.worker ≡ old.worker
+  pub log : new.log.items ≡ old.log.items
+  pub plan : new.plan ≡ old.plan
+  pub loss : new.loss ≡ old.loss
+
 -- there is a trace, and it has so many steps
 abbrev pub Serves : ℕ → Option Trace → Type 0
 Serves items None = ⊥

@@ -1,0 +1,83 @@
+use Rattle.std.proofs.Common.{rules, ◌≡◌, ◌∷◌, ◌++◌, ◌≤◌, List, [], append-nil, inl, refl, sym, ap, ◌∙◌, arith}
+use Rattle.plan_box.specs.Frames.{frame_of}
+use Rattle.cert_log.specs.declared.history.Left.{Left}
+use Rattle.cert_log.specs.Lawful.{no_loss}
+use Rattle.box_levels.specs.Events.{Event, made_by}
+use Rattle.box_ring.proofs.Rows.{stays_none, stays_twice}
+use Rattle.box_workers.specs.Handling.{Handles}
+use Rattle.box_workers.specs.Works.{left_open}
+use Rattle.box_workers.specs.inner.Rounds.{Takes, Puts, Stops}
+use Rattle.box_workers.proofs.Progress.{few_push}
+use Rattle.box_workers.proofs.Worked.{worked_none, worked_more, worked_spent, new_tickets, draws_one, may_draw}
+use Rattle.box_workers.proofs.Traffic.{traffic_none, traffic_more, traffic_left, rests_spent}
+use Rattle.box_workers.proofs.working.work.Goals as goal
+
+pub loop-alloc-init : goal.loop-alloc-init
+loop-alloc-init g c = record {
+  runs = ([], worked_none c.args.instance.now c.args.shared.now c.args.seat.now c.args.hand.now _ c.requires.seat (record { worker = refl; log = refl; plan = refl; loss = refl }), inl refl, traffic_none c.args.starts c.args.arm.now);
+  left = c.reserve.ensures.items;
+  room = search rules;
+  leasts = c.requires.leasts;
+  scratch = c.requires.scratch;
+  ring = c.requires.ring;
+  stays = stays_none c.args.arm.now;
+}
+
+pub returns-then-not-branch-clause-works : goal.returns-then-not-branch-clause-works
+returns-then-not-branch-clause-works g c =
+    let i = c.loop-alloc.invariant.runs in let x = c.in-Some.bx in
+    let st : Stops c.args.instance.now c.args.shared.now x c.loop-alloc.seat c.turn.new.seat c.loop-alloc.hand c.turn.new.hand × (c.turn.new.arm ≡ c.take.new.arm) = search rules in
+    let took : Takes (x ∷ []) c.loop-alloc.arm c.take.new.arm = search rules in
+    let some = may_draw c.args.shared.now.budget c.loop-alloc.seat.view.allowance c.args.seat.now.view.allowance i.0 i.2 i.1.allowance c.requires.allowance in
+    record {
+      events = i.0;
+      spent = st.0.ticket ∷ [];
+      left = x ∷ [];
+      worked = worked_spent c.args.instance.now c.args.shared.now c.args.seat.now c.loop-alloc.seat c.turn.new.seat c.args.hand.now c.loop-alloc.hand c.turn.new.hand i.0 i.1 st.0.ticket st.0.seat st.0.leaves.like c.turn.ensures.seat some;
+      left_is = st.0.leaves.left ∙ ap (λ (ls : List Left). ls ++ left_open c.args.instance.now (x ∷ [])) c.loop-alloc.invariant.left;
+      traffic = traffic_left c.args.starts c.args.arm.now c.loop-alloc.arm c.take.new.arm c.turn.new.arm i.0 x i.3 took st.1;
+      rests = rests_spent c.args.shared.now.budget st.0.ticket x c.turn.new.arm.misses st.0.spent;
+    }
+
+pub loop-alloc-smaller : goal.loop-alloc-smaller
+loop-alloc-smaller g c =
+    let i = c.loop-alloc.invariant.runs in let x = c.in-Some.bx in
+    let d : (e : Event) × Handles c.args.instance.now c.args.shared.now x c.loop-alloc.seat c.turn.new.seat c.loop-alloc.hand c.turn.new.hand e × Puts (made_by c.args.starts e) c.take.new.arm c.turn.new.arm = search rules in
+    let some = may_draw c.args.shared.now.budget c.loop-alloc.seat.view.allowance c.args.seat.now.view.allowance i.0 i.2 i.1.allowance c.requires.allowance in
+    let o = draws_one c.args.instance.now c.args.shared.now x c.loop-alloc.seat c.turn.new.seat c.loop-alloc.hand c.turn.new.hand d.0 d.1 some in omega arith
+
+pub loop-alloc-preserved : goal.loop-alloc-preserved
+loop-alloc-preserved g c =
+    let i = c.loop-alloc.invariant.runs in let x = c.in-Some.bx in
+    let d : (e : Event) × Handles c.args.instance.now c.args.shared.now x c.loop-alloc.seat c.turn.new.seat c.loop-alloc.hand c.turn.new.hand e × Puts (made_by c.args.starts e) c.take.new.arm c.turn.new.arm = search rules in
+    let took : Takes (x ∷ []) c.loop-alloc.arm c.take.new.arm = search rules in
+    let small : c.args.hand.now.loss ≤ no_loss = search rules in
+    let of : x.frame ≡ frame_of c.args.instance.now = c.in-Some.ensures.frame ∙ c.loop-alloc.invariant.ring in
+    let some = may_draw c.args.shared.now.budget c.loop-alloc.seat.view.allowance c.args.seat.now.view.allowance i.0 i.2 i.1.allowance c.requires.allowance in
+    record {
+      runs = (
+        i.0 ++ d.0 ∷ [],
+        worked_more c.args.instance.now c.args.shared.now c.args.seat.now c.loop-alloc.seat c.turn.new.seat c.args.hand.now c.loop-alloc.hand c.turn.new.hand i.0 i.1 x d.0 d.1 small of c.turn.ensures.seat some,
+        few_push c.args.shared.now.budget i.0 d.0 i.2 (new_tickets c.args.instance.now c.args.shared.now c.args.seat.now c.loop-alloc.seat c.turn.new.seat c.args.hand.now c.loop-alloc.hand c.turn.new.hand i.0 i.1 x d.0 d.1 small) d.1.look.in_budget,
+        traffic_more c.args.starts c.args.arm.now c.loop-alloc.arm c.take.new.arm c.turn.new.arm i.0 x i.3 took d.0 d.1.box d.2,
+      );
+      left = search rules;
+      room = search rules;
+      leasts = c.turn.ensures.leasts;
+      scratch = c.turn.ensures.scratch;
+      ring = search rules;
+      stays = stays_twice c.args.arm.now c.loop-alloc.arm c.turn.new.arm c.loop-alloc.invariant.stays (stays_twice c.loop-alloc.arm c.take.new.arm c.turn.new.arm c.take.ensures.stays c.turn.ensures.stays);
+    }
+
+pub returns-clause-works : goal.returns-clause-works
+returns-clause-works g c =
+    let i = c.loop-alloc.invariant.runs in
+    record {
+      events = i.0;
+      spent = [];
+      left = [];
+      worked = i.1;
+      left_is = c.loop-alloc.invariant.left ∙ sym (append-nil c.args.hand.now.left.items);
+      traffic = i.3;
+      rests = (refl, refl, (let t = c.loop-alloc-test.false in let m = c.misses.ensures in omega arith));
+    }

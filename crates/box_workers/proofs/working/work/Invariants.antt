@@ -1,0 +1,22 @@
+use Rattle.std.proofs.Common.{◌≡◌, ◌+◌, ◌-◌, ◌*◌, ◌≤◌, List, [], length}
+use Rattle.plan_box.specs.Frames.{frame_of}
+use Rattle.box_bound.specs.Leastings.{IsOf}
+use Rattle.box_levels.specs.Events.{Event}
+use Rattle.box_ring.specs.Arms.{frame, Stays}
+use Rattle.box_workers.specs.Works.{Worked, Traffic}
+use Rattle.box_workers.specs.inner.Rounds.{AreFew}
+use Rattle.box_workers.proofs.working.work.Given as goal
+
+abbrev pub invariant-loop-alloc : goal.invariant-loop-alloc
+invariant-loop-alloc g l = record {
+  runs : (es : List Event) × Worked l.instance l.shared l.fn.seat l.seat l.fn.hand l.hand es [] × AreFew l.shared.budget es × Traffic l.starts l.fn.arm l.arm es [];
+  left : l.hand.left.items ≡ l.fn.hand.left.items;
+  room : 1 ≤ l.hand.left.spare;
+  leasts : IsOf l.instance l.hand.leasts;
+  scratch : length l.hand.scratch.steps.items ≡ length l.instance.items;
+  ring : frame l.arm ≡ frame_of l.instance;
+  stays : Stays l.fn.arm l.arm;
+}
+
+abbrev pub decreases-loop-alloc : goal.decreases-loop-alloc
+decreases-loop-alloc g l = 100001 * l.seat.view.allowance + (100000 - l.arm.misses)
