@@ -4,6 +4,14 @@ pub mod Steps
 pub mod Progress
 pub mod Worked
 pub mod Traffic
-pub mod Outcome
+pub mod Teamwork
 pub mod Tickets
 pub mod Accounts
+pub mod Members
+pub mod Enlisted
+pub mod Drains
+pub mod Collected
+pub mod Dealt
+pub mod Rings
+pub mod Stages
+pub mod Outcome

@@ -1,12 +1,10 @@
--- The history of a search by one worker is lawful, and its seat shows it.
-use Rattle.std.proofs.Common.{◌≡◌, ℕ, ◌+◌, ◌-◌, ◌/◌, ◌<◌, ◌≤◌, inl, inr, Bool, true, false, cond, nat_lt, List, [], ◌∷◌, ◌++◌, length, length-append, append-nil, map, min, refl, sym, ap, ◌∙◌, subst, arith, All}
+-- The history of a search is lawful, and its seat shows it.
+use Rattle.std.proofs.Common.{◌≡◌, ℕ, ◌+◌, ◌-◌, ◌/◌, ◌<◌, ◌≤◌, inr, Bool, true, false, cond, nat_lt, List, [], ◌++◌, length, append-nil, map, min, refl, sym, ap, ◌∙◌, subst, arith, All}
 use Rattle.std.specs.Prelude.{sum_by, Option, Some, None}
 use Rattle.std.specs.List.{Contains}
 use Rattle.std.proofs.lemmas.List.{length-map}
 use Rattle.std.proofs.lemmas.Nat.{mul-le}
 use Rattle.std.proofs.lemmas.Bool.Decides.{nat_tests}
-use Rattle.std.proofs.lemmas.List.Elements.{All-cons, All-nil, All-same}
-use Rattle.std.proofs.lemmas.List.Sums.{sum_by-append}
 use Rattle.glass_base.specs.Plates.{Before}
 use Rattle.glass_base.specs.Problem.{Problem, IsProblem}
 use Rattle.glass_base.proofs.PlateLemmas.{before_within}
@@ -23,24 +21,26 @@ use Rattle.cert_log.specs.declared.history.Left.{Left}
 use Rattle.cert_log.specs.declared.history.Note.{Note}
 use Rattle.cert_log.specs.declared.history.History.{History}
 use Rattle.cert_log.specs.Good.{Reaches}
-use Rattle.cert_log.specs.Lawful.{no_loss, loss_of, numbered, times, once_below, IsBest, IsLawful, Handled}
-use Rattle.cert_log.proofs.Members.{first_or_later, contains_none}
+use Rattle.cert_log.specs.Lawful.{no_loss, loss_of, numbered, once_below, IsBest, IsLawful, Handled}
 use Rattle.box_levels.specs.Events.{Event, note_of, tickets_of, SplitsFree}
 use Rattle.box_levels.proofs.Counts.{sum_map}
+use Rattle.box_levels.proofs.Sames.{test_of}
 use Rattle.shared_best.specs.declared.view.View.{View}
 use Rattle.shared_best.specs.Seats.{Words, Seated}
-use Rattle.shared_best.specs.Words.{IsWhole, Settles, kept_half, new_half, newcomer, joined, none_known, seat_view}
-use Rattle.shared_best.proofs.Counts.{times-append}
+use Rattle.shared_best.specs.Words.{IsWhole, Settles, share, kept_half, new_half, newcomer, joined, none_known, seat_view}
 use Rattle.box_workers.specs.declared.hand.Hand.{Hand}
 use Rattle.box_workers.specs.Handling.{IsAct}
-use Rattle.box_workers.specs.Runs.{first_loss, least_loss, IsHandled, AreHandled, AreSeen, AreReached, Within, Shows, course_of}
+use Rattle.box_workers.specs.Runs.{first_loss, least_loss, AreHandled, AreSeen, AreReached, IsAlone, Within, Shows, course_of}
 use Rattle.box_workers.specs.Works.{Worked}
 use Rattle.box_workers.specs.inner.Hands.{IsFresh}
-use Rattle.box_workers.specs.inner.Rounds.{IsSpent, HasRun, HasEnded}
+use Rattle.box_workers.specs.inner.Rounds.{HasEnded}
+use Rattle.box_workers.specs.inner.Teamwork.{Stands, HaveBounds, IsTeamwork, IsStage, HasBegun}
 use Rattle.box_workers.specs.Histories.{left_boxes, IsRight, IsAccount, IsHistory}
 use Rattle.box_workers.proofs.Accounts.{accounts_are_lawful}
-use Rattle.box_workers.proofs.Lists.{empty}
+use Rattle.box_workers.proofs.Lists.{ones, empty}
 use Rattle.box_workers.proofs.Progress.{all_sum, least_low}
+use Rattle.box_workers.proofs.Collected.{kept_share}
+use Rattle.box_workers.proofs.Stages.{stage_ended, none_left}
 
 -- a seat that was split and joined again
 pub joined_again : (v : View) → v.announced ≤ none_known → joined (kept_half v) (new_half v) ≡ v
@@ -72,15 +72,6 @@ reaches threshold n low small = by_test (nat_lt threshold no_loss) refl
     by_test true q = low
     by_test false q = absurd (let l = of_false threshold no_loss q in omega arith)
 
--- each box was handled where the hand had some loss
-handled_at : (b : Problem) (w : Words) (loss : ℕ) (es : List Event) (e : Event) → AreHandled b w loss es → Contains es e → (l : ℕ) × IsHandled b w l e × (least_loss loss es ≤ min l e.probed)
-handled_at b w loss [] e all at = absurd (contains_none e at)
-handled_at b w loss (d ∷ es) e all at =
-    elim (first_or_later d es e at) [
-      | inl is ↦ (loss, subst (IsHandled b w loss) is all.0, (let l = least_low (min loss d.probed) es in let p = ap (λ (z : Event). z.probed) is in omega arith))
-      | inr later ↦ handled_at b w (min loss d.probed) es e all.1 later
-    ]
-
 splits_free : (b : Problem) (rs : List Ranges) (seen loss : ℕ) (a : Act) → IsAct b rs seen loss a → SplitsFree rs a
 splits_free b rs seen loss (Act.Split step v) is = is.2
 splits_free b rs seen loss (Act.Closed threshold cause) is = tt
@@ -100,68 +91,29 @@ act_within b rs seen loss (Act.Closed threshold (Cause.Reason r)) is = let t = i
 act_within b rs seen loss (Act.Closed threshold Cause.Bound) is = let t = is.0 in omega arith
 act_within b rs seen loss (Act.Closed threshold Cause.Unsaid) is = absurd is
 
--- what a worker did is right by each loss that is at most what its seat has seen at last, and at most its hand's loss
-pub worked_is_right : (b : Problem) (boxes : List PlainBox) (w : Words) (s t : Seated) (k l : Hand) (es : List Event) (spent : List ℕ) (best : ℕ) → IsProblem b → Worked b w s t k l es spent → best ≤ t.view.seen → best ≤ l.loss
-    → (e : Event) → Contains es e → IsRight b (course_of boxes w) best e
-worked_is_right b boxes w s t k l es spent best rules r low_seen low_loss e at =
-    let g = handled_at b w k.loss es e r.handled at in let d = g.1 in let i = r.between e at in let f = i.later in let q = g.2 in let o = r.loss in record {
+-- what stands is right by each loss that is at most what was seen, and at most its worker's loss
+stands_right : (b : Problem) (boxes : List PlainBox) (w : Words) (lowest best low : ℕ) (e : Event) → IsProblem b → Stands b w lowest best e → low ≤ lowest → low ≤ best → IsRight b (course_of boxes w) low e
+stands_right b boxes w lowest best low e rules s low_seen low_loss =
+    let d = s.handled in let f = s.seen in let q = s.least in record {
       valid = d.valid;
-      free = splits_free b e.box.ranges e.seen (min g.0 e.probed) e.act d.act;
+      free = splits_free b e.box.ranges e.seen (min s.loss e.probed) e.act d.act;
       in_budget = d.in_budget;
-      right = right_of b w.first best e.seen (min g.0 e.probed) e.box.ranges e.act rules (omega arith) (omega arith) i.first d.act;
+      right = right_of b w.first low e.seen (min s.loss e.probed) e.box.ranges e.act rules (omega arith) (omega arith) s.first d.act;
     }
 
 count : (es : List Event) → length (tickets_of es) ≡ length es
 count es = length-map es (λ (e : Event). e.ticket)
 
-beyond : (budget : ℕ) (waiting : List PlainBox) (spent : List ℕ) → IsSpent budget waiting spent → All (λ t. budget ≤ t) spent
-beyond budget waiting spent (inl none) = All-same (λ t. budget ≤ t) spent [] none.0 (All-nil (λ t. budget ≤ t))
-beyond budget waiting spent (inr some) = All-same (λ t. budget ≤ t) spent (some.0 ∷ []) some.1 (All-cons (λ t. budget ≤ t) some.0 [] some.2 (All-nil (λ t. budget ≤ t)))
-
-none_waits : (budget : ℕ) (waiting : List PlainBox) (spent : List ℕ) → IsSpent budget waiting spent → spent ≡ [] → waiting ≡ []
-none_waits budget waiting spent (inl none) is = none.1
-none_waits budget waiting spent (inr some) is = absurd (let e = ap (λ (l : List ℕ). length l) (sym some.1 ∙ is) in omega arith)
-
--- a search by one worker, whose seat is the first one and whose hand is new
+-- what one worker alone did, whose seat is the first one and whose hand is new
 module _ (b : Problem) (w : Words) (starts : ℕ) (boxes : List PlainBox) (s t : Seated) (k l : Hand) (waiting : List PlainBox) (ended : HasEnded b w starts boxes s t k l waiting) (new : s.view ≡ newcomer w.first) (fresh : IsFresh b k) where
   abbrev es : List Event
   es = ended.events
 
-  abbrev spent : List ℕ
-  spent = ended.spent
-
-  abbrev r : Worked b w s t k l es spent
+  abbrev r : Worked b w s t k l es ended.spent
   r = ended.run.worked
-
-  tickets_are : t.view.tickets ≡ tickets_of es ++ spent
-  tickets_are = r.tickets ∙ ap (λ (v : View). v.tickets ++ (tickets_of es ++ spent)) new
-
-  looks_are : t.view.looks ≡ map (λ (e : Event). (e.ticket, e.seen)) es
-  looks_are = r.looks ∙ ap (λ (v : View). v.looks ++ map (λ (e : Event). (e.ticket, e.seen)) es) new
-
-  loss_is : l.loss ≡ least_loss no_loss es
-  loss_is = r.loss ∙ ap (λ (n : ℕ). least_loss n es) fresh.loss
-
-  announced_is : t.view.announced ≡ least_loss no_loss es
-  announced_is = let f = fresh.loss in let i = loss_is in let n = ap (λ (v : View). v.announced) new in elim r.better [ inl more ↦ (let a = more.0 in let c = more.2 in omega arith) | inr same ↦ (let a = same.0 in let c = same.2 in omega arith) ]
-
-  log_is : l.log.items ≡ map note_of es
-  log_is = r.log ∙ ap (λ (ns : List Note). ns ++ map note_of es) fresh.log
-
-  pub small_announced : t.view.announced ≤ none_known
-  small_announced = let a = announced_is in let i = least_low no_loss es in omega arith
-
-  pub plan_is : IsBest b l.loss l.plan
-  plan_is = elim r.better [ inl more ↦ subst (IsBest b l.loss) (sym more.1.1) more.1.2 | inr same ↦ subst (IsBest b l.loss) (sym (same.1 ∙ fresh.plan)) (same.0 ∙ fresh.loss) ]
-
-  handled_all : AreHandled b w no_loss es
-  handled_all = subst (λ (n : ℕ). AreHandled b w n es) fresh.loss r.handled
 
   was_whole : IsWhole s.view
   was_whole = subst (λ (v : View). IsWhole v) (sym new) refl
-
-  is_whole : IsWhole t.view
-  is_whole = let m = ap (λ (ts : List ℕ). length ts) tickets_are in let a = length-append (tickets_of es) spent in let c = count es in let q = r.allowance in let n = ap (λ (v : View). v.allowance) new in omega arith
 
   exact_from : w.first ≤ no_loss → AreSeen w.first es × AreReached b w.first es
   exact_from small =
@@ -169,39 +121,38 @@ module _ (b : Problem) (w : Words) (starts : ℕ) (boxes : List PlainBox) (s t :
       let is : min w.first s.view.announced ≡ w.first = omega arith in
       subst (λ (z : ℕ). AreSeen z es × AreReached b z es) is (r.exact was_whole (omega arith))
 
-module _ (b : Problem) (w : Words) (boxes : List PlainBox) (s0 s t : Seated) (k0 k : Hand) (waiting : List PlainBox) (first : Option Trace) (h : History) (rules : IsProblem b) (ended : HasEnded b w h.starts boxes s0 s k0 k waiting)
-    (new : s0.view ≡ newcomer w.first) (fresh : IsFresh b k0) (same : t ≡ s) (settles : IsWhole t.view → Settles t.view) (starts : h.starts ≡ length boxes) (ids : numbered 0 boxes) (of_instance : All (λ (x : PlainBox). x.frame ≡ frame_of b) boxes) (log : h.log ≡ k.log)
-    (weighs : (weight : PlainBox → ℕ) → sum_by (λ (l : Left). weight l.bx) h.left.items ≡ sum_by weight waiting) (bounds : All (λ (l : Left). l.bound ≡ bound b l.bx.ranges) h.left.items) (plan : IsBest b h.best h.plan)
+  pub alone : w.first ≤ no_loss → IsAlone b w t.view es ended.spent
+  alone small =
+      let x = exact_from small in record {
+        handled = subst (λ (n : ℕ). AreHandled b w n es) fresh.loss r.handled;
+        seen = x.0;
+        reached = x.1;
+        rising = r.rising;
+        tickets = r.tickets ∙ ap (λ (v : View). v.tickets ++ (tickets_of es ++ ended.spent)) new;
+        looks = r.looks ∙ ap (λ (v : View). v.looks ++ map (λ (e : Event). (e.ticket, e.seen)) es) new;
+      }
+
+-- what all did, once the seat has settled
+module _ (b : Problem) (w : Words) (boxes : List PlainBox) (v : View) (k : Hand) (events : List Event) (vain : List ℕ) (waiting : List PlainBox) (first : Option Trace) (h : History) (rules : IsProblem b) (stage : IsStage b w h.starts boxes v k events vain waiting)
+    (none : vain ≡ [] → waiting ≡ []) (settled : Settles v) (of_first : v.first ≡ w.first) (starts : h.starts ≡ length boxes) (ids : numbered 0 boxes) (of_instance : All (λ (x : PlainBox). x.frame ≡ frame_of b) boxes) (log : h.log ≡ k.log)
+    (weighs : (weight : PlainBox → ℕ) → sum_by (λ (l : Left). weight l.bx) h.left.items ≡ sum_by (λ (l : Left). weight l.bx) k.left.items + sum_by weight waiting) (bounds : HaveBounds b h.left.items) (plan : IsBest b h.best h.plan)
     (first_is : w.first ≡ first_loss b first) (small : first_loss b first ≤ no_loss) (best : h.best ≡ min (first_loss b first) k.loss) where
-  abbrev events : List Event
-  events = ended.events
-
-  abbrev vain : List ℕ
-  vain = ended.spent
-
-  abbrev run : HasRun b w h.starts boxes s0 s k0 k waiting events vain
-  run = ended.run
-
-  drew : s.view.tickets ≡ tickets_of events ++ vain
-  drew = tickets_are b w h.starts boxes s0 s k0 k waiting ended new fresh
-
-  announced : s.view.announced ≡ least_loss no_loss events
-  announced = announced_is b w h.starts boxes s0 s k0 k waiting ended new fresh
-
-  loss : k.loss ≡ least_loss no_loss events
-  loss = loss_is b w h.starts boxes s0 s k0 k waiting ended new fresh
-
-  handled : AreHandled b w no_loss events
-  handled = handled_all b w h.starts boxes s0 s k0 k waiting ended new fresh
-
-  settled : Settles s.view
-  settled = subst (λ (u : Seated). Settles u.view) same (settles (subst (λ (u : Seated). IsWhole u.view) (sym same) (is_whole b w h.starts boxes s0 s k0 k waiting ended new fresh)))
+  abbrev team : IsTeamwork b w v k events vain
+  team = stage.teamwork
 
   best_is : h.best ≡ min w.first (least_loss no_loss events)
-  best_is = let f = first_is in let l = loss in let i = best in omega arith
+  best_is = let f = first_is in let l = team.loss in let i = best in omega arith
 
   log_all : h.log.items ≡ map note_of events
-  log_all = ap (λ (l : Listed Note). l.items) log ∙ log_is b w h.starts boxes s0 s k0 k waiting ended new fresh
+  log_all = ap (λ (l : Listed Note). l.items) log ∙ team.log
+
+  right : (e : Event) → Contains events e → IsRight b (course_of boxes w) h.best e
+  right e at =
+      stands_right b boxes w v.seen k.loss h.best e rules (team.each e at) (let q = settled.seen in let a = team.announced in let f = first_is in let i = best in let o = of_first in omega arith)
+      (let i = best in omega arith)
+
+  drawn : length v.tickets ≡ length events + length vain
+  drawn = let t = team.tickets (λ (_ : ℕ). 1) in let a = ones v.tickets in let c = ones (tickets_of events) in let d = ones vain in let m = count events in omega arith
 
   account : IsAccount b (course_of boxes w) h events vain
   account = record {
@@ -209,13 +160,14 @@ module _ (b : Problem) (w : Words) (boxes : List PlainBox) (s0 s t : Seated) (k0
     starts = starts;
     ids = ids;
     log = log_all;
-    right = worked_is_right b boxes w s0 s k0 k events vain h.best rules run.worked (let q = settled.seen in let a = announced in let f = run.worked.seat.1 in let i = best_is in omega arith) (let l = loss in let i = best_is in omega arith);
-    tickets = λ x. (
-        let q = subst (λ (l : List ℕ). times x l ≡ once_below x (length l)) drew (settled.tickets x) in let a = times-append x (tickets_of events) vain in
-        let n : length (tickets_of events ++ vain) ≡ length events + length vain = (let m = length-append (tickets_of events) vain in let c = count events in omega arith) in let o = ap (once_below x) n in omega arith);
-    beyond = beyond w.budget waiting vain ended.is_spent;
-    emptied = λ none. empty h.left.items (let q = weighs (λ (_ : PlainBox). 1) in let z = ap (sum_by (λ (_ : PlainBox). 1)) (none_waits w.budget waiting vain ended.is_spent none) in omega arith);
-    weighs = λ g. (let q = run.weighs g in let a = all_sum g events waiting in let c = all_sum g events (left_boxes h.left.items) in let l = weighs g in let m = sum_map (λ (l : Left). l.bx) g h.left.items in omega arith);
+    right = right;
+    tickets = λ x. (sym (team.tickets (λ (t : ℕ). test_of t x)) ∙ settled.tickets x ∙ ap (once_below x) drawn);
+    beyond = team.beyond;
+    emptied = λ no_ticket. empty h.left.items (
+        let q = weighs (λ (_ : PlainBox). 1) in let a = ap (λ (ls : List Left). sum_by (λ (_ : Left). 1) ls) (team.emptied no_ticket) in let z = ap (sum_by (λ (_ : PlainBox). 1)) (none no_ticket) in omega arith);
+    weighs = λ g. (
+        let q = stage.weighs g in let a = all_sum g events (left_boxes k.left.items) in let c = all_sum g events (left_boxes h.left.items) in let l = weighs g in
+        let m = sum_map (λ (l : Left). l.bx) g h.left.items in let n = sum_map (λ (l : Left). l.bx) g k.left.items in omega arith);
     bounds = bounds;
     plan = plan;
     best = (let i = best_is in omega arith);
@@ -224,36 +176,72 @@ module _ (b : Problem) (w : Words) (boxes : List PlainBox) (s0 s t : Seated) (k0
   history : IsHistory b (course_of boxes w) h events
   history = accounts_are_lawful b (course_of boxes w) h events vain account
 
-  pub lawful : IsLawful b (course_of boxes w) h
-  lawful = history.lawful
-
-  at_some : (e : Event) → Contains events e → (l : ℕ) × IsHandled b w l e × (least_loss no_loss events ≤ min l e.probed)
-  at_some e at = handled_at b w no_loss events e handled at
-
-  shown : (workers : ℕ) → Shows b w boxes workers s.view h
-  shown workers = record {
+  shown : (workers : ℕ) → (workers ≡ 1 → IsAlone b w v events vain) → Shows b w boxes workers v h
+  shown workers one = record {
     events = events;
     log = log_all;
     placed = history.placed;
-    valid = λ e at. (at_some e at).1.valid;
-    probed = λ e at. (at_some e at).1.probed;
+    valid = λ e at. (team.each e at).handled.valid;
+    probed = λ e at. (team.each e at).handled.probed;
     spent = vain;
-    beyond = beyond w.budget waiting vain ended.is_spent;
-    tickets = λ weight. (ap (sum_by weight) drew ∙ sum_by-append weight (tickets_of events) vain);
-    in_budget = λ e at. (at_some e at).1.in_budget;
-    looks = λ weight. (ap (sum_by weight) (looks_are b w h.starts boxes s0 s k0 k waiting ended new fresh) ∙ sum_map (λ (e : Event). (e.ticket, e.seen)) weight events);
-    within = λ e at. (let d = (at_some e at).1 in act_within b e.box.ranges e.seen _ e.act d.act);
-    announced = announced;
+    beyond = team.beyond;
+    tickets = team.tickets;
+    in_budget = λ e at. (team.each e at).handled.in_budget;
+    looks = team.looks;
+    within = λ e at. (let d = (team.each e at).handled in act_within b e.box.ranges e.seen _ e.act d.act);
+    announced = team.announced ∙ team.loss;
     best = best_is;
-    alone = λ _. (let x = exact_from b w h.starts boxes s0 s k0 k waiting ended new fresh (let f = first_is in let l = small in omega arith) in record {
-      handled = handled;
-      seen = x.0;
-      reached = x.1;
-      rising = run.worked.rising;
-      tickets = drew;
-      looks = looks_are b w h.starts boxes s0 s k0 k waiting ended new fresh;
-    });
+    alone = one;
   }
 
-  pub shows : (workers : ℕ) → Shows b w boxes workers t.view h
-  shows workers = subst (λ (u : Seated). Shows b w boxes workers u.view h) (sym same) (shown workers)
+-- a search, from its new seat and its new hand on
+module _ (b : Problem) (w : Words) (starts : ℕ) (boxes : List PlainBox) (workers : ℕ) (s0 s s' : Seated) (k0 k k' : Hand) (before waiting : List PlainBox) (begun : HasBegun b w starts boxes workers s0 s k0 k before)
+    (ended : HasEnded b w starts before s s' k k' waiting) where
+  abbrev events : List Event
+  events = begun.events ++ ended.events
+
+  abbrev vain : List ℕ
+  vain = begun.spent ++ ended.spent
+
+  stage : IsStage b w starts boxes s'.view k' events vain waiting
+  stage = stage_ended b w starts boxes before waiting s s' k k' begun.events begun.spent begun.stage ended
+
+  pub small_announced : s'.view.announced ≤ none_known
+  small_announced = let t = stage.teamwork in let a = t.announced in let l = t.loss in let i = least_low no_loss events in omega arith
+
+  module _ (new : s0.view ≡ newcomer w.first) where
+    pub is_whole : IsWhole s'.view
+    is_whole = kept_share b w s s' k k' ended.events ended.spent ended.run.worked ∙ begun.share_is ∙ ap (λ (v : View). share v) new
+
+    module _ (fresh : IsFresh b k0) (small : w.first ≤ no_loss) where
+      pub one_alone : workers ≡ 1 → IsAlone b w s'.view events vain
+      one_alone one =
+          let o = begun.one one in
+          subst (λ (es : List Event). IsAlone b w s'.view (es ++ ended.events) vain) (sym o.0)
+          (subst (λ (ts : List ℕ). IsAlone b w s'.view ended.events (ts ++ ended.spent)) (sym o.1)
+          (alone b w starts before s s' k k' waiting ended (ap (λ (u : Seated). u.view) o.2 ∙ new) (subst (IsFresh b) (sym o.3) fresh) small))
+
+module _ (b : Problem) (w : Words) (boxes : List PlainBox) (workers : ℕ) (s0 s s' t : Seated) (k0 k k' : Hand) (before waiting : List PlainBox) (first : Option Trace) (h : History) (rules : IsProblem b) (begun : HasBegun b w h.starts boxes workers s0 s k0 k before)
+    (ended : HasEnded b w h.starts before s s' k k' waiting) (new : s0.view ≡ newcomer w.first) (fresh : IsFresh b k0) (same : t ≡ s') (settles : IsWhole t.view → Settles t.view) (starts : h.starts ≡ length boxes) (ids : numbered 0 boxes) (of_instance : All (λ (x : PlainBox). x.frame ≡ frame_of b) boxes) (log : h.log ≡ k'.log)
+    (weighs : (weight : PlainBox → ℕ) → sum_by (λ (l : Left). weight l.bx) h.left.items ≡ sum_by (λ (l : Left). weight l.bx) k'.left.items + sum_by weight waiting) (bounds : HaveBounds b h.left.items) (plan : IsBest b h.best h.plan)
+    (first_is : w.first ≡ first_loss b first) (small : first_loss b first ≤ no_loss) (best : h.best ≡ min (first_loss b first) k'.loss) where
+  whole : IsWhole s'.view
+  whole = is_whole b w h.starts boxes workers s0 s s' k0 k k' before waiting begun ended new
+
+  settled : Settles s'.view
+  settled = subst (λ (u : Seated). Settles u.view) same (settles (subst (λ (u : Seated). IsWhole u.view) (sym same) whole))
+
+  at_last : IsStage b w h.starts boxes s'.view k' (begun.events ++ ended.events) (begun.spent ++ ended.spent) waiting
+  at_last = stage_ended b w h.starts boxes before waiting s s' k k' begun.events begun.spent begun.stage ended
+
+  spent_all : begun.spent ++ ended.spent ≡ [] → waiting ≡ []
+  spent_all = none_left b w h.starts boxes before waiting s s' k k' begun.events begun.spent begun.stage ended
+
+  pub lawful : IsLawful b (course_of boxes w) h
+  lawful = (history b w boxes s'.view k' (begun.events ++ ended.events) (begun.spent ++ ended.spent) waiting first h rules at_last spent_all settled ended.run.worked.seat.1 starts ids of_instance log weighs bounds plan first_is small best).lawful
+
+  pub shows : Shows b w boxes workers t.view h
+  shows =
+      subst (λ (u : Seated). Shows b w boxes workers u.view h) (sym same)
+      (shown b w boxes s'.view k' (begun.events ++ ended.events) (begun.spent ++ ended.spent) waiting first h rules at_last spent_all settled ended.run.worked.seat.1 starts ids of_instance log weighs bounds plan first_is small best workers
+      (one_alone b w h.starts boxes workers s0 s s' k0 k k' before waiting begun ended new fresh (let f = first_is in let l = small in omega arith)))

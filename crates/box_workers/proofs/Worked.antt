@@ -7,12 +7,14 @@ use Rattle.std.proofs.lemmas.List.Elements.{Contains-append_cases}
 use Rattle.std.proofs.lemmas.List.Sums.{sum_by_push}
 use Rattle.std.proofs.lemmas.Bool.Decides.{nat_tests}
 use Rattle.glass_base.specs.Problem.{Problem}
+use Rattle.glass_base.specs.Run.{Listed}
 use Rattle.cut_model.specs.declared.steps.Trace.{Trace}
 use Rattle.plan_box.specs.Frames.{frame_of}
 use Rattle.plan_box.specs.Ranges.{Ranges, PlainBox, IsBox}
 use Rattle.box_bound.specs.Leastings.{IsOf}
 use Rattle.cert_log.specs.declared.history.Act.{Act}
 use Rattle.cert_log.specs.declared.history.Cause.{Cause}
+use Rattle.cert_log.specs.declared.history.Left.{Left}
 use Rattle.cert_log.specs.declared.history.Note.{Note}
 use Rattle.cert_log.specs.Lawful.{no_loss, times, trace_loss}
 use Rattle.cert_log.proofs.Members.{times-append, first_or_later, contains_none}
@@ -41,7 +43,7 @@ reached_push b m [] e all last = (last, tt)
 reached_push b m (d ∷ es) e all last = (all.0, reached_push b (min m d.probed) es e all.1 last)
 
 -- the least of a lesser loss
-least_min : (a c : ℕ) (es : List Event) → a ≤ c → least_loss a es ≡ min a (least_loss c es)
+pub least_min : (a c : ℕ) (es : List Event) → a ≤ c → least_loss a es ≡ min a (least_loss c es)
 least_min a c [] h = omega arith
 least_min a c (e ∷ es) h = let i = least_min (min a e.probed) (min c e.probed) es (omega arith) in let l = least_low (min c e.probed) es in omega arith
 
@@ -257,6 +259,7 @@ module _ (b : Problem) (w : Words) (starts : ℕ) (boxes : List PlainBox) (s t u
   turned after q small of frames =
       let e = q.event in let h = q.handles in record {
         worked = worked_more b w s t u k l m es r.worked x e h small of seat some;
+        left = ap (λ (ls : Listed Left). ls.items) h.left ∙ r.left;
         few = few_push w.budget es e r.few (new_tickets b w s t u k l m es r.worked x e h small) h.look.in_budget;
         scratch = scratch;
         leasts = leasts;
@@ -269,6 +272,7 @@ module _ (b : Problem) (w : Words) (starts : ℕ) (boxes : List PlainBox) (s t u
   ran_out : (p : Spends w t u l m) → HasRun b w starts boxes s u k m (ws ++ x ∷ []) es (p.ticket ∷ [])
   ran_out p = record {
     worked = worked_spent b w s t u k l m es r.worked p.ticket p.seat (like_idle l m p.idle) seat some;
+    left = ap (λ (ls : Listed Left). ls.items) p.idle.left ∙ r.left;
     few = r.few;
     scratch = scratch;
     leasts = leasts;

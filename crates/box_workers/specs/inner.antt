@@ -1,3 +1,7 @@
 pub mod Hands
 pub mod Deciding
 pub mod Rounds
+pub mod Members
+pub mod Enlisting
+pub mod Teamwork
+pub mod Dealing

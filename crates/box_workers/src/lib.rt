@@ -1,16 +1,25 @@
 //! The handling of boxes by a worker, and the search.
 #![tactic(auto)]
 
+mod collecting;
+mod dealing;
+mod draining;
+mod enlisting;
 pub mod gate;
 pub mod hand;
 pub mod handling;
 pub mod laws;
+mod member;
+pub mod patient_gate;
 mod running;
 pub mod searching;
+mod spreading;
+mod teaming;
 pub mod working;
 
 pub use gate::{Gate, OpenGate};
 pub use hand::Hand;
 pub use handling::{Done, handle};
+pub use patient_gate::PatientGate;
 pub use searching::search;
 pub use working::{Rest, work};

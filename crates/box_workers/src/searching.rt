@@ -1,6 +1,5 @@
 //! The search.
-ghost use Rattle.std.specs.Prelude.{◌≡◌, ℕ, ◌≤◌, All, length, min, sum_by, OnOk, IfOk};
-ghost use Rattle.plan_box.specs.Bounds.{bound as bound_of};
+ghost use Rattle.std.specs.Prelude.{◌≡◌, ℕ, ◌+◌, ◌≤◌, All, length, min, sum_by, OnOk, IfOk};
 ghost use Rattle.plan_box.specs.Frames.{frame_of};
 ghost use Rattle.plan_box.specs.Ranges.{PlainBox};
 ghost use Rattle.box_bound.specs.Leastings.{IsOf};
@@ -9,10 +8,12 @@ ghost use Rattle.cert_log.specs.Lawful.{IsBest, IsLawful, numbered, no_loss};
 ghost use Rattle.shared_best.specs.Seats.{IsSeatOf};
 ghost use Rattle.shared_best.specs.Words.{newcomer, none_known, IsWhole, Settles};
 ghost use Rattle.box_workers.specs.Runs.{IsFirst, first_loss, Shows, course_of};
+ghost use Rattle.box_workers.specs.inner.Teamwork.{HaveBounds};
 
 use crate::gate::Gate;
 use crate::hand::Hand;
 use crate::running::run;
+use crate::spreading::spread;
 use box_bound::{Leasts, bound_at};
 use cert_log::{History, Left, trace_loss};
 use cut_model::Trace;
@@ -35,21 +36,22 @@ fn settle(shared: &SharedBest, seat: &mut Seat)
     shared.join_seat(seat, other);
 }
 
-/// The boxes that wait, each with its bound.
+/// The boxes that were left open, and those that wait, each with its bound.
 fn leave(
-    alloc: Global,
     instance: &Instance,
     leasts: Leasts,
+    left: Run<Left>,
     waiting: Run<PlanBox>,
 ) -> Result<Run<Left>, Memory>
     requires leasts { IsOf instance.now leasts }
+    requires bounds { HaveBounds instance.now left.items }
     requires frames { All (λ (x : PlainBox). x.frame ≡ frame_of instance.now) waiting.items }
-    ensures weighs { IfOk result (λ left. (weight : PlainBox → ℕ) → sum_by (λ (l : LeftBox). weight l.bx) left.items ≡ sum_by weight waiting.items) }
-    ensures bounds { IfOk result (λ left. All (λ (l : LeftBox). l.bound ≡ bound_of instance.now l.bx.ranges) left.items) }
+    ensures weighs { IfOk result (λ all. (weight : PlainBox → ℕ) → sum_by (λ (l : LeftBox). weight l.bx) all.items ≡ sum_by (λ (l : LeftBox). weight l.bx) left.items + sum_by weight waiting.items) }
+    ensures bounds { IfOk result (λ all. HaveBounds instance.now all.items) }
 {
     let mut leasts = leasts;
+    let mut left = left;
     let mut waiting = waiting;
-    let mut left = Run::new(alloc);
     while let Some(bx) = waiting.pop() {
         leasts.fill(instance, &bx);
         let bound = bound_at(instance, &leasts, &bx);
@@ -87,12 +89,14 @@ fn better(
 /// Handles boxes, from the start boxes on, until none is left or the budget is spent; the boxes that then wait are left open.
 ///
 /// The start boxes are of this instance and numbered from 0 on, and `first` is a complete trace, if a plan is known; the words have its
-/// loss, or `NONE`, as their first value, and the seat is their first one. The budget is how many boxes may be handled. So far one worker,
-/// number 0, handles all boxes, whatever `workers` is.
+/// loss, or `NONE`, as their first value, and the seat is their first one. The budget is how many boxes may be handled.
 ///
-/// Only want of memory is refused.
+/// Several workers, each in a thread of its own where one can be made, handle boxes of their own and of one another until each of them
+/// rests. The caller handles what they leave. One worker alone is the caller, with the number 0.
+///
+/// Only want of memory is refused. It may wait for another thread, which is at the same deque.
 pub fn search<R: Threads + Wait + Sync, G: Gate + Sync>(
-    _rt: &R,
+    rt: &R,
     alloc: Global,
     instance: &Instance,
     map: &DefectMap,
@@ -121,7 +125,9 @@ pub fn search<R: Threads + Wait + Sync, G: Gate + Sync>(
     let _params = instance.params();
     let starts = start.len() as u64;
     let mut hand = Hand::new(alloc, instance, 0)?;
-    let mut waiting = start;
+    let mut waiting = spread(
+        rt, alloc, instance, map, start, workers, shared, seat, &mut hand, gate,
+    )?;
     run(
         alloc,
         instance,
@@ -137,14 +143,14 @@ pub fn search<R: Threads + Wait + Sync, G: Gate + Sync>(
     let Hand {
         worker: _,
         log,
-        left: _,
+        left,
         plan,
         loss,
         scratch: _,
         spare: _,
         leasts,
     } = hand;
-    let left = leave(alloc, instance, leasts, waiting)?;
+    let left = leave(instance, leasts, left, waiting)?;
     let (plan, best) = better(instance, plan, loss, first);
     Ok(History {
         starts,

@@ -8,7 +8,7 @@ ghost use Rattle.glass_run.specs.Runs.{world};
 
 use crate::run::glass;
 use crate::status::Status;
-use box_workers::OpenGate;
+use box_workers::PatientGate;
 use glass_io::{Files, Sink, StdFiles, StdSink};
 use std::alloc::Global;
 use std::env::Env;
@@ -29,11 +29,12 @@ pub fn exit_code<R: Threads + Wait + Sync, F: Files, S: Sink>(
     ensures given { IfOk words (λ given. Exits (line_of (map string_bytes given.items)) (world (F.shelf files.old) (S.paper out.old)) (world (F.shelf files.new) (S.paper out.new)) result) }
     ensures wrong { IfErr words (λ _. Exits (line_of []) (world (F.shelf files.old) (S.paper out.old)) (world (F.shelf files.new) (S.paper out.new)) result) }
 {
+    let gate = PatientGate::new();
     let status = match words {
-        Ok(words) => glass(rt, alloc, words.as_slice(), files, out, &OpenGate),
+        Ok(words) => glass(rt, alloc, words.as_slice(), files, out, &gate),
         Err(e) => match e.kind() {
             ErrorKind::OutOfMemory => Status::Memory,
-            _ => glass(rt, alloc, &[], files, out, &OpenGate),
+            _ => glass(rt, alloc, &[], files, out, &gate),
         },
     };
     status.code()

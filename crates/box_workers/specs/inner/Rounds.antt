@@ -25,6 +25,7 @@ IsSpent budget waiting spent = ((spent ≡ []) × (waiting ≡ [])) ⊎ ((ticket
 -- a worker over a list of boxes so far: what it did, and what waits
 pub record HasRun (b : Problem) (w : Words) (starts : ℕ) (boxes : List PlainBox) (s t : Seated) (old new : Hand) (waiting : List PlainBox) (es : List Event) (spent : List ℕ) : Type 0 where
   pub worked : Worked b w s t old new es spent
+  pub left : new.left.items ≡ old.left.items
   pub few : AreFew w.budget es
   pub scratch : length new.scratch.steps.items ≡ length b.items
   pub leasts : IsOf b new.leasts

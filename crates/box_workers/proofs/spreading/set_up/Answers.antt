@@ -1,0 +1,13 @@
+use Rattle.std.proofs.Common.{rules, arith}
+use Rattle.std.proofs.lemmas.Result.{IfOk-weaker}
+use Rattle.box_workers.proofs.Rings.{set_up, dealt_share}
+use Rattle.box_workers.proofs.spreading.set_up.Goals as goal
+
+pub returns-clause-share : goal.returns-clause-share
+returns-clause-share c =
+    IfOk-weaker c.deal.result _ _ (λ ms d. (let e = dealt_share c.in_ok-members.members.items ms.items d.each in let s = c.in_ok-members.ensures.share in omega arith)) c.deal.ensures
+
+pub returns-clause-set : goal.returns-clause-set
+returns-clause-set c =
+    let a = c.in_ok-arms.ensures in let m = c.in_ok-members.ensures in
+    IfOk-weaker c.deal.result _ _ (λ ms d. set_up c.args.instance.now c.args.shared.now c.args.start.items c.in_ok-arms.arms.items c.in_ok-members.members.items ms.items a.ring (search rules) a.fresh m.arms m.new m.ready d) c.deal.ensures

@@ -1,0 +1,105 @@
+//! Several workers at once.
+ghost use Rattle.std.specs.Prelude.{◌≡◌, ℕ, ◌≤◌, ◌<◌, All, length, slice_index_or};
+ghost use Rattle.box_workers.specs.declared.member.Member.{Member as MemberOf};
+ghost use Rattle.box_workers.specs.inner.Members.{IsReady, HasDone, EachDone};
+
+use crate::gate::Gate;
+use crate::member::Member;
+use crate::working::work;
+use defect_map::DefectMap;
+use glass_base::Instance;
+use shared_best::SharedBest;
+use std::alloc::Global;
+use std::sync::Wait;
+use std::thread;
+use std::thread::Threads;
+
+/// One worker works until it rests, and notes why.
+fn work_member<R: Wait, G: Gate>(
+    rt: &R,
+    alloc: Global,
+    instance: &Instance,
+    map: &DefectMap,
+    shared: &SharedBest,
+    starts: u64,
+    gate: &G,
+    member: &mut Member,
+)
+    requires map { map.now ≡ instance.now.defects }
+    requires limits { (starts ≤ 160000000) × (shared.now.budget ≤ 10000000) }
+    requires ready { IsReady instance.now shared.now member.old }
+    ensures { HasDone instance.now shared.now starts member.old member.new }
+{
+    let rest = work(
+        rt,
+        alloc,
+        instance,
+        map,
+        shared,
+        &mut member.seat,
+        &mut member.hand,
+        starts,
+        &mut member.arm,
+        gate,
+    );
+    member.rest = rest.ok();
+}
+
+/// All workers work at once, each in a thread of its own where one can be made.
+fn work_members<R: Threads + Wait + Sync, G: Gate + Sync>(
+    rt: &R,
+    alloc: Global,
+    instance: &Instance,
+    map: &DefectMap,
+    shared: &SharedBest,
+    starts: u64,
+    gate: &G,
+    members: &mut [Member],
+)
+    requires map { map.now ≡ instance.now.defects }
+    requires limits { (starts ≤ 160000000) × (shared.now.budget ≤ 10000000) }
+    requires ready { All (IsReady instance.now shared.now) members.old }
+    ensures len { length members.new ≡ length members.old }
+    ensures each { (i : ℕ) (d : MemberOf) → i < length members.old → HasDone instance.now shared.now starts (slice_index_or members.old i d) (slice_index_or members.new i d) }
+{
+    let threads = members.len();
+    if threads == 0 {
+        return;
+    }
+    thread::for_each_mut(
+        rt,
+        members,
+        threads,
+        &|_, member| { work_member(rt, alloc, instance, map, shared, starts, gate, member) },
+    );
+}
+
+/// All workers of a list work at once, each in a thread of its own where one can be made.
+pub(crate) fn work_all<R: Threads + Wait + Sync, G: Gate + Sync>(
+    rt: &R,
+    alloc: Global,
+    instance: &Instance,
+    map: &DefectMap,
+    shared: &SharedBest,
+    starts: u64,
+    gate: &G,
+    members: Vec<Member>,
+) -> Vec<Member>
+    requires map { map.now ≡ instance.now.defects }
+    requires limits { (starts ≤ 160000000) × (shared.now.budget ≤ 10000000) }
+    requires ready { All (IsReady instance.now shared.now) members.items }
+    ensures { EachDone instance.now shared.now starts members.items result.items }
+{
+    let mut members = members;
+    work_members(
+        rt,
+        alloc,
+        instance,
+        map,
+        shared,
+        starts,
+        gate,
+        members.as_mut_slice(),
+    );
+    members
+}
