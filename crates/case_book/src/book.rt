@@ -10,11 +10,19 @@ pub struct Number {
     pub addend: u64,
 }
 
-/// Bytes, and a number behind them.
+/// What braces in a text stand for.
+#[derive(Drop)]
+pub enum Insert {
+    Number(Number),
+    /// What the first case of the chain printed behind this word.
+    Told(String),
+}
+
+/// Bytes, and what braces behind them stand for.
 #[derive(Drop)]
 pub struct Piece {
     pub bytes: Vec<u8>,
-    pub number: Number,
+    pub insert: Insert,
 }
 
 /// Lines that stand a number of times.
@@ -66,44 +74,55 @@ pub struct NamedText {
     pub text: Text,
 }
 
+/// What the word with which a case begins says of it.
+#[derive(Clone, Copy, Debug)]
+pub struct Heading {
+    /// Whether the run is on the files that the run of the case before left; the two are then of one chain.
+    pub follows: bool,
+    /// Whether the run must differ from what the case says of it.
+    pub wrong: bool,
+}
+
 /// A run of `glass`, and what is to come of it.
 #[derive(Drop)]
 pub struct Case {
     pub name: String,
     /// The line of the book at which the case begins, counted from 1.
     pub line: u64,
-    /// Whether the run must differ from what the case says of it.
-    pub wrong: bool,
+    pub heading: Heading,
     /// The words of the command line.
     pub words: Vec<String>,
-    /// The files before the run.
+    /// The files before the run; where the case follows another one, those that are put over the files that are there.
     pub files: Vec<NamedText>,
     /// The numbers of the fetches and stores that fail, counted together from 0.
     pub failing_calls: Vec<u64>,
     /// The numbers of the writes that fail, from 0.
     pub failing_writes: Vec<u64>,
-    /// How the run ends; none only while the case is read.
-    pub status: Option<Status>,
+    /// How the run may end; empty only while the case is read.
+    pub statuses: Vec<Status>,
     /// What is printed.
     pub printed: Text,
     /// The files that the run stores.
     pub stored: Vec<NamedText>,
+    /// The words that stand in braces in the texts, each once.
+    pub told: Vec<String>,
 }
 
 impl Case {
-    /// A case of which only the name is said yet.
-    pub fn new(alloc: Global, name: String, line: u64, wrong: bool) -> Case {
+    /// A case of which only the first line is read yet.
+    pub fn new(alloc: Global, name: String, line: u64, heading: Heading) -> Case {
         Case {
             name,
             line,
-            wrong,
+            heading,
             words: Vec::new(alloc),
             files: Vec::new(alloc),
             failing_calls: Vec::new(alloc),
             failing_writes: Vec::new(alloc),
-            status: None,
+            statuses: Vec::new(alloc),
             printed: Text::new(alloc),
             stored: Vec::new(alloc),
+            told: Vec::new(alloc),
         }
     }
 }

@@ -1,8 +1,8 @@
-//! Escapes and numbers within a line of a book.
+//! Escapes, and numbers and words in braces, within a line of a book.
 
-use crate::book::{Block, Number, Piece};
+use crate::book::{Block, Insert, Number, Piece};
 use crate::parsing::Fault;
-use std::alloc::Global;
+use std::alloc::{AllocError, Global};
 use std::mem;
 
 /// Where one stands within a line.
@@ -16,12 +16,17 @@ enum Place {
     High,
     /// Behind `\x` and a digit of this value.
     Low(u8),
-    /// In braces before the `n`, with the number read so far.
-    Factor(Option<u64>),
-    /// Behind the `n` of braces with this factor.
-    Behind(u64),
-    /// In braces behind the `+`, with the factor and the number read so far.
-    Addend(u64, Option<u64>),
+    /// In braces.
+    Braces,
+}
+
+/// A line that is being read.
+#[derive(Drop)]
+struct Line {
+    alloc: Global,
+    place: Place,
+    /// What stands in the braces so far.
+    braces: Vec<u8>,
 }
 
 /// The value of a hexadecimal digit.
@@ -30,18 +35,6 @@ fn hex_digit(byte: u8) -> Result<u8, Fault> {
         b'0'..=b'9' => Ok(byte - b'0'),
         b'a'..=b'f' => Ok(byte - b'a' + 10),
         _ => Err(Fault::Escape),
-    }
-}
-
-/// A number with one more decimal digit behind it.
-fn with_digit(number: Option<u64>, byte: u8) -> Result<u64, Fault> {
-    let digit = match byte {
-        b'0'..=b'9' => u64::from(byte - b'0'),
-        _ => return Err(Fault::Braces),
-    };
-    match number.unwrap_or(0).checked_mul(10) {
-        None => Err(Fault::Braces),
-        Some(tens) => tens.checked_add(digit).ok_or(Fault::Braces),
     }
 }
 
@@ -58,12 +51,56 @@ fn escaped(letter: u8) -> Result<Option<u8>, Fault> {
     }
 }
 
-/// Puts a number behind the bytes of a block.
-fn put_number(alloc: Global, block: &mut Block, factor: u64, addend: u64) -> Result<Place, Fault> {
-    let bytes = mem::replace(&mut block.tail, Vec::new(alloc));
-    let number = Number { factor, addend };
-    block.pieces.push(Piece { bytes, number })?;
-    Ok(Place::Plain)
+/// The number that is written in decimal digits alone.
+fn value_of(digits: &str) -> Option<u64> {
+    if digits.bytes().all(|byte| byte.is_ascii_digit()) {
+        digits.parse::<u64>().ok()
+    } else {
+        None
+    }
+}
+
+/// The number that is written as an `n`, with digits before it or none, and behind it a `+` with digits or nothing.
+fn number_in(written: &str) -> Option<Number> {
+    let (before, behind) = written.split_once('n')?;
+    let factor = if before.is_empty() {
+        1
+    } else {
+        value_of(before)?
+    };
+    let addend = if behind.is_empty() {
+        0
+    } else {
+        value_of(behind.strip_prefix('+')?)?
+    };
+    Some(Number { factor, addend })
+}
+
+/// Whether this is a word of small letters.
+fn is_word(written: &str) -> bool {
+    !written.is_empty() && written.bytes().all(|byte| byte.is_ascii_lowercase())
+}
+
+/// What braces stand for, by what stands in them.
+fn insert_of(braces: Vec<u8>) -> Result<Insert, Fault> {
+    let written = String::from_utf8(braces).map_err(|_| Fault::Braces)?;
+    if let Some(number) = number_in(written.as_str()) {
+        Ok(Insert::Number(number))
+    } else if is_word(written.as_str()) {
+        Ok(Insert::Told(written))
+    } else {
+        Err(Fault::Braces)
+    }
+}
+
+/// Puts the word of braces behind `told`, where it has one that is not there yet.
+fn note_told(insert: &Insert, told: &mut Vec<String>) -> Result<(), AllocError> {
+    if let Insert::Told(word) = insert
+        && !told.contains(word)
+    {
+        told.push(word.clone()?)?;
+    }
+    Ok(())
 }
 
 /// Takes the letter behind a backslash.
@@ -81,7 +118,7 @@ fn take_letter(block: &mut Block, letter: u8) -> Result<Place, Fault> {
 fn take_plain(block: &mut Block, byte: u8) -> Result<Place, Fault> {
     match byte {
         b'\\' => Ok(Place::Escape),
-        b'{' => Ok(Place::Factor(None)),
+        b'{' => Ok(Place::Braces),
         _ => {
             block.tail.push(byte)?;
             Ok(Place::Plain)
@@ -89,78 +126,90 @@ fn take_plain(block: &mut Block, byte: u8) -> Result<Place, Fault> {
     }
 }
 
-/// Takes a byte within braces, before the `n`.
-fn take_factor(factor: Option<u64>, byte: u8) -> Result<Place, Fault> {
-    if byte == b'n' {
-        Ok(Place::Behind(factor.unwrap_or(1)))
-    } else {
-        Ok(Place::Factor(Some(with_digit(factor, byte)?)))
+impl Line {
+    fn new(alloc: Global) -> Line {
+        Line {
+            alloc,
+            place: Place::Plain,
+            braces: Vec::new(alloc),
+        }
+    }
+
+    /// Takes a byte within braces. The last one puts what they stand for behind the bytes of a block, and their word behind `told`.
+    fn take_inside(
+        &mut self,
+        block: &mut Block,
+        told: &mut Vec<String>,
+        byte: u8,
+    ) -> Result<Place, Fault> {
+        if byte != b'}' {
+            self.braces.push(byte)?;
+            return Ok(Place::Braces);
+        }
+        let braces = mem::replace(&mut self.braces, Vec::new(self.alloc));
+        let insert = insert_of(braces)?;
+        note_told(&insert, told)?;
+        let bytes = mem::replace(&mut block.tail, Vec::new(self.alloc));
+        block.pieces.push(Piece { bytes, insert })?;
+        Ok(Place::Plain)
+    }
+
+    /// Takes one byte.
+    fn take(&mut self, block: &mut Block, told: &mut Vec<String>, byte: u8) -> Result<(), Fault> {
+        self.place = match self.place {
+            Place::Plain => take_plain(block, byte)?,
+            Place::Escape => take_letter(block, byte)?,
+            Place::High => Place::Low(hex_digit(byte)?),
+            Place::Low(high) => {
+                block.tail.push((high << 4) | hex_digit(byte)?)?;
+                Place::Plain
+            }
+            Place::Braces => self.take_inside(block, told, byte)?,
+        };
+        Ok(())
     }
 }
 
-/// Takes a byte within braces, behind the `+`.
-fn take_addend(
+/// Puts what stands in a line behind the bytes of a block and the words in its braces behind `told`, and says where the line ends.
+fn put(
     alloc: Global,
     block: &mut Block,
-    factor: u64,
-    addend: Option<u64>,
-    byte: u8,
+    line: &str,
+    told: &mut Vec<String>,
 ) -> Result<Place, Fault> {
-    match (addend, byte) {
-        (Some(addend), b'}') => put_number(alloc, block, factor, addend),
-        _ => Ok(Place::Addend(factor, Some(with_digit(addend, byte)?))),
-    }
-}
-
-/// Takes one byte of a line.
-fn take(alloc: Global, block: &mut Block, place: Place, byte: u8) -> Result<Place, Fault> {
-    match place {
-        Place::Plain => take_plain(block, byte),
-        Place::Escape => take_letter(block, byte),
-        Place::High => Ok(Place::Low(hex_digit(byte)?)),
-        Place::Low(high) => {
-            block.tail.push((high << 4) | hex_digit(byte)?)?;
-            Ok(Place::Plain)
-        }
-        Place::Factor(factor) => take_factor(factor, byte),
-        Place::Behind(factor) => match byte {
-            b'+' => Ok(Place::Addend(factor, None)),
-            b'}' => put_number(alloc, block, factor, 0),
-            _ => Err(Fault::Braces),
-        },
-        Place::Addend(factor, addend) => take_addend(alloc, block, factor, addend, byte),
-    }
-}
-
-/// Puts what stands in a line behind the bytes of a block, and says where the line ends.
-fn put(alloc: Global, block: &mut Block, line: &str) -> Result<Place, Fault> {
-    let mut place = Place::Plain;
+    let mut reading = Line::new(alloc);
     for byte in line.as_bytes() {
-        place = take(alloc, block, place, *byte)?;
+        reading.take(block, told, *byte)?;
     }
-    Ok(place)
+    Ok(reading.place)
 }
 
-/// Puts a line of a text behind the bytes of a block, with its line feed, which a backslash at its end takes away.
-pub fn put_line(alloc: Global, block: &mut Block, line: &str) -> Result<(), Fault> {
-    match put(alloc, block, line)? {
+/// Puts a line of a text behind the bytes of a block, with its line feed, which a backslash at its end takes away; and the words
+/// in its braces behind `told`, as far as they are not there.
+pub fn put_line(
+    alloc: Global,
+    block: &mut Block,
+    line: &str,
+    told: &mut Vec<String>,
+) -> Result<(), Fault> {
+    match put(alloc, block, line, told)? {
         Place::Plain => {
             block.tail.push(b'\n')?;
             Ok(())
         }
         Place::Escape => Ok(()),
         Place::High | Place::Low(_) => Err(Fault::Escape),
-        _ => Err(Fault::Braces),
+        Place::Braces => Err(Fault::Braces),
     }
 }
 
-/// The word or name that is written so; it is written with a letter at least.
+/// The word or name that is written so; it is written with a letter at least, and without braces.
 pub fn word_of(alloc: Global, written: &str) -> Result<String, Fault> {
     if written.is_empty() {
         return Err(Fault::Word);
     }
     let mut block = Block::new(alloc, 1);
-    let place = put(alloc, &mut block, written)?;
+    let place = put(alloc, &mut block, written, &mut Vec::new(alloc))?;
     if !matches!(&place, Place::Plain) {
         return Err(Fault::Escape);
     }

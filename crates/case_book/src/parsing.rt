@@ -1,6 +1,6 @@
 //! Reading a book.
 
-use crate::book::{Block, Case, NamedText, Text};
+use crate::book::{Case, Heading, NamedText, Text};
 use crate::escapes::{put_line, word_of};
 use glass_run::Status;
 use std::alloc::{AllocError, AllocFailed, Global};
@@ -15,12 +15,16 @@ pub enum Fault {
     Keyword,
     #[error("no case has begun")]
     NoCase,
+    #[error("no case to follow")]
+    NothingToFollow,
     #[error("a line of a text where no text stands")]
     NoText,
     #[error("a backslash with something else behind it than an escape")]
     Escape,
-    #[error("braces with something else in them than a number")]
+    #[error("braces with something else in them than a number or a word")]
     Braces,
+    #[error("braces with a word in a case that follows none")]
+    FollowsNone,
     #[error("a word or a name that is empty or no text")]
     Word,
     #[error("no number")]
@@ -91,6 +95,15 @@ fn status_named(name: &str) -> Result<Status, Fault> {
     }
 }
 
+/// The statuses that are written so, one space between two.
+fn statuses_of(alloc: Global, written: &str) -> Result<Vec<Status>, Fault> {
+    let mut statuses = Vec::new(alloc);
+    for name in written.split(' ') {
+        statuses.push(status_named(name)?)?;
+    }
+    Ok(statuses)
+}
+
 /// The number that is written so.
 fn number_of(written: &str) -> Result<u64, Fault> {
     written.parse::<u64>().map_err(|_| Fault::Number)
@@ -125,14 +138,19 @@ fn named(alloc: Global, name: &str) -> Result<NamedText, Fault> {
     })
 }
 
-/// Puts a line behind the last block of a text.
-fn put_line_of_text(alloc: Global, text: &mut Text, line: &str) -> Result<(), Fault> {
+/// Puts a line behind the last block of a text, and the words in its braces behind `told`.
+fn put_line_of_text(
+    alloc: Global,
+    text: &mut Text,
+    line: &str,
+    told: &mut Vec<String>,
+) -> Result<(), Fault> {
     if text.blocks.is_empty() {
         text.begin_block(alloc, 1)?;
     }
     match text.blocks.last_mut() {
         None => Ok(()),
-        Some(block) => put_line(alloc, block, line),
+        Some(block) => put_line(alloc, block, line, told),
     }
 }
 
@@ -147,9 +165,10 @@ enum Addition<'a> {
 }
 
 impl Addition<'_> {
-    fn put(&self, alloc: Global, text: &mut Text) -> Result<(), Fault> {
+    /// Puts it into a text, and the words in braces behind `told`.
+    fn put(&self, alloc: Global, text: &mut Text, told: &mut Vec<String>) -> Result<(), Fault> {
         match self {
-            Addition::Line(line) => put_line_of_text(alloc, text, line),
+            Addition::Line(line) => put_line_of_text(alloc, text, line, told),
             Addition::Repeat(times) => Ok(text.begin_block(alloc, *times)?),
             Addition::More => {
                 text.more = true;
@@ -168,15 +187,24 @@ fn add_to_text(
 ) -> Result<(), Fault> {
     match place {
         Place::Nowhere => Err(Fault::NoText),
-        Place::Printed => addition.put(alloc, &mut case.printed),
+        Place::Printed => addition.put(alloc, &mut case.printed, &mut case.told),
         Place::File => match case.files.last_mut() {
             None => Err(Fault::NoText),
-            Some(file) => addition.put(alloc, &mut file.text),
+            Some(file) => addition.put(alloc, &mut file.text, &mut case.told),
         },
         Place::Stored => match case.stored.last_mut() {
             None => Err(Fault::NoText),
-            Some(file) => addition.put(alloc, &mut file.text),
+            Some(file) => addition.put(alloc, &mut file.text, &mut case.told),
         },
+    }
+}
+
+/// A case that follows none has no words in braces.
+fn check_told(case: &Case) -> Result<(), Fault> {
+    if case.heading.follows || case.told.is_empty() {
+        Ok(())
+    } else {
+        Err(Fault::FollowsNone)
     }
 }
 
@@ -195,7 +223,7 @@ fn take_keyword(alloc: Global, case: &mut Case, keyword: &str, rest: &str) -> Re
     match keyword {
         "words" => case.words = words_of(alloc, rest)?,
         "fails" => take_fails(alloc, case, rest)?,
-        "status" => case.status = Some(status_named(rest)?),
+        "status" => case.statuses = statuses_of(alloc, rest)?,
         "printed" if rest.is_empty() => return Ok(Place::Printed),
         "file" => {
             case.files.push(named(alloc, rest)?)?;
@@ -210,11 +238,26 @@ fn take_keyword(alloc: Global, case: &mut Case, keyword: &str, rest: &str) -> Re
     Ok(Place::Nowhere)
 }
 
+/// What this word says of the case that begins with it, if one does.
+fn heading_of(keyword: &str) -> Option<Heading> {
+    let (follows, wrong) = match keyword {
+        "case" => (false, false),
+        "wrong" => (false, true),
+        "then" => (true, false),
+        "then-wrong" => (true, true),
+        _ => return None,
+    };
+    Some(Heading { follows, wrong })
+}
+
 impl Reading {
     /// Begins a case.
-    fn begin(&mut self, name: &str, line: u64, wrong: bool) -> Result<(), Fault> {
+    fn begin(&mut self, heading: Heading, name: &str, line: u64) -> Result<(), Fault> {
+        if heading.follows && self.cases.is_empty() {
+            return Err(Fault::NothingToFollow);
+        }
         let name = String::from_str(self.alloc, name)?;
-        self.cases.push(Case::new(self.alloc, name, line, wrong))?;
+        self.cases.push(Case::new(self.alloc, name, line, heading))?;
         self.place = Place::Nowhere;
         Ok(())
     }
@@ -223,11 +266,14 @@ impl Reading {
     fn add(&mut self, addition: Addition) -> Result<(), Fault> {
         match self.cases.last_mut() {
             None => Err(Fault::NoCase),
-            Some(case) => add_to_text(self.alloc, case, self.place, addition),
+            Some(case) => {
+                add_to_text(self.alloc, case, self.place, addition)?;
+                check_told(case)
+            }
         }
     }
 
-    /// Takes a line that begins with this word.
+    /// Takes a line that begins with this word, within a case.
     fn take_keyword(&mut self, keyword: &str, rest: &str) -> Result<(), Fault> {
         match self.cases.last_mut() {
             None => Err(Fault::NoCase),
@@ -244,12 +290,13 @@ impl Reading {
             return Ok(());
         }
         let (keyword, rest) = line.split_once(' ').unwrap_or((line, ""));
+        if let Some(heading) = heading_of(keyword) {
+            return self.begin(heading, rest, number);
+        }
         match keyword {
             "|" => self.add(Addition::Line(rest)),
             "repeat" => self.add(Addition::Repeat(number_of(rest)?)),
             "more" if rest.is_empty() => self.add(Addition::More),
-            "case" => self.begin(rest, number, false),
-            "wrong" => self.begin(rest, number, true),
             _ => self.take_keyword(keyword, rest),
         }
     }
@@ -258,7 +305,7 @@ impl Reading {
 /// The first case without a status is a fault of the line where it begins.
 fn check_statuses(cases: &[Case]) -> Result<(), BadBook> {
     for case in cases {
-        if case.status.is_none() {
+        if case.statuses.is_empty() {
             return Err(BadBook {
                 line: case.line,
                 fault: Fault::NoStatus,

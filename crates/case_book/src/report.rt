@@ -3,6 +3,7 @@
 use crate::book::Case;
 use crate::comparing::Mismatch;
 use crate::running::Difference;
+use glass_run::Status;
 use std::alloc::{AllocError, Global};
 
 /// How many bytes of a line are shown.
@@ -33,11 +34,27 @@ fn mismatch_line(alloc: Global, of: &str, mismatch: &Mismatch) -> Result<String,
     format!(in alloc; "  {of}, line {line}: wanted {wanted}, found {found}\n")
 }
 
+/// The names of statuses, with an `or` between two.
+fn names_of(alloc: Global, statuses: &[Status]) -> Result<String, AllocError> {
+    let mut names = String::new(alloc);
+    for status in statuses {
+        if !names.is_empty() {
+            names.push_str(" or ")?;
+        }
+        names.push_str(format!(in alloc; "{status:?}")?.as_str())?;
+    }
+    Ok(names)
+}
+
 /// The line that tells of a difference.
 fn line_of(alloc: Global, difference: &Difference) -> Result<String, AllocError> {
     match difference {
+        Difference::Untold { word } => {
+            format!(in alloc; "  {{{word}}}: the first case of the chain printed no such line\n")
+        }
         Difference::Status { wanted, found } => {
-            format!(in alloc; "  status: wanted {wanted:?}, found {found:?}\n")
+            let wanted = names_of(alloc, wanted.as_slice())?;
+            format!(in alloc; "  status: wanted {wanted}, found {found:?}\n")
         }
         Difference::Printed(mismatch) => mismatch_line(alloc, "printed", mismatch),
         Difference::File { name, mismatch } => {
@@ -59,7 +76,7 @@ pub fn paragraph(
     differences: &[Difference],
 ) -> Result<String, AllocError> {
     let mut text = format!(in alloc; "{}\n", case.name)?;
-    if case.wrong {
+    if case.heading.wrong {
         text.push_str("  the run does not differ from a wrong expectation\n")?;
     }
     for difference in differences {
