@@ -40,6 +40,20 @@ good_counts b rs loss c good =
     ap (λ (n : ℕ). shut c.nodes.items + n) good.left_is
     ∙ subst (λ (ns : List Node). shut ns + length (open_bounds b rs good.tree) ≡ length ns) (sym good.nodes_are) (tree_counts b rs good.tree)
 
+tree_left : (b : Problem) (rs : List Ranges) (t : Tree) → length (open_bounds b rs t) ≤ shut (nodes_of t) + 1
+tree_left b rs (halved step v lower upper) =
+    let l = tree_left b (half_at lower_half rs step v) lower in let u = tree_left b (half_at upper_half rs step v) upper in
+    let c = sum_by-cons one (Node.Split step v) (nodes_of lower ++ nodes_of upper) in let d = sum_by-append one (nodes_of lower) (nodes_of upper) in
+    let n = length-append (open_bounds b (half_at lower_half rs step v) lower) (open_bounds b (half_at upper_half rs step v) upper) in omega arith
+tree_left b rs (closed cause) = omega arith
+tree_left b rs waiting = omega arith
+
+-- there is at most one open node more than there are others
+pub good_left : (b : Problem) (rs : List Ranges) (loss : Option ℕ) (c : Certificate) → IsGood b rs loss c → c.left ≤ count_by (λ node. not (is_left node)) c.nodes.items + 1
+good_left b rs loss c good =
+    let e = good.left_is in
+    let few = subst (λ (ns : List Node). length (open_bounds b rs good.tree) ≤ shut ns + 1) (sym good.nodes_are) (tree_left b rs good.tree) in omega arith
+
 -- no path of splits from the box is longer than this
 abbrev PathsEnd : List Ranges → ℕ → Type 0
 PathsEnd rs depth = (path : List Choice) → IsPath rs path → length path ≤ depth

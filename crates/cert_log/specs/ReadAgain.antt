@@ -29,7 +29,7 @@ IsReadAgain c (Err b) = b ≡ bad.Memory
 
 -- what is written of a certificate is read again as the same certificate
 abbrev pub RoundTrip : Type 0
-RoundTrip = (text : List ℕ) (c : Certificate) (r : Result Certificate BadCert) → length text < 2 ^ 63 → IsTextOf text c → IsReading text r → IsReadAgain c r
+RoundTrip = (text : List ℕ) (c : Certificate) (r : Result Certificate BadCert) → IsTextOf text c → IsReading text r → IsReadAgain c r
 
 -- a text that stands for a certificate is that certificate's, whose nodes are one whole tree
 abbrev pub ReadIsText : Type 0

@@ -5,7 +5,9 @@ ghost use Rattle.cert_log.specs.Good.{lesser, AreGood, IsVersion};
 ghost use Rattle.cert_log.specs.inner.Growth.{AreDifferent, IsMade, IsRooted};
 ghost use Rattle.cert_log.specs.Lawful.{Course, HasCourse, IsLawful, ids_of, loss_of};
 ghost use Rattle.cert_log.specs.inner.Places.{IsIndexed};
+ghost use Rattle.cert_log.specs.Outcomes.{IsHead};
 ghost use Rattle.cert_log.specs.Splits.{AreSearched};
+ghost use Rattle.cert_log.specs.Texts.{head_of};
 ghost use Rattle.cert_log.specs.Trees.{is_left};
 ghost use Rattle.cert_log.specs.inner.Writing.{IsNext, Writes};
 
@@ -86,6 +88,21 @@ fn write_node(
     }
 }
 
+/// The certificate of version 2 of these nodes.
+fn with_nodes(loss: Option<u64>, bound: Option<u64>, nodes: Run<Node>) -> Certificate
+    ensures made { result ≡ record { version = 2; loss = loss; bound = bound; left = count_by is_left nodes.items; nodes = nodes } }
+    ensures head { IsHead (head_of result) }
+{
+    let left = count_left(nodes.as_slice());
+    Certificate {
+        version: 2,
+        loss,
+        bound,
+        left,
+        nodes,
+    }
+}
+
 /// How many nodes to take memory for: that of all nodes where they stand in one certificate, and none where they are shared out.
 fn expected_nodes(history: &History) -> usize {
     if history.starts == 1 {
@@ -106,7 +123,8 @@ fn certificate_of(
     requires within { All (λ id. id < length places.now) (ids_of history.now) }
     requires different { AreDifferent history.now }
     requires rooted { IsRooted history.now id }
-    ensures { IfOk result (IsMade history.now id) }
+    ensures made { IfOk result (IsMade history.now id) }
+    ensures head { IfOk result (λ c. IsHead (head_of c)) }
 {
     let loss = best_loss(history);
     let mut growth = Growth {
@@ -119,13 +137,7 @@ fn certificate_of(
     while let Some(next) = growth.waiting.pop() {
         write_node(history, places, &mut growth, next)?;
     }
-    Ok(Certificate {
-        version: 2,
-        loss,
-        bound: growth.bound,
-        left: count_left(growth.nodes.as_slice()),
-        nodes: growth.nodes,
-    })
+    Ok(with_nodes(loss, growth.bound, growth.nodes))
 }
 
 /// The number of identities that the start boxes and the halves of the noted boxes can have, or none where it is too large.
@@ -138,7 +150,8 @@ fn identities(history: &History) -> Option<usize>
         .checked_add(notes)
 }
 
-/// The certificates of the start boxes, in their order. Together they have one node for each note and each left box.
+/// The certificates of the start boxes, in their order. Together they have one node for each note and each left box. The numbers of each
+/// fit in 64 bits, so that its text can be read again.
 pub fn assemble(
     alloc: Global,
     instance: &Instance,
@@ -150,6 +163,7 @@ pub fn assemble(
     ensures nodes { IfOk result (λ cs. sum_by (λ c. length c.nodes.items) cs.items ≡ length history.now.log.items + length history.now.left.items) }
     ensures left { IfOk result (λ cs. sum_by (λ c. c.left) cs.items ≡ length history.now.left.items) }
     ensures version { IfOk result (λ cs. All (IsVersion 2) cs.items) }
+    ensures heads { IfOk result (λ cs. All (λ c. IsHead (head_of c)) cs.items) }
 {
     let room = identities(history).ok_or(Memory)?;
     let places = places(alloc, history, room)?;

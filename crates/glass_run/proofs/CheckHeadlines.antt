@@ -1,6 +1,6 @@
 -- What a user may conclude from how a check of a certificate ended.
 use Rattle.std.proofs.Common.{◌≡◌, ℕ, List, sym, ap, subst, ◌∙◌, inl, inr, Option}
-use Rattle.glass_base.specs.Problem.{Problem, IsProblem}
+use Rattle.glass_base.specs.Problem.{Problem}
 use Rattle.glass_base.specs.declared.role.Role.TheVariants as role
 use Rattle.glass_io.specs.Told.{Contents}
 use Rattle.cut_model.specs.Tree.{Forest}
@@ -10,7 +10,7 @@ use Rattle.cert_log.proofs.Covers.{bounds_each_plan}
 use Rattle.glass_run.specs.Answers.{Answer}
 use Rattle.glass_run.specs.Checks.{Converts, IsAccepted, NotAccepted, Verifies, loss_in}
 use Rattle.glass_run.specs.Checks.NotAccepted.{bad_cert, bad_plan, bad_tree, broken_plan}
-use Rattle.glass_run.specs.Commands.{AnswersInstance, HasInstance, out_of}
+use Rattle.glass_run.specs.Commands.{AnswersInstance, out_of}
 use Rattle.glass_run.specs.Grammar.{Line}
 use Rattle.glass_run.specs.Headlines.{Accepts, Ended, FindsRight, SaidBy, StoresConverted}
 use Rattle.glass_run.specs.Runs.{Completes, Prints, RunsTo, Stands, World}
@@ -18,17 +18,8 @@ use Rattle.glass_run.specs.Texts.{Texts, text_for, text_or_empty}
 use Rattle.glass_run.specs.declared.grammar.Verb.{Verb}
 use Rattle.glass_run.specs.declared.grammar.Verb.TheVariants as verb
 use Rattle.glass_run.specs.declared.status.Status.TheVariants as status
-use Rattle.glass_run.proofs.Headlines.{Says, completed_says, one_stored, unchanged}
+use Rattle.glass_run.proofs.Headlines.{Says, completed_says, one_stored, rules_of, unchanged}
 use Rattle.glass_run.proofs.Statuses.{IsRefused, cert_refused, plan_refused}
-
--- an instance keeps the rules of instances, of whatever command it is
-rules_of : (of : Verb) (line : Line) (texts : Texts) (b : Problem) → HasInstance of line texts b → IsProblem b
-rules_of verb.Draft line texts b h = h.made.rules
-rules_of verb.Plan line texts b h = h.made.rules
-rules_of verb.Gen line texts b h = h.made.rules
-rules_of verb.Judge line texts b h = h.made.rules
-rules_of verb.Verify line texts b h = h.made.rules
-rules_of verb.Convert line texts b h = h.made.rules
 
 -- an answer to what is not accepted has none of the statuses of what is
 never_done : (b : Problem) (plan_text : Option (List ℕ)) (text : List ℕ) (answer : Answer) → status.Done ≡ answer.status → NotAccepted b plan_text text answer → ⊥

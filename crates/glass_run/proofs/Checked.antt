@@ -13,9 +13,10 @@ use Rattle.cert_check.specs.declared.verdict.Why.{Why}
 use Rattle.cert_check.specs.Faults.{IsFirstFault}
 use Rattle.glass_run.specs.Plans.{root_ranges}
 use Rattle.glass_run.specs.Answers.{Answer}
-use Rattle.glass_run.specs.Checks.{CertRefused, IsConverted, Converts, IsLawfulToo, IsPlanIn, NotAccepted, SayBoth, Verifies, converted, loss_in, refused}
+use Rattle.glass_run.specs.Checks.{CertRefused, IsConverted, Converts, IsLawfulToo, NotAccepted, Verifies, converted, loss_in, refused}
 use Rattle.glass_run.specs.Checks.NotAccepted.{bad_cert as bad_certificate, bad_plan, bad_tree, broken_plan}
 use Rattle.glass_run.specs.Judgements.{PlanRefused}
+use Rattle.glass_run.specs.Said.{IsPlanIn, SayBoth}
 use Rattle.glass_run.specs.inner.Checked.{IsAcceptedFor, IsUnlawful, IsWrong, RefusesCertText, RefusesPlanText}
 use Rattle.glass_run.specs.inner.Forms.{OnTold, Tells}
 use Rattle.glass_run.specs.declared.notices.Stop.{Stop}

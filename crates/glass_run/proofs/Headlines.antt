@@ -3,7 +3,7 @@ use Rattle.std.proofs.Common.{◌≡◌, ◌≢◌, ℕ, List, [], ◌∷◌, Bo
 use Rattle.std.specs.Prelude.{IfErr, Ok, Err, Result}
 use Rattle.std.specs.Str.{bytes_eq}
 use Rattle.std.proofs.lemmas.Slice.Eq.{bytes_eq-Decides}
-use Rattle.glass_base.specs.Problem.{Problem}
+use Rattle.glass_base.specs.Problem.{Problem, IsProblem}
 use Rattle.glass_base.specs.declared.role.Role.TheVariants as role
 use Rattle.glass_io.specs.Told.{Contents, SameContents, Stored}
 use Rattle.cut_model.specs.Tree.{Forest}
@@ -11,7 +11,7 @@ use Rattle.plan_csv.specs.PlanTexts.{plan_said}
 use Rattle.plan_csv.specs.Solutions.{solution_text}
 use Rattle.plan_csv.specs.declared.bad_plan.BadPlan.{BadPlan}
 use Rattle.glass_run.specs.Answers.{Answer, Store}
-use Rattle.glass_run.specs.Commands.{Answers, AnswersFetched, AnswersInstance, AnswersTexts, out_of}
+use Rattle.glass_run.specs.Commands.{Answers, AnswersFetched, AnswersInstance, AnswersTexts, HasInstance, out_of}
 use Rattle.glass_run.specs.Drafts.{Drafts}
 use Rattle.glass_run.specs.Grammar.{Line, files_of}
 use Rattle.glass_run.specs.Headlines.{Ended, FindsLawful, FindsNoDraft, FindsUnlawful, SaidBy, StoresLawfulPlan}
@@ -50,6 +50,15 @@ one_stored s (Some a) (Some b) h = record {
   stored = h s.name ∙ held_whole s a (bytes_eq s.name s.name) refl;
   others = λ other ne. h other ∙ held_other s a other (bytes_eq s.name other) refl ne;
 }
+
+-- an instance keeps the rules of instances, of whatever command it is
+pub rules_of : (of : Verb) (line : Line) (texts : Texts) (b : Problem) → HasInstance of line texts b → IsProblem b
+rules_of verb.Draft line texts b h = h.made.rules
+rules_of verb.Plan line texts b h = h.made.rules
+rules_of verb.Gen line texts b h = h.made.rules
+rules_of verb.Judge line texts b h = h.made.rules
+rules_of verb.Verify line texts b h = h.made.rules
+rules_of verb.Convert line texts b h = h.made.rules
 
 -- an answer to an instance that the files say
 pub record Says (line : Line) (held : Contents) (answer : Answer) : Type 0 where

@@ -1,5 +1,6 @@
 mod Prefixes
 mod Counts
+mod StoredTexts
 mod Searched
 mod FetchedTexts
 mod ListedFiles

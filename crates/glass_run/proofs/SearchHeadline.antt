@@ -1,8 +1,10 @@
 -- What a user may conclude from how a search ended.
-use Rattle.std.proofs.Common.{◌≡◌, ℕ, zero, suc, ◌<◌, ◌≤◌, ◌+◌, ◌-◌, ◌^◌, List, [], ◌∷◌, length, Bool, true, false, cond, arith, refl, sym, ap, subst, ◌∙◌, inl, inr, Option}
+use Rattle.std.proofs.Common.{◌≡◌, ℕ, zero, suc, ◌<◌, ◌≤◌, ◌+◌, ◌-◌, ◌*◌, ◌^◌, List, [], ◌∷◌, length, Bool, true, false, cond, arith, refl, sym, ap, subst, ◌∙◌, inl, inr, Option}
 use Rattle.std.specs.Prelude.{◌==◌, is_some}
-use Rattle.glass_base.specs.Problem.{Problem}
+use Rattle.std.proofs.Math.Nat.{mul-le-mul_right}
+use Rattle.glass_base.specs.Problem.{Problem, IsProblem}
 use Rattle.glass_io.specs.Told.{Contents}
+use Rattle.cut_model.specs.Tree.{Forest}
 use Rattle.plan_box.specs.Frames.{frame_of}
 use Rattle.plan_box.specs.Halves.{IsDepth}
 use Rattle.plan_box.specs.Ranges.{Ranges}
@@ -13,7 +15,7 @@ use Rattle.glass_run.specs.Answers.{Answer}
 use Rattle.glass_run.specs.Commands.{AnswersInstance, out_of, second_out_of}
 use Rattle.glass_run.specs.Grammar.{Line, count_in}
 use Rattle.glass_run.specs.Headlines.{Ended, IsSearch, IsSearchEnd, StoresSearch}
-use Rattle.glass_run.specs.Plans.{PlansWithin, ending, handled, planned, root_ranges}
+use Rattle.glass_run.specs.Plans.{IsFound, PlansWithin, ending, handled, most_work, planned, root_ranges}
 use Rattle.glass_run.specs.Texts.{Texts}
 use Rattle.cert_check.specs.declared.verdict.Verdict.{Verdict}
 use Rattle.cert_check.specs.Faults.{Answers as CheckAnswers}
@@ -23,7 +25,8 @@ use Rattle.glass_run.specs.declared.grammar.Verb.{Verb}
 use Rattle.glass_run.specs.declared.grammar.Verb.TheVariants as verb
 use Rattle.glass_run.specs.declared.status.Status.{Status}
 use Rattle.glass_run.specs.declared.status.Status.TheVariants as status
-use Rattle.glass_run.proofs.Headlines.{Says, completed_says}
+use Rattle.glass_run.proofs.Headlines.{Says, completed_says, rules_of}
+use Rattle.glass_run.proofs.StoredTexts.{CanBeRead, is_text, verified}
 use Rattle.glass_run.proofs.Statuses.{IsRefused}
 
 -- a run that ended as a search did what its answer says
@@ -119,6 +122,18 @@ accepts_good : (b : Problem) (rs : List Ranges) (loss : Option ℕ) (c : Certifi
 accepts_good b rs loss c good (Verdict.Accept bound left) h = (ap (λ (n : Option ℕ). Verdict.Accept n left) h.1) ∙ ap (λ (n : ℕ). Verdict.Accept c.bound n) h.2
 accepts_good b rs loss c good (Verdict.Refuse at why) h = absurd (h.1 good)
 
+-- what was found can be read again
+can_be_read : (b : Problem) (budget : ℕ) (c : Certificate) (plan : Option Forest) → IsProblem b → length b.items * budget ≤ most_work → IsFound b budget c plan → CanBeRead b plan c
+can_be_read b budget c plan problem work found =
+    let most : 1 * budget ≤ length b.items * budget = mul-le-mul_right budget problem.some in
+    record {
+      problem = problem;
+      said = found.said.plan_is;
+      text = is_text b c problem found.good found.version (omega (arith, found.in_budget, most, work)) found.said.reading.begins.head;
+      plan_is = found.plan_is;
+      good = found.good;
+    }
+
 stores_search : (line : Line) (held : Contents) (old new : World) (answer : Answer) (result : Status) (search : Verb) → IsSearch search → line.verb ≡ search → IsSearchEnd result → result ≡ answer.status → Says line held answer →
     Stands answer.stores old.shelf.contents new.shelf.contents → Prints answer.lines old.paper new.paper → StoresSearch line held old new result
 stores_search line held old new answer result search searches of end is s stored prints =
@@ -139,6 +154,7 @@ stores_search line held old new answer result search searches of end is s stored
             prints = subst (λ (a : Answer). Prints a.lines old.paper new.paper) p.1.answer_is prints;
             good = found.good;
             accepted = accepts_good s.b (root_ranges s.b) c.loss c found.good;
+            verified = verified s.b p.1.plan c (can_be_read s.b budget c p.1.plan (rules_of line.verb line s.texts s.b s.reads.instance_is) p.0 found);
             plan_is = found.plan_is;
             bounds = found.bounds;
             left_open = ((λ e. stopped_left c (sym ended ∙ e)), (λ some. ended ∙ left_stopped c some));

@@ -25,12 +25,15 @@ use Rattle.cert_log.specs.declared.history.History.{History}
 use Rattle.cert_log.specs.declared.history.Left.{Left}
 use Rattle.cert_log.specs.Good.{AreGood, IsGood, IsVersion, Reaches}
 use Rattle.cert_log.specs.Lawful.{IsLawful, loss_of, no_loss, trace_loss}
+use Rattle.cert_log.specs.Outcomes.{IsHead}
 use Rattle.cert_log.specs.Splits.{AreSearched, IsSearched}
+use Rattle.cert_log.specs.Texts.{head_of}
 use Rattle.cert_log.proofs.Covers.{bounds_each_plan}
 use Rattle.cert_log.proofs.GoodNodes.{good_counts}
 use Rattle.box_workers.specs.Runs.{first_loss}
-use Rattle.glass_run.specs.Plans.{HasLoss, IsFound, handled, root_ranges}
-use Rattle.glass_run.specs.inner.Searches.{Certifies, IsHistory, IsNoGreater, course}
+use Rattle.glass_run.specs.Plans.{HasLoss, IsFound, handled, most_work, root_ranges}
+use Rattle.glass_run.specs.inner.Searches.{Certifies, IsHistory, IsNoGreater, IsSaidByItsText, course}
+use Rattle.glass_run.proofs.StoredTexts.{both_said, is_text}
 
 -- a number that is a loss
 pub known : (n : ℕ) → n < no_loss → loss_of n ≡ Some n
@@ -119,14 +122,16 @@ certified b budget to_beat h d (c ∷ []) rest lawful good searched nodes left v
     (certified_one b budget to_beat h c lawful good.0 searched.0 (All-head (IsVersion 2) c [] version) (omega (arith, nodes)) (omega (arith, left)))
 
 -- what the search found
-pub found : (b : Problem) (budget : ℕ) (h : History) (c : Certificate) (plan : Option Forest) → IsProblem b → (is : IsHistory b budget h)
-    → Certifies b budget is.to_beat (loss_of h.best) c → HasLoss b (loss_of h.best) plan → IsFound b budget c plan
-found b budget h c plan problem is certifies has =
+pub found : (b : Problem) (budget : ℕ) (h : History) (c : Certificate) (plan : Option Forest) → IsProblem b → budget ≤ most_work → (is : IsHistory b budget h)
+    → Certifies b budget is.to_beat (loss_of h.best) c → HasLoss b (loss_of h.best) plan → IsSaidByItsText b plan → IsHead (head_of c) → IsFound b budget c plan
+found b budget h c plan problem most is certifies has said head =
     let loss = certifies.good.loss_is in
+    let good = subst (λ (o : Option ℕ). IsGood b (root_ranges b) o c) (sym loss) certifies.good in
     record {
-      good = subst (λ (o : Option ℕ). IsGood b (root_ranges b) o c) (sym loss) certifies.good;
+      good = good;
       version = certifies.version;
       plan_is = subst (λ (o : Option ℕ). HasLoss b o plan) (sym loss) has;
+      said = both_said b plan c said (is_text b c problem good certifies.version (omega (arith, certifies.in_budget, most)) head);
       bounds = bounds_each_plan b 0 (loss_of h.best) c problem certifies.good;
       in_budget = certifies.in_budget;
       spent = certifies.spent;

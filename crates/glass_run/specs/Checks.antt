@@ -1,5 +1,5 @@
 -- What `verify` and `convert` answer to an instance and the texts of a plan and of a certificate.
-use Rattle.std.specs.Prelude.{◌≡◌, ◌⊎◌, ◌++◌, ℕ, List, [], ◌∷◌, Option, Some, None, Ok, Err, codes}
+use Rattle.std.specs.Prelude.{◌≡◌, ◌⊎◌, ◌++◌, ℕ, List, [], ◌∷◌, Option, Some, None, Err, codes}
 use Rattle.std.specs.Fmt.{decimal}
 use Rattle.glass_base.specs.Problem.{Problem}
 use Rattle.glass_base.specs.declared.role.Role.TheVariants as role
@@ -22,6 +22,7 @@ use Rattle.cert_check.specs.Faults.{IsFirstFault}
 use Rattle.glass_run.specs.Answers.{Answer, bad_input, only_lines}
 use Rattle.glass_run.specs.Judgements.{IsFirstBroken, PlanRefused, unlawful}
 use Rattle.glass_run.specs.Plans.{root_ranges}
+use Rattle.glass_run.specs.Said.{IsPlanIn, SayBoth}
 use Rattle.glass_run.specs.declared.status.Status.TheVariants as status
 
 -- a word and two values
@@ -67,12 +68,6 @@ CertRefused (bad.Line line) answer = answer ≡ bad_input role.Cert 31 line 0
 CertRefused (bad.Short lines) answer = answer ≡ bad_input role.Cert 32 lines 0
 CertRefused (bad.Trailing line) answer = answer ≡ bad_input role.Cert 33 line 0
 
--- the text of the plan says this plan, or there is no text and no plan
-abbrev pub IsPlanIn : Problem → Option (List ℕ) → Option Forest → Type 0
-IsPlanIn b (Some text) (Some plan) = plan_said b text ≡ Ok plan
-IsPlanIn b None None = Unit {0}
-IsPlanIn b _ _ = ⊥
-
 -- the text of the plan is refused
 abbrev pub RefusesPlan : Problem → Option (List ℕ) → BadPlan → Type 0
 RefusesPlan b None reason = ⊥
@@ -87,11 +82,6 @@ IsLawfulToo b (Some plan) = IsLawful b plan
 abbrev pub loss_in : Problem → Option Forest → Option ℕ
 loss_in b None = None
 loss_in b (Some plan) = Some (loss_of b plan)
-
--- what the texts of a plan and of a certificate say
-pub record SayBoth (b : Problem) (plan_text : Option (List ℕ)) (cert_text : List ℕ) (plan : Option Forest) (c : Certificate) : Type 0 where
-  pub plan_is : IsPlanIn b plan_text plan
-  pub reading : IsReading cert_text (Ok c)
 
 -- the plan is lawful, if there is one, and the certificate is right for the box of all plans and for the plan's loss
 pub record IsAccepted (b : Problem) (plan_text : Option (List ℕ)) (cert_text : List ℕ) (plan : Option Forest) (c : Certificate) : Type 0 where

@@ -18,13 +18,15 @@ use Rattle.cert_check.specs.Faults.{Answers as CheckAnswers, IsFirstFault}
 use Rattle.plan_draft.specs.Drafts.{HasNoDraft, IsDraftPlan}
 use Rattle.plan_csv.specs.PlanTexts.{plan_said}
 use Rattle.plan_csv.specs.Solutions.{solution_text}
-use Rattle.glass_run.specs.Checks.{IsConverted, IsLawfulToo, SayBoth, bound_line, loss_in, refused_line}
+use Rattle.glass_run.specs.Answers.{Answer}
+use Rattle.glass_run.specs.Checks.{IsConverted, IsLawfulToo, Verifies, accepted as accepted_answer, bound_line, loss_in, refused_line}
 use Rattle.glass_run.specs.Commands.{HasInstance, out_of, second_out_of}
 use Rattle.glass_run.specs.Drafts.{no_draft_line, summary}
 use Rattle.glass_run.specs.Grammar.{Line, count_in, files_of, line_of}
 use Rattle.glass_run.specs.Judgements.{IsFirstBroken, lawful_line, unlawful_line}
 use Rattle.glass_run.specs.Plans.{HasLoss, handled, planned, root_ranges, search_summary}
 use Rattle.glass_run.specs.Runs.{Prints, RunsTo, Stands, World}
+use Rattle.glass_run.specs.Said.{SayBoth}
 use Rattle.glass_run.specs.Texts.{Texts, text_for, text_or_empty, texts_of}
 use Rattle.glass_run.specs.declared.grammar.Count.TheVariants as count
 use Rattle.glass_run.specs.declared.grammar.Verb.{Verb}
@@ -128,6 +130,8 @@ pub record StoresSearch (line : Line) (held : Contents) (old new : World) (resul
   pub good : IsGood b (root_ranges b) certificate.loss certificate
   -- a check of it accepts it
   pub accepted : (verdict : Verdict) → CheckAnswers b (root_ranges b) certificate.loss certificate verdict → verdict ≡ Verdict.Accept certificate.bound certificate.left
+  -- `verify` of the two texts, if there is a plan, and else of the certificate alone, accepts them, and prints this bound and this number of open boxes
+  pub verified : (answer : Answer) → Verifies b (option_map (solution_text b) plan) (cert_text certificate) answer → answer ≡ accepted_answer certificate
   -- a printed plan is lawful and has the printed loss
   pub plan_is : HasLoss b certificate.loss plan
   -- every lawful plan loses at least the printed bound; where none is printed, there is no lawful plan

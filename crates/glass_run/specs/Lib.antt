@@ -4,6 +4,7 @@ pub mod Answers
 pub mod Texts
 pub mod Instances
 pub mod Drafts
+pub mod Said
 pub mod Plans
 pub mod Judgements
 pub mod Checks

@@ -18,6 +18,7 @@ use Rattle.plan_csv.specs.Solutions.{solution_text}
 use Rattle.glass_run.specs.declared.status.Status.{Status}
 use Rattle.glass_run.specs.declared.status.Status.TheVariants as status
 use Rattle.glass_run.specs.Answers.{Answer, Store, bad_input}
+use Rattle.glass_run.specs.Said.{SayBoth}
 
 -- the ranges of the box that holds every lawful plan
 abbrev pub root_ranges : Problem → List Ranges
@@ -39,6 +40,8 @@ pub record IsFound (b : Problem) (budget : ℕ) (c : Certificate) (plan : Option
   pub good : IsGood b (root_ranges b) c.loss c
   pub version : IsVersion 2 c
   pub plan_is : HasLoss b c.loss plan
+  -- the texts of both, if there is a plan, are read again as this plan and this certificate
+  pub said : SayBoth b (option_map (solution_text b) plan) (cert_text c) plan c
   -- every lawful plan loses at least the bound; where there is no bound, there is no lawful plan
   pub bounds : (other : Forest) → IsLawful b other → Reaches c.bound (loss_of b other)
   -- no more boxes were closed or split than that, and exactly so many where one was left open

@@ -6,9 +6,10 @@ ghost use Rattle.cert_log.specs.declared.certificate.Certificate.{Certificate as
 ghost use Rattle.cert_log.specs.Good.{IsGood, IsVersion};
 ghost use Rattle.cert_log.specs.Outcomes.{IsReading};
 ghost use Rattle.cert_log.specs.Trees.{IsTree};
-ghost use Rattle.glass_run.specs.Checks.{CertRefused, Converts, IsConverted, IsLawfulToo, IsPlanIn, NotAccepted, Verifies, accepted as accepted_of, converted as converted_of, loss_in, refused as refused_of};
+ghost use Rattle.glass_run.specs.Checks.{CertRefused, Converts, IsConverted, IsLawfulToo, NotAccepted, Verifies, accepted as accepted_of, converted as converted_of, loss_in, refused as refused_of};
 ghost use Rattle.glass_run.specs.Judgements.{PlanRefused, unlawful as unlawful_of};
 ghost use Rattle.glass_run.specs.Plans.{root_ranges};
+ghost use Rattle.glass_run.specs.Said.{IsPlanIn};
 ghost use Rattle.glass_run.specs.inner.Checked.{IsAcceptedFor, IsUnlawful, IsWrong, RefusesCertText, RefusesPlanText};
 ghost use Rattle.glass_run.specs.inner.Forms.{OnTold, answer_in, notice_in};
 ghost use Rattle.glass_run.specs.inner.Searches.{FitsToo};

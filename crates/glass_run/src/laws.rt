@@ -24,7 +24,8 @@ pub fn missing_drafts_are_true()
 {}
 
 /// Where `plan` or `gen` ends with `optimal`, `stopped` or `infeasible`: a printed plan is lawful and has the printed loss, and OUT holds its text;
-/// CERT holds the text of a certificate that is right for the box of all plans, so that a check accepts it; every lawful plan loses at least the printed bound;
+/// CERT holds the text of a certificate that is right for the box of all plans, so that a check accepts it, and `verify` of the two stored texts accepts them
+/// with the printed bound and the printed number of open boxes; every lawful plan loses at least the printed bound;
 /// `optimal` or `infeasible` is printed exactly where no box is left open; `stopped` only where exactly the budgeted number of boxes was
 /// closed or split; the plan is never worse than the draft.
 pub fn searches_are_right()

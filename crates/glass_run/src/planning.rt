@@ -6,10 +6,12 @@ ghost use Rattle.plan_box.specs.Frames.{frame_of};
 ghost use Rattle.plan_box.specs.Ranges.{root_of};
 ghost use Rattle.cert_log.specs.Good.{IsVersion};
 ghost use Rattle.cert_log.specs.Lawful.{IsBest, IsLawful, loss_of as known_loss, no_loss};
+ghost use Rattle.cert_log.specs.Outcomes.{IsHead};
+ghost use Rattle.cert_log.specs.Texts.{head_of};
 ghost use Rattle.box_workers.specs.Runs.{IsFirst, first_loss as first_loss_of};
 ghost use Rattle.glass_run.specs.Plans.{HasLoss, IsFound, PlansWithin, ending as ending_of, ending_word as ending_word_of, handled as handled_of, plan_stores, planned};
 ghost use Rattle.glass_run.specs.inner.Forms.{answer_in, store_in};
-ghost use Rattle.glass_run.specs.inner.Searches.{Certifies, FitsToo, IsHistory, course};
+ghost use Rattle.glass_run.specs.inner.Searches.{Certifies, FitsToo, IsHistory, IsSaidByItsText, course};
 
 use crate::lines::search_lines;
 use crate::notices::{bad_input, reply_with};
@@ -129,7 +131,8 @@ fn certificate_of(
     history: &History,
 ) -> Result<Certificate, Memory>
     requires { (budget : ℕ) × IsHistory instance.now budget history.now }
-    ensures { IfOk result (λ c. (budget : ℕ) → (is : IsHistory instance.now budget history.now) → Certifies instance.now budget is.to_beat (known_loss history.now.best) c) }
+    ensures certifies { IfOk result (λ c. (budget : ℕ) → (is : IsHistory instance.now budget history.now) → Certifies instance.now budget is.to_beat (known_loss history.now.best) c) }
+    ensures head { IfOk result (λ c. IsHead (head_of c)) }
 {
     let mut certificates = assemble(alloc, instance, history)?;
     let Some(certificate) = certificates.pop() else {
@@ -142,10 +145,12 @@ fn certificate_of(
 fn best_plan(alloc: Global, instance: &Instance, history: &History) -> Result<Option<Plan>, Memory>
     requires { IsBest instance.now history.now.best history.now.plan }
     ensures loss { IfOk result (λ plan. HasLoss instance.now (known_loss history.now.best) (option_map tree plan)) }
+    ensures said { IfOk result (λ plan. IsSaidByItsText instance.now (option_map tree plan)) }
     ensures fits { IfOk result FitsToo }
 {
-    // Read for its range.
+    // Read for its range and for its rules.
     let _best = history.best;
+    let _items = instance.items();
     match &history.plan {
         None => Ok(None),
         Some(trace) => {

@@ -8,8 +8,8 @@ mod AcceptedRows
 mod OwnRows
 mod GrownTree
 mod RowsInRange
-mod AddedUp
-mod ReadAgain
+pub mod AddedUp
+pub mod ReadAgain
 mod FieldsInRange
 mod RowsGrown
 mod RowsAccepted

@@ -1,11 +1,18 @@
 use Rattle.std.proofs.Common.{◌≡◌, ℕ, ◌+◌, ◌*◌, List, length, sym, ap, ◌∙◌, subst, arith}
 use Rattle.std.proofs.lemmas.Option.{MatchOption-at_some}
 use Rattle.std.proofs.lemmas.List.{length_push}
+use Rattle.std.proofs.lemmas.List.Elements.{All-push}
+use Rattle.std.specs.Prelude.{All}
 use Rattle.cert_log.specs.declared.certificate.Certificate.{Certificate}
+use Rattle.cert_log.specs.Outcomes.{IsHead}
+use Rattle.cert_log.specs.Texts.{head_of}
 use Rattle.cert_log.specs.inner.Growth.{AreMade, IsMade}
 use Rattle.cert_log.proofs.Totals.{all_good, all_searched, all_nodes, all_left, all_version, start_rooted, made_push, ids_within}
 use Rattle.cert_log.proofs.assembling.assemble.Goals as goal
 use Rattle.cert_log.proofs.assembling.assemble.Goals.{In_ok-room}
+
+abbrev HasHead : Certificate → Type 0
+HasHead c = IsHead (head_of c)
 
 room_is : (c : In_ok-room) → c.in_ok-room.room ≡ c.args.history.now.starts + 2 * length c.args.history.now.log.items
 room_is c = MatchOption-at_some _ (λ n. n ≡ c.args.history.now.starts + 2 * length c.args.history.now.log.items) c.in_ok-room.room c.in_ok-room.ensures.ok_part c.identities.ensures
@@ -26,10 +33,11 @@ pub loop-start-preserved : goal.loop-start-preserved
 loop-start-preserved c =
     let cs = c.loop-start.certificates.items in let p = c.in_ok-append.ensures.ok in
     let m : IsMade c.args.history.now (0 + length cs) c.in_ok-certificate.certificate
-    = subst (λ (i : ℕ). IsMade c.args.history.now i c.in_ok-certificate.certificate) (let e : c.loop-start.start ≡ 0 + length cs = (let l = c.loop-start.invariant.len in omega arith) in e) c.in_ok-certificate.ensures in
+    = subst (λ (i : ℕ). IsMade c.args.history.now i c.in_ok-certificate.certificate) (let e : c.loop-start.start ≡ 0 + length cs = (let l = c.loop-start.invariant.len in omega arith) in e) c.in_ok-certificate.ensures.made in
     record {
       len = ap length p ∙ length_push cs c.in_ok-certificate.certificate ∙ ap (λ (n : ℕ). n + 1) c.loop-start.invariant.len;
       made = subst (λ (xs : List Certificate). AreMade c.args.history.now 0 xs) (sym p) (made_push c.args.history.now 0 cs c.in_ok-certificate.certificate c.loop-start.invariant.made m);
+      heads = subst (All HasHead) (sym p) (All-push HasHead cs c.in_ok-certificate.certificate c.loop-start.invariant.heads c.in_ok-certificate.ensures.head);
     }
 
 pub returns-clause-good : goal.returns-clause-good

@@ -1,7 +1,5 @@
-use Rattle.std.proofs.Common.{ℕ, List, [], ◌∷◌, ◌++◌, ap, ◌∙◌, subst, refl, count_by, arith}
-use Rattle.cert_log.specs.declared.certificate.Node.{Node}
-use Rattle.cert_log.specs.Trees.{is_left}
-use Rattle.cert_log.specs.inner.Growth.{IsGrowing}
+use Rattle.std.proofs.Common.{ℕ, List, [], ◌∷◌, ◌++◌, ap, ◌∙◌, subst, refl, sym, arith}
+use Rattle.cert_log.specs.inner.Growth.{IsGrowing, IsMade}
 use Rattle.cert_log.proofs.Walking.{write_none, write_more}
 use Rattle.cert_log.proofs.Writing.{told, made}
 use Rattle.cert_log.proofs.assembling.certificate_of.Goals as goal
@@ -16,7 +14,7 @@ loop-next-smaller c =
     let m = write_more c.args.history.now c.args.id _ c.in-Some.next c.loop-next.growth.nodes.items c.loop-next.growth.bound g in
     let o = c.in_ok-write_node.ensures.one in omega arith
 
-pub returns : goal.returns
-returns c =
+pub returns-clause-made : goal.returns-clause-made
+returns-clause-made c =
     let g = subst (λ (ws : List ℕ). IsGrowing c.args.history.now c.args.id ws c.loop-next.growth.nodes.items c.loop-next.growth.bound) (c.in_default.ensures.empty.0 refl) c.loop-next.invariant in
-    made c.args.history.now c.args.id _ g refl c.best_loss-loss.ensures (c.count_left.ensures ∙ ap (λ (ns : List Node). count_by is_left ns) c.as_slice.ensures)
+    subst (IsMade c.args.history.now c.args.id) (sym c.with_nodes.ensures.made) (made c.args.history.now c.args.id _ g refl c.best_loss-loss.ensures refl)

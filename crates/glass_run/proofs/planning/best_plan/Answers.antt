@@ -1,6 +1,7 @@
 use Rattle.std.proofs.Common.{arith}
 use Rattle.cut_model.specs.Tree.{tree}
 use Rattle.glass_run.proofs.Searched.{best_plan}
+use Rattle.glass_run.proofs.StoredTexts.{plan_again}
 use Rattle.glass_run.proofs.planning.best_plan.Goals as goal
 
 pub returns-in_ok-plan-in-Some-clause-loss : goal.returns-in_ok-plan-in-Some-clause-loss
@@ -8,3 +9,6 @@ returns-in_ok-plan-in-Some-clause-loss c =
     let is = rw c.in-Some.is at c.requires in
     best_plan c.args.instance.now c.args.history.now.best c.in-Some.trace.steps.items (tree c.in_ok-plan-in-Some.plan) (omega (arith, is.0)) is.2
     c.in_ok-plan-in-Some.ensures.good.lawful c.in_ok-plan-in-Some.ensures.loses
+
+pub returns-in_ok-plan-in-Some-clause-said : goal.returns-in_ok-plan-in-Some-clause-said
+returns-in_ok-plan-in-Some-clause-said c = plan_again c.args.instance.now c.in_ok-plan-in-Some.plan c.items-items.ensures.rules c.in_ok-plan-in-Some.ensures.good

@@ -1,7 +1,15 @@
-use Rattle.std.proofs.Common.{refl}
+use Rattle.std.proofs.Common.{[], ◌∷◌, ◌++◌, refl, subst}
+use Rattle.std.specs.Prelude.{All}
+use Rattle.std.proofs.lemmas.List.Elements.{All-contains, Contains-push}
+use Rattle.cert_log.specs.declared.certificate.Certificate.{Certificate}
+use Rattle.cert_log.specs.Outcomes.{IsHead}
+use Rattle.cert_log.specs.Texts.{head_of}
 use Rattle.glass_run.specs.inner.Searches.{course}
 use Rattle.glass_run.proofs.Searched.{certified, no_certificate}
 use Rattle.glass_run.proofs.planning.certificate_of.Goals as goal
+
+abbrev HasHead : Certificate → Type 0
+HasHead d = IsHead (head_of d)
 
 pub unreachable-requires : goal.unreachable-requires
 unreachable-requires c =
@@ -10,10 +18,15 @@ unreachable-requires c =
     no_certificate b c.requires.0 is.to_beat c.args.history.now c.in_ok-certificates.certificates.items
     (c.in_ok-certificates.ensures.good (course b is.to_beat c.requires.0) is.lawful) (c.in_default.ensures.empty.0 refl)
 
-pub returns : goal.returns
-returns c = λ budget is.
+pub returns-clause-certifies : goal.returns-clause-certifies
+returns-clause-certifies c = λ budget is.
     let b = c.args.instance.now in
     let s = course b is.to_beat budget in
     certified b budget is.to_beat c.args.history.now c.in-Some.certificate c.in_ok-certificates.certificates.items c.pop.new.self.items is.lawful
     (c.in_ok-certificates.ensures.good s is.lawful) (c.in_ok-certificates.ensures.searched s is.lawful)
     c.in_ok-certificates.ensures.nodes c.in_ok-certificates.ensures.left c.in_ok-certificates.ensures.version c.in-Some.ensures.last
+
+pub returns-clause-head : goal.returns-clause-head
+returns-clause-head c =
+    let heads = subst (All HasHead) c.in-Some.ensures.last c.in_ok-certificates.ensures.heads in
+    All-contains HasHead (c.pop.new.self.items ++ c.in-Some.certificate ∷ []) c.in-Some.certificate heads (Contains-push c.pop.new.self.items c.in-Some.certificate)
