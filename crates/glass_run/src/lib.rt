@@ -18,7 +18,7 @@ pub mod status;
 mod texts;
 mod words;
 
-pub use box_workers::{Gate, OpenGate};
+pub use box_workers::{Gate, HeldGate, OpenGate};
 pub use program::run_program;
 pub use run::glass;
 pub use status::Status;

@@ -1,0 +1,78 @@
+//! What a search by one worker or several handles, and what it leaves.
+ghost use Rattle.std.specs.Prelude.{◌≤◌};
+
+use crate::searched::{notes_of, root, searched, small};
+use box_workers::OpenGate;
+use cert_log::{History, Left, Note};
+use glass_base::{Instance, Memory};
+use std::alloc::Global;
+use std::sync::Wait;
+use std::test::Fail;
+use std::thread::Threads;
+
+/// The history of a search from the box of all plans.
+fn search_all<R: Threads + Wait + Sync>(
+    rt: &R,
+    alloc: Global,
+    instance: &Instance,
+    workers: u32,
+    budget: u64,
+) -> Result<History, Memory>
+    requires workers { (1 ≤ workers) × (workers ≤ 8) }
+    requires budget { (1 ≤ budget) × (budget ≤ 10000000) }
+{
+    let start = root(alloc, instance)?;
+    searched(rt, alloc, instance, start, workers, budget, &OpenGate)
+}
+
+/// Whether no two notes name one box.
+fn each_once(log: &[Note]) -> bool {
+    log.iter().all(|note| notes_of(log, note.id) == 1)
+}
+
+/// The loss of the best plan, how many boxes were handled, whether each of them once, and how many are left.
+fn outcome(history: &History) -> (u64, usize, bool, usize) {
+    let log = history.log.as_slice();
+    (history.best, log.len(), each_once(log), history.left.len())
+}
+
+/// The outcome of a search whose budget suffices.
+fn searched_through<R: Threads + Wait + Sync>(
+    rt: &R,
+    alloc: Global,
+    instance: &Instance,
+    workers: u32,
+) -> Result<(u64, usize, bool, usize), Memory>
+    requires { (1 ≤ workers) × (workers ≤ 8) }
+{
+    Ok(outcome(&search_all(rt, alloc, instance, workers, 1000)?))
+}
+
+#[test]
+fn any_number_of_workers_handles_each_box_once(rt: HostRuntime) -> Result<(), Fail> {
+    let instance = small(rt.alloc())?;
+    let wanted = (813_000, 39, true, 0);
+    assert_eq!(rt; searched_through(&rt, rt.alloc(), &instance, 1)?, wanted);
+    assert_eq!(rt; searched_through(&rt, rt.alloc(), &instance, 2)?, wanted);
+    assert_eq!(rt; searched_through(&rt, rt.alloc(), &instance, 8)?, wanted);
+    Ok(())
+}
+
+/// Whether each of these bounds is at least the one that comes from the area of the item alone: it needs 47 mm of a plate.
+fn are_bounds(left: &[Left]) -> bool {
+    left.iter().all(|left| left.bound >= 3210 * 47 - 150_000)
+}
+
+// A box that is closed is one of the last halves, four splits below the box of all plans. So four of the five boxes at least were split,
+// and of their eight halves four at the most were handled.
+#[test]
+fn eight_workers_keep_to_a_small_budget(rt: HostRuntime) -> Result<(), Fail> {
+    let instance = small(rt.alloc())?;
+    let history = search_all(&rt, rt.alloc(), &instance, 8, 5)?;
+    assert_eq!(rt;
+        (history.log.len(), each_once(history.log.as_slice())),
+        (5, true)
+    );
+    assert!(rt; history.left.len() >= 4 && are_bounds(history.left.as_slice()));
+    Ok(())
+}

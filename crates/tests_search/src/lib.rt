@@ -1,0 +1,11 @@
+//! Tests of the search with several workers: that they share the work, the loss that they know, and the budget.
+#![tactic(auto)]
+
+#[cfg(test)]
+mod commands;
+#[cfg(test)]
+mod counts;
+#[cfg(test)]
+mod searched;
+#[cfg(test)]
+mod turns;

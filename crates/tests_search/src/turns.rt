@@ -1,0 +1,209 @@
+//! A loss that one worker finds closes a box of the other one.
+ghost use Rattle.std.specs.Prelude.{◌≡◌, All, length, IfOk};
+ghost use Rattle.plan_box.specs.Frames.{frame_of};
+ghost use Rattle.plan_box.specs.Ranges.{PlainBox};
+ghost use Rattle.cert_log.specs.Lawful.{numbered};
+
+use crate::searched::{searched, small};
+use box_workers::Gate;
+use cert_log::{Act, Cause, History, Note};
+use glass_base::{Instance, Run, append};
+use plan_box::{PlanBox, Var};
+use std::alloc::Global;
+use std::hint::spin_loop;
+use std::sync::Wait;
+use std::sync::atomic::{AtomicBool, Ordering};
+use std::test::Fail;
+use std::thread::Threads;
+
+/// Whether something has come to worker 0, and whether it has come to the other one.
+#[derive(Drop)]
+struct Came {
+    first: AtomicBool,
+    second: AtomicBool,
+}
+
+impl Came {
+    fn new() -> Came {
+        Came {
+            first: AtomicBool::new(false),
+            second: AtomicBool::new(false),
+        }
+    }
+
+    fn to(&self, worker: u32) -> &AtomicBool {
+        if worker == 0 {
+            &self.first
+        } else {
+            &self.second
+        }
+    }
+
+    fn to_other(&self, worker: u32) -> &AtomicBool {
+        if worker == 0 {
+            &self.second
+        } else {
+            &self.first
+        }
+    }
+}
+
+/// Lets two workers handle box 1 before box 0: box 1 is held until box 0 has come to the other worker, and box 0 until the worker of box 1
+/// has come again.
+#[derive(Drop)]
+struct Turns {
+    lower: Came,
+    upper: Came,
+    again: AtomicBool,
+    gave_up: AtomicBool,
+}
+
+impl Turns {
+    fn new() -> Turns {
+        Turns {
+            lower: Came::new(),
+            upper: Came::new(),
+            again: AtomicBool::new(false),
+            gave_up: AtomicBool::new(false),
+        }
+    }
+
+    /// Notes that this worker comes again, if box 1 has come to it before.
+    fn note(&self, worker: u32) {
+        if self.upper.to(worker).load(Ordering::SeqCst) {
+            self.again.store(true, Ordering::SeqCst);
+        }
+    }
+
+    /// Holds until a flag is set, or notes that this never came. After that no call holds.
+    fn hold(&self, flag: &AtomicBool) {
+        if self.gave_up.load(Ordering::SeqCst) {
+            return;
+        }
+        for _ in 0..400_000_000 {
+            if flag.load(Ordering::SeqCst) {
+                return;
+            }
+            spin_loop();
+        }
+        self.gave_up.store(true, Ordering::SeqCst);
+    }
+}
+
+impl Gate for Turns {
+    fn pass(&self, worker: u32, id: u64) {
+        self.note(worker);
+        match id {
+            0 => {
+                self.lower.to(worker).store(true, Ordering::SeqCst);
+                self.hold(&self.again);
+            }
+            1 => {
+                self.upper.to(worker).store(true, Ordering::SeqCst);
+                self.hold(self.lower.to_other(worker));
+            }
+            _ => {}
+        }
+    }
+
+    fn idle(&self, worker: u32) {
+        self.note(worker);
+    }
+}
+
+/// The halves of a box at a variable of the first step, which is free.
+fn halves(
+    alloc: Global,
+    instance: &Instance,
+    bx: PlanBox,
+    var: Var,
+    ids: (u64, u64),
+) -> Result<(PlanBox, PlanBox), Fail>
+    requires { bx.frame ≡ frame_of instance.now }
+    ensures lower { IfOk result (λ r. (r.0.frame ≡ frame_of instance.now) × (r.0.id ≡ ids.0)) }
+    ensures upper { IfOk result (λ r. (r.1.frame ≡ frame_of instance.now) × (r.1.id ≡ ids.1)) }
+{
+    if !bx.free(0, var) {
+        return Err(Fail::new("this variable is not free"));
+    }
+    match bx.split(alloc, instance, 0, var, ids) {
+        Ok(halves) => Ok(halves),
+        Err((_, memory)) => Err(memory.into()),
+    }
+}
+
+/// The lower half of a box at a variable of the first step. It has the identity of the box.
+fn lower_half(alloc: Global, instance: &Instance, bx: PlanBox, var: Var) -> Result<PlanBox, Fail>
+    requires { bx.frame ≡ frame_of instance.now }
+    ensures { IfOk result (λ r. (r.frame ≡ frame_of instance.now) × (r.id ≡ bx.id)) }
+{
+    let id = bx.id();
+    let (lower, _) = halves(alloc, instance, bx, var, (id, id))?;
+    Ok(lower)
+}
+
+/// What of a box has kind 0 and lift 0. A kind is a number from 0 to 4, so three halvings lead to 0.
+fn lowest(alloc: Global, instance: &Instance, bx: PlanBox) -> Result<PlanBox, Fail>
+    requires { bx.frame ≡ frame_of instance.now }
+    ensures { IfOk result (λ r. (r.frame ≡ frame_of instance.now) × (r.id ≡ bx.id)) }
+{
+    let bx = lower_half(alloc, instance, bx, Var::Kind)?;
+    let bx = lower_half(alloc, instance, bx, Var::Kind)?;
+    let bx = lower_half(alloc, instance, bx, Var::Kind)?;
+    lower_half(alloc, instance, bx, Var::Lift)
+}
+
+/// The box of kind 0 and lift 0 in which the item lies as it is, and the one in which it is turned.
+fn two_boxes(alloc: Global, instance: &Instance) -> Result<Run<PlanBox>, Fail>
+    ensures frames { IfOk result (λ start. All (λ (x : PlainBox). x.frame ≡ frame_of instance.now) start.items) }
+    ensures ids { IfOk result (λ start. numbered 0 start.items) }
+    ensures two { IfOk result (λ start. length start.items ≡ 2) }
+{
+    let root = PlanBox::root(alloc, instance, 0)?;
+    let (unturned, turned) = halves(alloc, instance, root, Var::Turn, (0, 1))?;
+    let mut start = Run::new(alloc);
+    append(&mut start, lowest(alloc, instance, unturned)?)?;
+    append(&mut start, lowest(alloc, instance, turned)?)?;
+    Ok(start)
+}
+
+/// The history of a search by two workers from these boxes.
+fn search_two<R: Threads + Wait + Sync>(
+    rt: &R,
+    alloc: Global,
+    instance: &Instance,
+    gate: &Turns,
+) -> Result<History, Fail> {
+    let start = two_boxes(alloc, instance)?;
+    Ok(searched(rt, alloc, instance, start, 2, 10, gate)?)
+}
+
+/// Whether there are two notes: box 1 was closed first and then box 0, both because their bounds reach the loss of the best plan.
+fn are_closed_in_turn(log: &[Note]) -> bool {
+    let act = Act::Closed {
+        threshold: 813_000,
+        cause: Cause::Bound,
+    };
+    let first = Note {
+        id: 1,
+        ticket: 0,
+        act,
+    };
+    let second = Note {
+        id: 0,
+        ticket: 1,
+        act,
+    };
+    log.len() == 2 && log.contains(&first) && log.contains(&second)
+}
+
+#[test]
+fn a_loss_reaches_the_other_worker_at_once(rt: HostRuntime) -> Result<(), Fail> {
+    let instance = small(rt.alloc())?;
+    let gate = Turns::new();
+    let history = search_two(&rt, rt.alloc(), &instance, &gate)?;
+    assert!(rt; !gate.gave_up.load(Ordering::SeqCst));
+    assert!(rt; are_closed_in_turn(history.log.as_slice()));
+    assert_eq!(rt; (history.left.len(), history.best), (0, 813_000));
+    Ok(())
+}
