@@ -1,3 +1,4 @@
 pub mod Told
 pub mod Fetching
 pub mod Held
+pub mod Storing

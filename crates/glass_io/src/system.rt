@@ -1,21 +1,31 @@
 //! The files of the system and standard output. They do not tell what they hold: what a real file keeps is trusted.
 
-ghost use Rattle.std.specs.Prelude.{None};
+ghost use Rattle.std.specs.Prelude.{◌≡◌, ◌≤◌, [], ◌∷◌, ◌++◌, None, OnOk};
+ghost use Rattle.glass_io.specs.declared.decisions.FileId.{FileId};
 ghost use Rattle.glass_io.specs.Held.{shelf_of};
 
-use crate::decisions::{fetched, written};
+use crate::decisions::{FileId, fetched, written};
 use crate::faults::{count_read, one_more};
 use crate::files::{Fetched, Files, Sink, Trouble};
-use glass_base::Role;
+use crate::storing::{id_of, store_under};
+use glass_base::{Role, Run};
 use std::alloc::Global;
+use std::fs::OpenFile;
 use std::io::{Read, Write};
 use std::{fs, io, rt};
 
 /// The files of the system, by their paths.
+///
+/// A store loses nothing: its bytes go to a new file `.NAME.glass-N` beside the name, which takes the name once it is whole, with
+/// the permissions of the old file. Whatever fails before that leaves the old file, and no new one where it can be removed. A link stays,
+/// and the file that it leads to is replaced, or made. A device or a pipe is written as it is. A folder, and a file that this run has
+/// read or stored, whatever its name, are not written: a store there fails.
 #[derive(Drop)]
 pub struct StdFiles<'a, R> {
     pub rt: &'a R,
     pub alloc: Global,
+    /// The files that were opened to be read, and those that were stored.
+    pub used: Run<FileId>,
     /// How many fetches failed, by the place of their role; one place is spare.
     pub read_faults: [u64; 7],
     /// How many stores failed.
@@ -23,7 +33,7 @@ pub struct StdFiles<'a, R> {
 }
 
 impl<'a, R> StdFiles<'a, R> {
-    ghost use Rattle.std.specs.Prelude.{◌≡◌};
+    ghost use Rattle.std.specs.Prelude.{◌≡◌, []};
     ghost use Rattle.glass_base.specs.declared.role.Role.{Role};
     ghost use Rattle.glass_io.specs.Held.{faults_of};
 
@@ -31,20 +41,32 @@ impl<'a, R> StdFiles<'a, R> {
     pub fn new(rt: &'a R, alloc: Global) -> StdFiles<'a, R>
         ensures unread { (of : Role) → faults_of result.read_faults of ≡ 0 }
         ensures unwritten { result.write_faults ≡ 0 }
+        ensures unused { result.used.items ≡ [] }
     {
         StdFiles {
             rt,
             alloc,
+            used: Run::new(alloc),
             read_faults: [0; 7],
             write_faults: 0,
         }
     }
 }
 
-/// The bytes of a file, of which one more than the limit is read at the most.
-fn read_all<R: rt::Files>(rt: &R, alloc: Global, name: &str, limit: u64) -> io::Result<Vec<u8>> {
+/// The bytes of a file, of which one more than the limit is read at the most. The file is noted as soon as it is open.
+fn read_all<R: rt::Files>(
+    rt: &R,
+    alloc: Global,
+    used: &mut Run<FileId>,
+    name: &str,
+    limit: u64,
+) -> io::Result<Vec<u8>>
+    requires { 1 ≤ used.old.spare }
+    ensures { OnOk result ((id : FileId) × (used.new.items ≡ used.old.items ++ id ∷ [])) }
+{
     let mut bytes = Vec::new(alloc);
     let file = fs::open(rt, name)?;
+    used.put(id_of(&file.metadata()?));
     file.take(limit.saturating_add(1)).read_to_end(&mut bytes)?;
     Ok(bytes)
 }
@@ -55,7 +77,9 @@ impl<'a, R: rt::Files> Files for StdFiles<'a, R> {
     ghost reliable = { λ _. ⊥ };
 
     fn fetch(&mut self, role: Role, name: &str, limit: u64) -> Result<Fetched, Trouble> {
-        let answer = fetched(read_all(self.rt, self.alloc, name, limit), limit);
+        self.used.reserve(1)?;
+        let outcome = read_all(self.rt, self.alloc, &mut self.used, name, limit);
+        let answer = fetched(outcome, limit);
         if let Err(Trouble::Failed) = answer {
             count_read(&mut self.read_faults, role);
         }
@@ -63,11 +87,19 @@ impl<'a, R: rt::Files> Files for StdFiles<'a, R> {
     }
 
     fn store(&mut self, name: &str, bytes: &[u8]) -> Result<(), Trouble> {
-        let answer = written(fs::write(self.rt, name, bytes));
-        if answer.is_err() {
-            self.write_faults = one_more(self.write_faults);
+        self.used.reserve(1)?;
+        match store_under(self.rt, self.alloc, self.used.as_slice(), name, bytes) {
+            Ok(None) => Ok(()),
+            Ok(Some(id)) => {
+                self.used.put(id);
+                Ok(())
+            }
+            Err(Trouble::Memory) => Err(Trouble::Memory),
+            Err(Trouble::Failed) => {
+                self.write_faults = one_more(self.write_faults);
+                Err(Trouble::Failed)
+            }
         }
-        answer
     }
 }
 
