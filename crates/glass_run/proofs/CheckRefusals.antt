@@ -91,6 +91,7 @@ not_done verb.Draft line held answer check of differs s = absurd check
 not_done verb.Plan line held answer check of differs s = absurd check
 not_done verb.Gen line held answer check of differs s = absurd check
 not_done verb.Judge line held answer check of differs s = absurd check
+not_done verb.Picture line held answer check of differs s = absurd check
 not_done verb.Verify line held answer check of differs s =
     let verifies : Verifies s.b (text_for s.texts role.Plan) (text_or_empty s.texts role.Cert) answer = subst (λ (v : Verb). AnswersInstance v line s.texts s.b answer) of s.answers in
     elim verifies [
@@ -125,3 +126,4 @@ judged_unlawful_by words line held old new verb.Gen is e = absurd is
 judged_unlawful_by words line held old new verb.Judge is e = unlawful_judgement words line held old new e
 judged_unlawful_by words line held old new verb.Verify is e = unlawful_check words line held old new verb.Verify tt e
 judged_unlawful_by words line held old new verb.Convert is e = unlawful_check words line held old new verb.Convert tt e
+judged_unlawful_by words line held old new verb.Picture is e = absurd is

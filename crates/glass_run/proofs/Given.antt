@@ -13,6 +13,7 @@ use Rattle.glass_run.specs.declared.notices.Stop.TheVariants as stop
 use Rattle.glass_run.specs.declared.grammar.Verb.{Verb}
 use Rattle.glass_run.specs.declared.grammar.Verb.TheVariants as verb
 use Rattle.glass_run.specs.Grammar.{Line, files_of}
+use Rattle.glass_run.specs.Pictures.{DrawsText}
 use Rattle.glass_run.specs.Texts.{Texts, text_for, text_or_empty, texts_of}
 
 pub with_texts : (told : Option Contents) (line : Line) (texts : Texts) (answer : Answer) → IfSome told (λ contents. texts_of contents (files_of line) ≡ Ok texts) → AnswersTexts line texts answer →
@@ -35,6 +36,11 @@ pub convert_answers : (line : Line) (texts : Texts) (b : Problem) (answer : Answ
 convert_answers line texts b answer plan text of is says h =
     answers_as verb.Convert line texts b answer of
     (subst (λ (p : Option (List ℕ)). Converts b p (text_or_empty texts role.Cert) (out_of line) answer) is (subst (λ (t : List ℕ). Converts b plan t (out_of line) answer) says h))
+
+pub picture_answers : (line : Line) (texts : Texts) (b : Problem) (answer : Answer) (text : List ℕ) → line.verb ≡ verb.Picture → text ≡ text_or_empty texts role.Plan →
+    DrawsText b (out_of line) text answer → AnswersInstance line.verb line texts b answer
+picture_answers line texts b answer text of says h =
+    answers_as verb.Picture line texts b answer of (subst (λ (t : List ℕ). DrawsText b (out_of line) t answer) says h)
 
 -- the answer to the instance of a line
 pub said_instance : (line : Line) (texts : Texts) (b : Problem) (answer : Answer) → HasInstance line.verb line texts b → AnswersInstance line.verb line texts b answer → AnswersTexts line texts answer

@@ -59,6 +59,7 @@ rules_of verb.Gen line texts b h = h.made.rules
 rules_of verb.Judge line texts b h = h.made.rules
 rules_of verb.Verify line texts b h = h.made.rules
 rules_of verb.Convert line texts b h = h.made.rules
+rules_of verb.Picture line texts b h = h.made.rules
 
 -- an answer to an instance that the files say
 pub record Says (line : Line) (held : Contents) (answer : Answer) : Type 0 where

@@ -16,3 +16,5 @@ mod Headlines
 mod SearchHeadline
 mod CheckHeadlines
 mod CheckRefusals
+mod Drawn
+mod PictureHeadline

@@ -116,6 +116,7 @@ plans_by verb.Gen is line texts b answer h = h
 plans_by verb.Judge is line texts b answer h = absurd is
 plans_by verb.Verify is line texts b answer h = absurd is
 plans_by verb.Convert is line texts b answer h = absurd is
+plans_by verb.Picture is line texts b answer h = absurd is
 
 -- a check accepts a certificate that is right
 accepts_good : (b : Problem) (rs : List Ranges) (loss : Option ℕ) (c : Certificate) → IsGood b rs loss c → (verdict : Verdict) → CheckAnswers b rs loss c verdict → verdict ≡ Verdict.Accept c.bound c.left

@@ -114,3 +114,4 @@ none_refused verb.Gen texts answer h = absurd h
 none_refused verb.Judge texts answer h = instance_refused texts _ answer h
 none_refused verb.Verify texts answer h = instance_refused texts _ answer h
 none_refused verb.Convert texts answer h = instance_refused texts _ answer h
+none_refused verb.Picture texts answer h = instance_refused texts _ answer h

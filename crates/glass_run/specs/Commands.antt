@@ -14,6 +14,7 @@ use Rattle.glass_run.specs.Drafts.{Drafts}
 use Rattle.glass_run.specs.Grammar.{Line, files_of, count_in, lead_in, stored_names}
 use Rattle.glass_run.specs.Instances.{InstanceRefused, IsInstanceOf}
 use Rattle.glass_run.specs.Judgements.{JudgesText}
+use Rattle.glass_run.specs.Pictures.{DrawsText}
 use Rattle.glass_run.specs.Plans.{PlansWithin}
 use Rattle.glass_run.specs.Texts.{Texts, text_for, text_or_empty, texts_of}
 
@@ -33,6 +34,7 @@ AnswersInstance verb.Gen line texts b answer = PlansWithin b (count_in line coun
 AnswersInstance verb.Judge line texts b answer = JudgesText b (text_or_empty texts role.Plan) answer
 AnswersInstance verb.Verify line texts b answer = Verifies b (text_for texts role.Plan) (text_or_empty texts role.Cert) answer
 AnswersInstance verb.Convert line texts b answer = Converts b (text_for texts role.Plan) (text_or_empty texts role.Cert) (out_of line) answer
+AnswersInstance verb.Picture line texts b answer = DrawsText b (out_of line) (text_or_empty texts role.Plan) answer
 
 -- the text of the defects that each command plans with; a draft is made on plates without defects
 abbrev pub flaws_of : Verb → Texts → Option (List ℕ)

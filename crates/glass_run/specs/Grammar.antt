@@ -12,6 +12,8 @@ use Rattle.glass_run.specs.declared.grammar.Count.{Count}
 use Rattle.glass_run.specs.declared.grammar.Count.TheVariants as count
 use Rattle.glass_run.specs.declared.grammar.Lead.{Lead}
 use Rattle.glass_run.specs.declared.grammar.Lead.TheVariants as lead
+use Rattle.glass_run.specs.declared.grammar.Product.{Product}
+use Rattle.glass_run.specs.declared.grammar.Product.TheVariants as product
 use Rattle.glass_run.specs.declared.grammar.Verb.{Verb}
 use Rattle.glass_run.specs.declared.grammar.Verb.TheVariants as verb
 
@@ -23,7 +25,7 @@ pub record Pattern : Type 0 where
   pub leads : List Lead
   pub reads : List Role
   pub without : List Role
-  pub stores : List Role
+  pub stores : List Product
   pub options : List Role
   pub counts : List Count
 
@@ -33,7 +35,7 @@ pattern_of verb.Draft = record {
   leads = [];
   reads = role.Batch ∷ [];
   without = [];
-  stores = role.Plan ∷ [];
+  stores = product.Plan ∷ [];
   options = role.Params ∷ role.Plates ∷ [];
   counts = [];
 }
@@ -42,7 +44,7 @@ pattern_of verb.Plan = record {
   leads = [];
   reads = role.Batch ∷ role.Defects ∷ [];
   without = [];
-  stores = role.Plan ∷ role.Cert ∷ [];
+  stores = product.Plan ∷ product.Certificate ∷ [];
   options = role.Params ∷ role.Plates ∷ [];
   counts = count.Workers ∷ count.Budget ∷ [];
 }
@@ -51,7 +53,7 @@ pattern_of verb.Gen = record {
   leads = lead.Start ∷ lead.Items ∷ lead.Defects ∷ [];
   reads = [];
   without = [];
-  stores = role.Plan ∷ role.Cert ∷ [];
+  stores = product.Plan ∷ product.Certificate ∷ [];
   options = [];
   counts = count.Workers ∷ count.Budget ∷ [];
 }
@@ -78,12 +80,21 @@ pattern_of verb.Convert = record {
   leads = [];
   reads = role.Batch ∷ role.Defects ∷ role.Plan ∷ role.Cert ∷ [];
   without = role.Plan ∷ [];
-  stores = role.Cert ∷ [];
+  stores = product.Certificate ∷ [];
+  options = role.Params ∷ role.Plates ∷ [];
+  counts = [];
+}
+pattern_of verb.Picture = record {
+  word = codes "picture";
+  leads = [];
+  reads = role.Batch ∷ role.Defects ∷ role.Plan ∷ [];
+  without = [];
+  stores = product.Picture ∷ [];
   options = role.Params ∷ role.Plates ∷ [];
   counts = [];
 }
 
--- all commands
+-- the commands of `glass`
 abbrev pub verbs : List Verb
 verbs = verb.Draft ∷ verb.Plan ∷ verb.Gen ∷ verb.Judge ∷ verb.Verify ∷ verb.Convert ∷ []
 
@@ -290,6 +301,10 @@ verb_of word = find (λ of. bytes_eq word (pattern_of of).word) verbs
 abbrev pub line_of : List (List ℕ) → Option Line
 line_of [] = None
 line_of (word ∷ words) = option_and_then (λ of. line_if (line_with of words)) (verb_of word)
+
+-- the line of the program that draws, if the words are one
+abbrev pub picture_line_of : List (List ℕ) → Option Line
+picture_line_of words = line_if (line_with verb.Picture words)
 
 -- the name of the file of this role, where an option names it
 abbrev pub name_by_option : Line → Role → Option (List ℕ)

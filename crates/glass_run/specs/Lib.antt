@@ -7,9 +7,11 @@ pub mod Drafts
 pub mod Said
 pub mod Plans
 pub mod Judgements
+pub mod Pictures
 pub mod Checks
 pub mod Commands
 pub mod Runs
 pub mod Headlines
+pub mod PictureHeadlines
 pub mod Exits
 pub mod inner

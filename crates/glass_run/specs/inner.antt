@@ -3,3 +3,4 @@ pub mod Checked
 pub mod Forms
 pub mod Searches
 pub mod Deliveries
+pub mod Verdicts

@@ -32,7 +32,7 @@ fn no_draft(alloc: Global, number: u32) -> Result<Notice, Memory>
 }
 
 /// The outputs that are this one.
-fn one_output(alloc: Global, bytes: Run<u8>) -> Result<Run<Output>, Memory>
+pub(crate) fn one_output(alloc: Global, bytes: Run<u8>) -> Result<Run<Output>, Memory>
     ensures { IfOk result (λ outputs. outputs.items ≡ record { place = 0; bytes = bytes } ∷ []) }
 {
     let mut outputs = Run::new(alloc);

@@ -20,6 +20,19 @@ pub enum Verb {
     Verify,
     /// Does what `Verify` does, and stores the certificate with its causes named.
     Convert,
+    /// Draws a plan.
+    Picture,
+}
+
+/// What a command stores.
+#[derive(Clone, Copy, Debug, PartialEq, Eq)]
+pub enum Product {
+    /// A plan.
+    Plan,
+    /// A certificate.
+    Certificate,
+    /// A picture of a plan.
+    Picture,
 }
 
 /// A number that stands before the names.
@@ -74,12 +87,12 @@ pub struct Form {
     pub leads: &'static [Lead],
     pub reads: &'static [Role],
     pub without: &'static [Role],
-    pub stores: &'static [Role],
+    pub stores: &'static [Product],
     pub options: &'static [Role],
     pub counts: &'static [Count],
 }
 
-/// All commands.
+/// The commands of `glass`.
 pub(crate) const VERBS: [Verb; 6] = [
     Verb::Draft,
     Verb::Plan,
@@ -113,7 +126,7 @@ impl Verb {
                 leads: &[],
                 reads: &[Role::Batch],
                 without: &[],
-                stores: &[Role::Plan],
+                stores: &[Product::Plan],
                 options: &[Role::Params, Role::Plates],
                 counts: &[],
             },
@@ -122,7 +135,7 @@ impl Verb {
                 leads: &[],
                 reads: &[Role::Batch, Role::Defects],
                 without: &[],
-                stores: &[Role::Plan, Role::Cert],
+                stores: &[Product::Plan, Product::Certificate],
                 options: &[Role::Params, Role::Plates],
                 counts: &[Count::Workers, Count::Budget],
             },
@@ -131,7 +144,7 @@ impl Verb {
                 leads: &[Lead::Start, Lead::Items, Lead::Defects],
                 reads: &[],
                 without: &[],
-                stores: &[Role::Plan, Role::Cert],
+                stores: &[Product::Plan, Product::Certificate],
                 options: &[],
                 counts: &[Count::Workers, Count::Budget],
             },
@@ -158,7 +171,16 @@ impl Verb {
                 leads: &[],
                 reads: &[Role::Batch, Role::Defects, Role::Plan, Role::Cert],
                 without: &[Role::Plan],
-                stores: &[Role::Cert],
+                stores: &[Product::Certificate],
+                options: &[Role::Params, Role::Plates],
+                counts: &[],
+            },
+            Verb::Picture => Form {
+                word: "picture",
+                leads: &[],
+                reads: &[Role::Batch, Role::Defects, Role::Plan],
+                without: &[],
+                stores: &[Product::Picture],
                 options: &[Role::Params, Role::Plates],
                 counts: &[],
             },

@@ -7,6 +7,7 @@ ghost use Rattle.cut_model.specs.Rules.{KeepsCutRules};
 ghost use Rattle.cut_model.specs.Tree.{tree};
 ghost use Rattle.glass_run.specs.inner.Breaches.{IsBreachIfAny};
 ghost use Rattle.glass_run.specs.inner.Forms.{notice_in};
+ghost use Rattle.glass_run.specs.inner.Verdicts.{IsVerdict};
 ghost use Rattle.glass_run.specs.Judgements.{Judges, JudgesText, PlanRefused, lawful as lawful_of, unlawful as unlawful_of};
 
 use crate::lines::{lawful_line, unlawful_line};
@@ -19,6 +20,7 @@ use defect_map::DefectMap;
 use glass_base::{Instance, Memory, Role};
 use loss_area::loss;
 use plan_csv::{BadPlan, read_plan};
+use plan_picture::Verdict;
 use stack_order::judge_order;
 use std::alloc::Global;
 
@@ -86,15 +88,26 @@ pub(crate) fn first_breach(
     }
 }
 
+/// What is found of a plan: its loss, or its first breach.
+pub(crate) fn verdict_on(alloc: Global, instance: &Instance, plan: &Plan) -> Result<Verdict, Memory>
+    requires { Fits (tree plan.now) }
+    ensures { IfOk result (IsVerdict instance.now (tree plan.now)) }
+{
+    let map = DefectMap::new(alloc, instance)?;
+    match first_breach(alloc, instance, &map, plan)? {
+        None => Ok(Verdict::Lawful(loss(instance, plan))),
+        Some(broken) => Ok(Verdict::Broken(broken)),
+    }
+}
+
 /// The notice of a plan: its loss, or its first breach.
 fn judge_plan(alloc: Global, instance: &Instance, plan: &Plan) -> Result<Notice, Memory>
     requires { Fits (tree plan.now) }
     ensures { IfOk result (λ n. Judges instance.now (tree plan.now) (notice_in n)) }
 {
-    let map = DefectMap::new(alloc, instance)?;
-    match first_breach(alloc, instance, &map, plan)? {
-        None => lawful(alloc, loss(instance, plan)),
-        Some(broken) => unlawful(alloc, &broken),
+    match verdict_on(alloc, instance, plan)? {
+        Verdict::Lawful(loss) => lawful(alloc, loss),
+        Verdict::Broken(broken) => unlawful(alloc, &broken),
     }
 }
 

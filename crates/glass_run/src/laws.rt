@@ -1,4 +1,4 @@
-//! What a user may rely on, derived from the contract of `glass` alone. The functions do nothing: their contracts are the laws.
+//! What a user may rely on, derived from the contracts of `glass` and `glass_picture` alone. The functions do nothing: their contracts are the laws.
 //!
 //! Each speaks of any words, and of files that tell what they hold before the run.
 
@@ -6,6 +6,7 @@ ghost use Rattle.std.specs.Prelude.{ℕ, List};
 ghost use Rattle.glass_io.specs.Told.{Contents};
 ghost use Rattle.glass_run.specs.Grammar.{Line};
 ghost use Rattle.glass_run.specs.Headlines.{Accepts, Ended, FindsLawful, FindsNoDraft, FindsUnlawful, FindsWrong, IsCheck, IsJudging, IsSearch, IsSearchEnd, StoresConverted, StoresLawfulPlan, StoresSearch};
+ghost use Rattle.glass_run.specs.PictureHeadlines.{PictureEnded, StoresPicture};
 ghost use Rattle.glass_run.specs.Runs.{World};
 ghost use Rattle.glass_run.specs.declared.grammar.Verb.{Verb};
 ghost use Rattle.glass_run.specs.declared.grammar.Verb.TheVariants as verb;
@@ -59,4 +60,11 @@ pub fn done_conversions_are_right()
 /// right for it, and what is printed is the first check that it fails.
 pub fn refused_checks_are_true()
     ensures { (words : List (List ℕ)) → (line : Line) → (held : Contents) → (old new : World) → (check : Verb) → IsCheck check → Ended words check line held old new status.Refused → FindsWrong line held old new }
+{}
+
+/// Where the program that draws is done, OUT holds the text of a picture of the plan that PLAN says, stored whole, and all other names are
+/// as before: each row of the plan has exactly one rectangle in it, in the row's place and of its size. What is printed is the plan's loss
+/// where it is lawful, and else its first breach.
+pub fn done_pictures_are_true()
+    ensures { (words : List (List ℕ)) → (line : Line) → (held : Contents) → (old new : World) → PictureEnded words line held old new status.Done → StoresPicture line held old new }
 {}

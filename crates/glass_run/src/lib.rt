@@ -3,6 +3,7 @@
 
 mod checking;
 mod drafting;
+mod drawing;
 mod fetching;
 pub mod grammar;
 mod instances;
@@ -19,6 +20,6 @@ mod texts;
 mod words;
 
 pub use box_workers::{Gate, HeldGate, OpenGate};
-pub use program::run_program;
-pub use run::glass;
+pub use program::{run_picture, run_program};
+pub use run::{glass, glass_picture};
 pub use status::Status;

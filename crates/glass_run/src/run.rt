@@ -7,13 +7,14 @@ ghost use Rattle.glass_io.specs.declared.files.Trouble.TheVariants.{Failed, Memo
 ghost use Rattle.glass_run.specs.Commands.{Answers, AnswersInstance, AnswersTexts, HasInstance, HasNoInstance, flaws_of};
 ghost use Rattle.glass_run.specs.inner.Deliveries.{Delivers, Ends};
 ghost use Rattle.glass_run.specs.inner.Forms.{CountsFetches, OnFault, OnTold, answer_in, line_in, store_in, texts_in};
-ghost use Rattle.glass_run.specs.Grammar.{Line, files_of, lead_in, line_of, stored_names};
+ghost use Rattle.glass_run.specs.Grammar.{Line, files_of, lead_in, line_of, picture_line_of, stored_names};
 ghost use Rattle.glass_gen.specs.Drawn.{IsDrawn};
 ghost use Rattle.glass_run.specs.Runs.{CutShort, RunsTo, Stands, StandsInPart, world};
 ghost use Rattle.glass_run.specs.Texts.{Reaches};
 
 use crate::checking::{convert_texts, verify_texts};
 use crate::drafting::draft_instance;
+use crate::drawing::draw_text;
 use crate::fetching::{NoReply, fetch_files};
 use crate::grammar::{Count, Lead, Verb};
 use crate::instances::instance_of;
@@ -24,8 +25,8 @@ use crate::planning::plan_instance;
 use crate::reply::{Output, Reply};
 use crate::status::Status;
 use crate::texts::{Text, text_of_role, text_or_empty};
-use crate::words::{CommandLine, line_named};
-use box_workers::Gate;
+use crate::words::{CommandLine, line_named, picture_line};
+use box_workers::{Gate, OpenGate};
 use glass_base::{Instance, Memory, Role};
 use glass_gen::generate;
 use glass_io::{Files, Sink, Trouble};
@@ -62,6 +63,7 @@ fn reply_to_instance<R: Threads + Wait + Sync, G: Gate + Sync>(
             let plan = text_of_role(texts, Role::Plan);
             convert_texts(alloc, instance, plan, text_or_empty(texts, Role::Cert))
         }
+        Verb::Picture => draw_text(alloc, instance, text_or_empty(texts, Role::Plan)),
     }
 }
 
@@ -71,7 +73,7 @@ fn flaws(verb: Verb, texts: &[Text]) -> Option<&[u8]>
 {
     match verb {
         Verb::Draft => None,
-        Verb::Plan | Verb::Gen | Verb::Judge | Verb::Verify | Verb::Convert => {
+        Verb::Plan | Verb::Gen | Verb::Judge | Verb::Verify | Verb::Convert | Verb::Picture => {
             text_of_role(texts, Role::Defects)
         }
     }
@@ -93,7 +95,7 @@ fn instance_for(alloc: Global, line: &CommandLine<'_>, texts: &[Text]) -> Result
 {
     match line.verb {
         Verb::Gen => Ok(drawn_instance(alloc, line)?),
-        Verb::Draft | Verb::Plan | Verb::Judge | Verb::Verify | Verb::Convert => {
+        Verb::Draft | Verb::Plan | Verb::Judge | Verb::Verify | Verb::Convert | Verb::Picture => {
             instance_of(alloc, texts, flaws(line.verb, texts))
         }
     }
@@ -184,6 +186,28 @@ fn deliver<F: Files, S: Sink>(files: &mut F, out: &mut S, names: &[String], repl
     }
 }
 
+/// Runs a command line, or tells that the words are none.
+fn run_line<R: Threads + Wait + Sync, F: Files, S: Sink, G: Gate + Sync>(
+    rt: &R,
+    alloc: Global,
+    line: Option<CommandLine<'_>>,
+    files: &mut F,
+    out: &mut S,
+    gate: &G,
+) -> Status
+    ensures runs { RunsTo (option_map line_in line.entry) (world (F.shelf files.old) (S.paper out.old)) (world (F.shelf files.new) (S.paper out.new)) result }
+    ensures no_fault { F.reliable files.old → S.reliable out.old → (result ≢ Status.ReadFault) × (result ≢ Status.WriteFault) }
+{
+    match line {
+        None => print(out, USAGE_LINE, Status::Usage),
+        Some(line) => match reply_of(rt, alloc, files, &line, gate) {
+            Ok(reply) => deliver(files, out, line.stored(), &reply),
+            Err(NoReply::Memory) => Status::Memory,
+            Err(NoReply::ReadFault(role)) => print(out, read_fault_line(role), Status::ReadFault),
+        },
+    }
+}
+
 /// Runs a command line, its words being those after the program's name.
 ///
 /// `draft BATCH OUT` stores the plan of the draft of the batch, on plates without defects, and prints its loss and the number
@@ -207,12 +231,26 @@ pub fn glass<R: Threads + Wait + Sync, F: Files, S: Sink, G: Gate + Sync>(
     // where nothing fails there is no fault
     ensures no_fault { F.reliable files.old → S.reliable out.old → (result ≢ Status.ReadFault) × (result ≢ Status.WriteFault) }
 {
-    match line_named(words) {
-        None => print(out, USAGE_LINE, Status::Usage),
-        Some(line) => match reply_of(rt, alloc, files, &line, gate) {
-            Ok(reply) => deliver(files, out, line.stored(), &reply),
-            Err(NoReply::Memory) => Status::Memory,
-            Err(NoReply::ReadFault(role)) => print(out, read_fault_line(role), Status::ReadFault),
-        },
-    }
+    run_line(rt, alloc, line_named(words), files, out, gate)
+}
+
+/// Draws a plan, the words being those after the name of the program that draws: `BATCH DEFECTS PLAN OUT`, and behind them the options
+/// `--params=FILE` and `--plates=FILE`, as in the line of `judge`.
+///
+/// It judges the plan that PLAN says as `judge` does, stores a picture of it as OUT, whether it is lawful or not, and prints the loss of a
+/// lawful plan, or the first rule that it breaks. A text that is no plan is refused as `judge` refuses it, and so are all other files.
+pub fn glass_picture<R: Threads + Wait + Sync, F: Files, S: Sink>(
+    rt: &R,
+    alloc: Global,
+    words: &[String],
+    files: &mut F,
+    out: &mut S,
+) -> Status
+    // what is stored, printed and counted, by the status
+    ensures runs { RunsTo (picture_line_of (map string_bytes words.now)) (world (F.shelf files.old) (S.paper out.old)) (world (F.shelf files.new) (S.paper out.new)) result }
+
+    // where nothing fails there is no fault
+    ensures no_fault { F.reliable files.old → S.reliable out.old → (result ≢ Status.ReadFault) × (result ≢ Status.WriteFault) }
+{
+    run_line(rt, alloc, picture_line(words), files, out, &OpenGate)
 }

@@ -7,7 +7,7 @@ ghost use Rattle.std.specs.Str.{bytes_eq};
 ghost use Rattle.std.specs.String.{string_bytes};
 ghost use Rattle.glass_run.specs.inner.Forms.{line_in, pattern_in};
 ghost use Rattle.glass_base.specs.Roles.{is_role};
-ghost use Rattle.glass_run.specs.Grammar.{Pattern, count_most as count_most_of, are_options as are_options_of, has_leading_zero as has_leading_zero_of, is_command_option as is_command_option_of, is_number as is_number_of, is_count as is_count_of, is_count_once, is_some_count as is_some_count_of, is_dash as is_dash_of, is_lead, lead_least as lead_least_of, lead_most as lead_most_of, lead_value as lead_value_of, name_said as name_said_of, number_within as number_within_of, count_value as count_value_of, is_once, is_option_for as is_option_for_of, is_some_option as is_some_option_of, is_name as is_name_of, is_option as is_option_of, line_if, line_of, line_with, option_name as option_name_of, option_names as option_names_of, verb_of};
+ghost use Rattle.glass_run.specs.Grammar.{Pattern, count_most as count_most_of, are_options as are_options_of, has_leading_zero as has_leading_zero_of, is_command_option as is_command_option_of, is_number as is_number_of, is_count as is_count_of, is_count_once, is_some_count as is_some_count_of, is_dash as is_dash_of, is_lead, lead_least as lead_least_of, lead_most as lead_most_of, lead_value as lead_value_of, name_said as name_said_of, number_within as number_within_of, count_value as count_value_of, is_once, is_option_for as is_option_for_of, is_some_option as is_some_option_of, is_name as is_name_of, is_option as is_option_of, line_if, line_of, line_with, option_name as option_name_of, option_names as option_names_of, picture_line_of, verb_of};
 
 use crate::grammar::{
     Count, Form, Lead, VERBS, Verb, count_front, count_most, count_usual, lead_least, lead_most,
@@ -516,4 +516,11 @@ pub(crate) fn line_named(words: &[String]) -> Option<CommandLine<'_>>
 {
     let verb = verb_named(words.first()?.as_str())?;
     line_behind(verb, &words[1..])
+}
+
+/// The line of the program that draws, if the words are one.
+pub(crate) fn picture_line(words: &[String]) -> Option<CommandLine<'_>>
+    ensures { option_map line_in result ≡ picture_line_of (map string_bytes words.now) }
+{
+    line_behind(Verb::Picture, words)
 }

@@ -7,7 +7,7 @@ use Rattle.glass_base.specs.declared.role.Role.TheVariants as role
 use Rattle.glass_run.specs.Texts.{text_or_empty}
 use Rattle.glass_run.specs.declared.grammar.Verb.TheVariants as verb
 use Rattle.glass_run.specs.inner.Forms.{answer_in, line_in, texts_in}
-use Rattle.glass_run.proofs.Given.{answers_as, convert_answers, verify_answers}
+use Rattle.glass_run.proofs.Given.{answers_as, convert_answers, picture_answers, verify_answers}
 use Rattle.glass_run.proofs.run.reply_to_instance.Goals as goal
 
 pub returns-in-Draft : goal.returns-in-Draft
@@ -36,3 +36,10 @@ returns-in-Convert g c =
     IfOk-weaker c.convert_texts.result _ _
     (λ r h. convert_answers line (texts_in c.args.texts.now) c.args.instance.now (answer_in (stored_names line) r) _ _ c.in-Convert.is c.text_of_role-plan-in-Convert.ensures c.text_or_empty-in-Convert.ensures (h (stored_names line)))
     c.convert_texts.ensures
+
+pub returns-in-Picture : goal.returns-in-Picture
+returns-in-Picture g c =
+    let line = line_in c.args.line.now in
+    IfOk-weaker c.draw_text.result _ _
+    (λ r h. picture_answers line (texts_in c.args.texts.now) c.args.instance.now (answer_in (stored_names line) r) _ c.in-Picture.is c.text_or_empty-in-Picture.ensures (h (stored_names line)))
+    c.draw_text.ensures

@@ -1,20 +1,19 @@
-use Rattle.std.proofs.Common.{sym}
 use Rattle.glass_run.specs.inner.Forms.{answer_in, line_in}
 use Rattle.glass_run.specs.Grammar.{stored_names}
 use Rattle.glass_run.proofs.Endings.{answers_told, delivery_ends, fails_to_read, fault_ends}
-use Rattle.glass_run.proofs.run.glass.Goals as goal
+use Rattle.glass_run.proofs.run.run_line.Goals as goal
 
 pub returns-in-Ok-clause-runs : goal.returns-in-Ok-clause-runs
 returns-in-Ok-clause-runs g c =
     let line = line_in c.in-Some.line in
-    rw (sym c.line_named.ensures, c.in-Some.is)
+    rw c.in-Some.is
     (delivery_ends line _ _ _ _ _ (answer_in (stored_names line) c.in-Ok.reply) _ c.in-Ok.ensures.same c.in-Ok.ensures.faults
     (answers_told _ line _ c.in-Ok.ensures.reply) c.in-Ok.reply.answered (rw c.stored.ensures at c.deliver.ensures.delivers))
 
 pub returns-in-Err-ReadFault-clause-runs : goal.returns-in-Err-ReadFault-clause-runs
 returns-in-Err-ReadFault-clause-runs g c =
     let line = line_in c.in-Some.line in
-    rw (sym c.line_named.ensures, c.in-Some.is)
+    rw c.in-Some.is
     (fault_ends line _ _ _ _ c.in-Err-ReadFault.role _
     (fails_to_read line _ _ _ _ _
     (rw c.in-Err-ReadFault.field-0-is at c.in-Err-ReadFault.ensures.reached)

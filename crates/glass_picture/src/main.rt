@@ -1,0 +1,9 @@
+//! The program `glass_picture`.
+#![tactic(auto)]
+
+use glass_run::run_picture;
+use std::process::ExitCode;
+
+fn main(rt: HostRuntime) -> ExitCode {
+    ExitCode::from(run_picture(&rt))
+}

@@ -1,0 +1,33 @@
+-- What a user may conclude from how a run of the program that draws ended.
+use Rattle.std.specs.Prelude.{◌≡◌, ℕ, List, Some, Ok}
+use Rattle.glass_base.specs.Problem.{Problem}
+use Rattle.glass_base.specs.declared.role.Role.TheVariants as role
+use Rattle.glass_io.specs.Told.{Contents, Stored}
+use Rattle.cut_model.specs.Tree.{Forest}
+use Rattle.plan_csv.specs.PlanTexts.{plan_said}
+use Rattle.glass_run.specs.Answers.{Answer}
+use Rattle.glass_run.specs.Commands.{out_of}
+use Rattle.glass_run.specs.Grammar.{Line, picture_line_of}
+use Rattle.glass_run.specs.Headlines.{SaidBy}
+use Rattle.glass_run.specs.Pictures.{Draws}
+use Rattle.glass_run.specs.Runs.{Prints, RunsTo, World}
+use Rattle.glass_run.specs.Texts.{Texts, text_or_empty}
+use Rattle.glass_run.specs.declared.status.Status.{Status}
+
+-- these words are a line of the program that draws, the files told what they held, and the run ended so
+pub record PictureEnded (words : List (List ℕ)) (line : Line) (held : Contents) (old new : World) (result : Status) : Type 0 where
+  pub line_is : picture_line_of words ≡ Some line
+  pub told : old.shelf.contents ≡ Some held
+  pub runs : RunsTo (picture_line_of words) old new result
+
+-- OUT holds a picture of the plan that PLAN says, and what is printed is the plan's loss where it is lawful, and else its first breach
+pub record StoresPicture (line : Line) (held : Contents) (old new : World) : Type 0 where
+  pub texts : Texts
+  pub b : Problem
+  pub plan : Forest
+  pub answer : Answer
+  pub reads : SaidBy line held texts b
+  pub said : plan_said b (text_or_empty texts role.Plan) ≡ Ok plan
+  pub draws : Draws b (out_of line) plan answer
+  pub stored : Stored (out_of line) draws.picture old.shelf.contents new.shelf.contents
+  pub prints : Prints draws.lines old.paper new.paper

@@ -1,0 +1,101 @@
+//! Where the parts of a picture stand.
+
+use crate::mark::{Frame, Label, Words};
+use cut_model::Row;
+
+/// The width of a picture, as a multiple of the size of its text, and that of the glass that fits into it.
+const WIDTH: u64 = 60;
+
+const GLASS: u64 = 56;
+
+/// The height of a plate is at the most about this multiple of the size of the text.
+const HIGHEST: u64 = 40;
+
+/// What is left free beside, above and below each plate, as multiples of the size of the text. The legend stands above the first one.
+const LEFT: u64 = 2;
+
+const ABOVE: u64 = 6;
+
+const BELOW: u64 = 1;
+
+/// How many px of a printed page the size of the text takes, where the page is 1200 px wide.
+const PX: u64 = 20;
+
+/// The sizes of a picture, from which all places in it follow, in mm. Each plate has a part of the picture for itself, and all parts are
+/// as high as a printed page.
+#[derive(Clone, Copy)]
+pub(crate) struct Layout {
+    /// The size of plain text.
+    pub size: u64,
+    /// The height of a part, as a multiple of the size of the text.
+    pub lines: u64,
+    /// The height of a plate.
+    pub height: u32,
+}
+
+impl Layout {
+    /// The layout of plates of this height, the widest of which is so wide. A page is never much higher than wide.
+    pub fn new(widest: u32, height: u32) -> Layout {
+        let size = (u64::from(widest) / GLASS).max(u64::from(height) / HIGHEST) + 1;
+        let lines = u64::from(height) / size + 1;
+        Layout {
+            size,
+            lines: lines.saturating_add(ABOVE + BELOW),
+            height,
+        }
+    }
+
+    /// So many hundredths of the size of the text.
+    pub fn hundredths(&self, hundredths: u64) -> u64 {
+        self.size.saturating_mul(hundredths) / 100
+    }
+
+    /// The left side of the plates.
+    pub fn left(&self) -> u64 {
+        self.size.saturating_mul(LEFT)
+    }
+
+    /// The upper side of a plate.
+    pub fn top(&self, plate: u32) -> u64 {
+        let lines = self.lines.saturating_mul(u64::from(plate));
+        self.size.saturating_mul(lines.saturating_add(ABOVE))
+    }
+
+    /// The lower side of a plate.
+    pub fn bottom(&self, plate: u32) -> u64 {
+        self.top(plate).saturating_add(u64::from(self.height))
+    }
+
+    /// The sizes of a picture of so many plates.
+    pub fn frame(&self, plates: u64) -> Frame {
+        Frame {
+            width: self.size.saturating_mul(WIDTH),
+            height: self
+                .size
+                .saturating_mul(self.lines)
+                .saturating_mul(plates.max(1)),
+            size: self.size,
+            page: self.lines.saturating_mul(PX),
+        }
+    }
+
+    /// The text above a plate.
+    pub fn heading(&self, number: u32, width: u32) -> Label {
+        Label {
+            x: self.left(),
+            y: self.top(number).saturating_sub(self.hundredths(50)),
+            size: self.size,
+            upright: false,
+            words: Words::Plate(number, width, self.height),
+        }
+    }
+
+    /// Where the middle of a row stands in the picture.
+    pub fn middle(&self, row: &Row) -> (u64, u64) {
+        let right = u64::from(row.x) + u64::from(row.width) / 2;
+        let up = u64::from(row.y) + u64::from(row.height) / 2;
+        let x = self.left().saturating_add(right);
+        let y = self.bottom(row.plate).saturating_sub(up);
+        (x, y)
+    }
+}

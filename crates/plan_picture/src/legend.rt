@@ -1,0 +1,162 @@
+//! The legend of a picture.
+
+ghost use Rattle.plan_picture.specs.inner.Groups.{AddsTrims};
+
+use crate::adding::add;
+use crate::layout::Layout;
+use crate::mark::{Fill, Key, Label, Line, Mark, Words};
+use crate::verdict::Verdict;
+use glass_base::{Memory, Run};
+
+/// What the lines of a legend stand on, in hundredths of the size of plain text: the verdict, the counts, the key.
+const VERDICT: u64 = 140;
+
+const COUNTS: u64 = 270;
+
+const KEY: u64 = 400;
+
+/// How many stacks have a colour of their own.
+const COLOURS: usize = 7;
+
+/// What is counted for the legend.
+#[derive(Clone, Copy)]
+pub(crate) struct Counts {
+    pub plates: u64,
+    pub items: u64,
+    /// The area of all items, in mm².
+    pub area: u64,
+}
+
+/// The loss in thousandths of the glass that is used, rounded.
+fn thousandths(loss: u64, area: u64) -> u64 {
+    let glass = loss.saturating_add(area).max(1);
+    loss.saturating_mul(1000).saturating_add(glass / 2) / glass
+}
+
+/// Adds a text. Its place and its size are given in hundredths of the size of plain text.
+fn add_words(
+    marks: &mut Run<Mark>,
+    layout: &Layout,
+    x: u64,
+    y: u64,
+    size: u64,
+    words: Words,
+) -> Result<(), Memory>
+    ensures { AddsTrims marks.old.items marks.new.items }
+{
+    let label = Label {
+        x: layout.hundredths(x),
+        y: layout.hundredths(y),
+        size: layout.hundredths(size),
+        upright: false,
+        words,
+    };
+    add(marks, Mark::Label(label))
+}
+
+/// Adds a word of the key.
+fn add_key(marks: &mut Run<Mark>, layout: &Layout, x: u64, key: Key) -> Result<(), Memory>
+    ensures { AddsTrims marks.old.items marks.new.items }
+{
+    add_words(marks, layout, x, KEY, 100, Words::Key(key))
+}
+
+/// Adds a spot of the key.
+fn add_sample(marks: &mut Run<Mark>, layout: &Layout, x: u64, fill: Fill) -> Result<(), Memory>
+    ensures { AddsTrims marks.old.items marks.new.items }
+{
+    let sample = Mark::Sample {
+        x: layout.hundredths(x),
+        y: layout.hundredths(KEY - 35),
+        fill,
+    };
+    add(marks, sample)
+}
+
+/// Adds the colours of the stacks.
+fn add_colours(marks: &mut Run<Mark>, layout: &Layout) -> Result<(), Memory>
+    ensures { AddsTrims marks.old.items marks.new.items }
+{
+    for stack in 0..COLOURS {
+        add_sample(marks, layout, 245 + 105 * stack as u64, Fill::Stack(stack))?;
+    }
+    Ok(())
+}
+
+/// Adds a line as a cut of this level is drawn.
+fn add_cut(marks: &mut Run<Mark>, layout: &Layout, level: u32) -> Result<(), Memory>
+    ensures { AddsTrims marks.old.items marks.new.items }
+{
+    let x = layout.hundredths(4900 + 60 * u64::from(level));
+    let line = Line {
+        level,
+        x1: x,
+        y1: layout.hundredths(KEY - 80),
+        x2: x,
+        y2: layout.hundredths(KEY + 10),
+    };
+    add(marks, Mark::Cut(line))
+}
+
+/// Adds lines as cuts are drawn.
+fn add_cuts(marks: &mut Run<Mark>, layout: &Layout) -> Result<(), Memory>
+    ensures { AddsTrims marks.old.items marks.new.items }
+{
+    for level in 1..5 {
+        add_cut(marks, layout, level)?;
+    }
+    Ok(())
+}
+
+/// Adds what the colours and the lines of the picture stand for.
+fn add_keys(marks: &mut Run<Mark>, layout: &Layout) -> Result<(), Memory>
+    ensures { AddsTrims marks.old.items marks.new.items }
+{
+    add_colours(marks, layout)?;
+    add_key(marks, layout, 960, Key::Stacks)?;
+    add_sample(marks, layout, 2745, Fill::Waste)?;
+    add_key(marks, layout, 2825, Key::Waste)?;
+    add_sample(marks, layout, 3245, Fill::Residual)?;
+    add_key(marks, layout, 3325, Key::Residual)?;
+    add_sample(marks, layout, 3880, Fill::Defect)?;
+    add_key(marks, layout, 3960, Key::Defect)?;
+    add_key(marks, layout, 4400, Key::Turned)?;
+    add_cuts(marks, layout)?;
+    add_key(marks, layout, 5190, Key::Cuts)
+}
+
+/// Adds what was found of the plan.
+fn add_verdict(
+    marks: &mut Run<Mark>,
+    layout: &Layout,
+    verdict: &Verdict,
+    area: u64,
+) -> Result<(), Memory>
+    ensures { AddsTrims marks.old.items marks.new.items }
+{
+    match *verdict {
+        Verdict::Lawful(loss) => {
+            let words = Words::Loss(loss, thousandths(loss, area));
+            add_words(marks, layout, 200, VERDICT, 120, words)
+        }
+        Verdict::Broken(broken) => {
+            add_words(marks, layout, 200, VERDICT, 120, Words::Unlawful(broken))?;
+            add_words(marks, layout, 1600, COUNTS, 100, Words::Reason(broken.rule))
+        }
+    }
+}
+
+/// Adds the legend, above the first plate.
+pub(crate) fn add_legend(
+    marks: &mut Run<Mark>,
+    layout: &Layout,
+    verdict: &Verdict,
+    counts: &Counts,
+) -> Result<(), Memory>
+    ensures { AddsTrims marks.old.items marks.new.items }
+{
+    add_verdict(marks, layout, verdict, counts.area)?;
+    let words = Words::Counts(counts.plates, counts.items);
+    add_words(marks, layout, 200, COUNTS, 100, words)?;
+    add_keys(marks, layout)
+}

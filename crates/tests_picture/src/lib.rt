@@ -1,0 +1,5 @@
+//! Tests of pictures.
+#![tactic(auto)]
+
+#[cfg(test)]
+mod tests;
