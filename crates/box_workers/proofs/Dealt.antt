@@ -129,7 +129,7 @@ own_more all waiting rest x olds ms news place last long some is d r weight i m 
     let split = ap (λ (l : List PlainBox). sum_by weight (dealt_to n k 0 l)) last ∙ dealt_last weight n k 0 rest x in
     let counted : length rest ≡ 0 + length rest = omega arith in
     let same : (if i == place then weight x else 0) ≡ (if (0 + length rest) % n == k then weight x else 0) =
-        ap (λ p. if i == p then weight x else 0) is ∙ ap (λ t. if t then weight x else 0) (same_test n i (length rest % n) inside (mod_below (length rest) n some)) ∙ ap (λ r. if r % n == k then weight x else 0) counted in omega (arith, before, got, split, same)
+    ap (λ p. if i == p then weight x else 0) is ∙ ap (λ t. if t then weight x else 0) (same_test n i (length rest % n) inside (mod_below (length rest) n some)) ∙ ap (λ r. if r % n == k then weight x else 0) counted in omega (arith, before, got, split, same)
 
 pub dealt_more : (all waiting rest : List PlainBox) (x : PlainBox) (olds ms news : List Member) (place : ℕ) → waiting ≡ rest ++ x ∷ [] → length ms ≡ length olds → 0 < length olds
     → place ≡ length olds - 1 - length rest % length olds → Gets place x ms news → AreDealt all waiting olds ms → AreDealt all rest olds news

@@ -1,5 +1,5 @@
 -- Boxes are dealt out to workers.
-use Rattle.std.specs.Prelude.{◌≡◌, ◌==◌, ℕ, zero, suc, ◌+◌, ◌-◌, ◌%◌, ◌<◌, List, [], ◌∷◌, ◌++◌, length, reverse, slice_index_or, sum_by, All, if◌then◌else◌}
+use Rattle.std.specs.Prelude.{◌≡◌, ◌==◌, ℕ, suc, ◌+◌, ◌-◌, ◌%◌, ◌<◌, List, [], ◌∷◌, ◌++◌, length, reverse, slice_index_or, sum_by, All, if◌then◌else◌}
 use Rattle.glass_base.specs.Problem.{Problem}
 use Rattle.plan_box.specs.Frames.{frame_of}
 use Rattle.plan_box.specs.Ranges.{PlainBox}

@@ -20,7 +20,7 @@ pub loop-bx-preserved : goal.loop-bx-preserved
 loop-bx-preserved c =
     let i = c.loop-bx.invariant in
     let d = dealt_more c.args.boxes.items c.loop-bx.boxes.items c.pop.new.self.items c.in-Some.bx c.args.members.now c.loop-bx.members c.deal_one.new.members (length c.loop-bx.members - 1 - length c.pop.new.self.items % length c.loop-bx.members)
-        c.in-Some.ensures.last i.long c.requires.some (ap (λ n. n - 1 - length c.pop.new.self.items % n) i.long) (search rules) i.dealt in record {
+    c.in-Some.ensures.last i.long c.requires.some (ap (λ n. n - 1 - length c.pop.new.self.items % n) i.long) (search rules) i.dealt in record {
       frames = (All-pop (λ (x : PlainBox). All (λ (m : Member). x.frame ≡ frame m.arm) c.args.members.now) c.loop-bx.boxes.items c.pop.new.self.items (Some c.in-Some.bx) c.in-Some.ensures.last i.frames).0;
       dealt = d;
       long = dealt_length c.args.members.now c.deal_one.new.members d.each;
