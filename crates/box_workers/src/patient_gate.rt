@@ -4,17 +4,15 @@ use crate::gate::Gate;
 use std::sync::atomic::{AtomicU32, Ordering};
 use std::thread::yield_now;
 
-/// So often a worker without a box lets others run, in one turn.
-const WAITS: u32 = 16;
-
 /// Set until the first box is handled.
 const NOT_BEGUN: u32 = 1 << 31;
 
-/// A gate for programs: in each turn without a box a worker lets others run a few times, for as long as another one has a box, since that
-/// one may soon put one that can be stolen.
+/// A gate for programs: in each turn without a box a worker lets others run, for as long as another one has a box, since that one may
+/// soon put one that can be stolen.
 ///
 /// A worker rests after 100,000 turns in a row without a box. That is a few milliseconds, in which no thread may have been made yet that
-/// handles a box. With this gate it is a hundred at least, and a few again once no worker has a box. The numbers of workers are below 31.
+/// handles a box. With this gate it is some thirty, and a few again once no worker has a box. A worker whose budget is spent counts as one
+/// that has a box. The numbers of workers are below 31.
 #[derive(Drop)]
 pub struct PatientGate {
     /// A bit for each worker that has a box.
@@ -53,10 +51,7 @@ impl Gate for PatientGate {
         if self.busy.load(Ordering::Relaxed) & own != 0 {
             self.busy.fetch_and(!own, Ordering::Relaxed);
         }
-        for _ in 0..WAITS {
-            if self.busy.load(Ordering::Relaxed) == 0 {
-                return;
-            }
+        if self.busy.load(Ordering::Relaxed) != 0 {
             yield_now();
         }
     }
