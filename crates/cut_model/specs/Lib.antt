@@ -10,6 +10,7 @@ pub mod Neighbourhood
 pub mod Firsts
 pub mod Order
 pub mod Rules
+pub mod Words
 pub mod Lawful
 pub mod Loss
 pub mod Steps

@@ -1,5 +1,8 @@
 //! Which rule a plan breaks.
 
+ghost use Rattle.std.specs.Prelude.{◌≡◌};
+ghost use Rattle.cut_model.specs.Words.{rule_word};
+
 /// The rules of a lawful plan, in the order in which they are judged. L9 has five ways to be broken.
 #[derive(Clone, Copy, Debug, PartialEq, Eq)]
 pub enum Rule {
@@ -31,6 +34,30 @@ pub enum Rule {
     L9Plates,
     /// An item is cut after one of its stack that has a higher sequence.
     L10,
+}
+
+impl Rule {
+    /// The word by which lines and pictures name the rule.
+    pub fn word(self) -> &'static str
+        ensures { result.now ≡ rule_word self }
+    {
+        match self {
+            Rule::L1 => "L1",
+            Rule::L2 => "L2",
+            Rule::L3 => "L3",
+            Rule::L4 => "L4",
+            Rule::L5 => "L5",
+            Rule::L6 => "L6",
+            Rule::L7 => "L7",
+            Rule::L8 => "L8",
+            Rule::L9Unknown => "L9unknown",
+            Rule::L9Twice => "L9twice",
+            Rule::L9Missing => "L9missing",
+            Rule::L9EmptyPlate => "L9emptyplate",
+            Rule::L9Plates => "L9plates",
+            Rule::L10 => "L10",
+        }
+    }
 }
 
 /// The rule that a plan breaks, the plate and the node that break it, and the two numbers that disagree.

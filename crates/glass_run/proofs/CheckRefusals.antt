@@ -12,14 +12,14 @@ use Rattle.glass_run.specs.Answers.{Answer}
 use Rattle.glass_run.specs.Checks.{Converts, NotAccepted, Verifies}
 use Rattle.glass_run.specs.Checks.NotAccepted.{bad_cert, bad_plan, bad_tree, broken_plan}
 use Rattle.glass_run.specs.Commands.{AnswersInstance, out_of}
-use Rattle.glass_run.specs.Grammar.{Line}
+use Rattle.command_line.specs.Grammar.{Line}
 use Rattle.glass_run.specs.Judgements.{IsFirstBroken, unlawful as unlawful_of}
 use Rattle.glass_run.specs.Headlines.{Ended, FindsUnlawful, FindsWrong, IsCheck, IsJudging, SaidBy}
 use Rattle.glass_run.specs.Runs.{Completes, Prints, RunsTo, Stands, World}
 use Rattle.glass_run.specs.Said.{IsPlanIn}
 use Rattle.glass_run.specs.Texts.{Texts, text_for, text_or_empty}
-use Rattle.glass_run.specs.declared.grammar.Verb.{Verb}
-use Rattle.glass_run.specs.declared.grammar.Verb.TheVariants as verb
+use Rattle.command_line.specs.declared.grammar.Verb.{Verb}
+use Rattle.command_line.specs.declared.grammar.Verb.TheVariants as verb
 use Rattle.glass_run.specs.declared.status.Status.TheVariants as status
 use Rattle.glass_run.proofs.Headlines.{Says, completed_says, unchanged, unlawful_judgement}
 use Rattle.glass_run.proofs.Statuses.{IsRefused, cert_refused, plan_refused}

@@ -6,7 +6,7 @@ use Rattle.glass_run.specs.Answers.{Answer}
 use Rattle.glass_run.specs.Codes.{IsAnswered}
 use Rattle.glass_run.specs.Commands.{Answers}
 use Rattle.glass_run.specs.inner.Deliveries.{Delivers, Ends, HasStored}
-use Rattle.glass_run.specs.Grammar.{Line, files_of}
+use Rattle.command_line.specs.Grammar.{Line, files_of}
 use Rattle.glass_run.specs.Runs.{AnswersTold, Completes, CutShort, FailsToRead, IsUntouched, LineRun, ReachesTold, Stands, StandsInPart, UsageRun, World, read_fault_line, usage_line, world}
 use Rattle.glass_run.specs.Texts.{Reaches}
 use Rattle.glass_run.specs.declared.status.Status.{Status}

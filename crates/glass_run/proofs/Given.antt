@@ -10,9 +10,9 @@ use Rattle.glass_run.specs.Commands.{Answers, AnswersInstance, AnswersTexts, Has
 use Rattle.glass_run.specs.inner.Forms.{OnTold, Tells}
 use Rattle.glass_run.specs.declared.notices.Stop.{Stop}
 use Rattle.glass_run.specs.declared.notices.Stop.TheVariants as stop
-use Rattle.glass_run.specs.declared.grammar.Verb.{Verb}
-use Rattle.glass_run.specs.declared.grammar.Verb.TheVariants as verb
-use Rattle.glass_run.specs.Grammar.{Line, files_of}
+use Rattle.command_line.specs.declared.grammar.Verb.{Verb}
+use Rattle.command_line.specs.declared.grammar.Verb.TheVariants as verb
+use Rattle.command_line.specs.Grammar.{Line, files_of}
 use Rattle.glass_run.specs.Pictures.{DrawsText}
 use Rattle.glass_run.specs.Texts.{Texts, text_for, text_or_empty, texts_of}
 

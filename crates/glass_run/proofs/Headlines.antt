@@ -13,13 +13,13 @@ use Rattle.plan_csv.specs.declared.bad_plan.BadPlan.{BadPlan}
 use Rattle.glass_run.specs.Answers.{Answer, Store}
 use Rattle.glass_run.specs.Commands.{Answers, AnswersFetched, AnswersInstance, AnswersTexts, HasInstance, out_of}
 use Rattle.glass_run.specs.Drafts.{Drafts}
-use Rattle.glass_run.specs.Grammar.{Line, files_of}
+use Rattle.command_line.specs.Grammar.{Line, files_of}
 use Rattle.glass_run.specs.Headlines.{Ended, FindsLawful, FindsNoDraft, FindsUnlawful, SaidBy, StoresLawfulPlan}
 use Rattle.glass_run.specs.Judgements.{Judges, JudgesSaid}
 use Rattle.glass_run.specs.Runs.{AnswersTold, Completes, Prints, RunsTo, Stands, World}
 use Rattle.glass_run.specs.Texts.{Texts, text_or_empty, texts_of}
-use Rattle.glass_run.specs.declared.grammar.Verb.{Verb}
-use Rattle.glass_run.specs.declared.grammar.Verb.TheVariants as verb
+use Rattle.command_line.specs.declared.grammar.Verb.{Verb}
+use Rattle.command_line.specs.declared.grammar.Verb.TheVariants as verb
 use Rattle.glass_run.specs.declared.status.Status.{Status}
 use Rattle.glass_run.specs.declared.status.Status.TheVariants as status
 use Rattle.glass_run.proofs.Statuses.{IsRefused, Refuses, none_refused, plan_refused, texts_refuse}

@@ -1,5 +1,3 @@
-mod Prefixes
-mod Counts
 mod StoredTexts
 mod Searched
 mod FetchedTexts

@@ -9,13 +9,13 @@ use Rattle.plan_csv.specs.PlanTexts.{plan_said}
 use Rattle.plan_csv.specs.declared.bad_plan.BadPlan.{BadPlan}
 use Rattle.glass_run.specs.Answers.{Answer}
 use Rattle.glass_run.specs.Commands.{AnswersInstance, out_of}
-use Rattle.glass_run.specs.Grammar.{Line, is_line, line_with, picture_line_of}
+use Rattle.command_line.specs.Grammar.{Line, is_line, line_with, picture_line_of}
 use Rattle.glass_run.specs.PictureHeadlines.{PictureEnded, StoresPicture}
 use Rattle.glass_run.specs.Pictures.{Draws, DrawsSaid, DrawsText}
 use Rattle.glass_run.specs.Runs.{Completes, Prints, RunsTo, Stands, World}
 use Rattle.glass_run.specs.Texts.{text_or_empty}
-use Rattle.glass_run.specs.declared.grammar.Verb.{Verb}
-use Rattle.glass_run.specs.declared.grammar.Verb.TheVariants as verb
+use Rattle.command_line.specs.declared.grammar.Verb.{Verb}
+use Rattle.command_line.specs.declared.grammar.Verb.TheVariants as verb
 use Rattle.glass_run.specs.declared.status.Status.TheVariants as status
 use Rattle.glass_run.proofs.Headlines.{Says, completed_says, one_stored}
 use Rattle.glass_run.proofs.Statuses.{IsRefused, Refuses, plan_refused}

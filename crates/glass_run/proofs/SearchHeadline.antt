@@ -13,16 +13,16 @@ use Rattle.cert_log.specs.Good.{IsGood, least_of, open_bounds}
 use Rattle.cert_log.proofs.GoodNodes.{good_counts, no_larger_than_full}
 use Rattle.glass_run.specs.Answers.{Answer}
 use Rattle.glass_run.specs.Commands.{AnswersInstance, out_of, second_out_of}
-use Rattle.glass_run.specs.Grammar.{Line, count_in}
+use Rattle.command_line.specs.Grammar.{Line, count_in}
 use Rattle.glass_run.specs.Headlines.{Ended, IsSearch, IsSearchEnd, StoresSearch}
 use Rattle.glass_run.specs.Plans.{IsFound, PlansWithin, ending, handled, most_work, planned, root_ranges}
 use Rattle.glass_run.specs.Texts.{Texts}
 use Rattle.cert_check.specs.declared.verdict.Verdict.{Verdict}
 use Rattle.cert_check.specs.Faults.{Answers as CheckAnswers}
 use Rattle.glass_run.specs.Runs.{Completes, LineRun, Prints, RunsTo, Stands, World}
-use Rattle.glass_run.specs.declared.grammar.Count.TheVariants as count
-use Rattle.glass_run.specs.declared.grammar.Verb.{Verb}
-use Rattle.glass_run.specs.declared.grammar.Verb.TheVariants as verb
+use Rattle.command_line.specs.declared.grammar.Count.TheVariants as count
+use Rattle.command_line.specs.declared.grammar.Verb.{Verb}
+use Rattle.command_line.specs.declared.grammar.Verb.TheVariants as verb
 use Rattle.glass_run.specs.declared.status.Status.{Status}
 use Rattle.glass_run.specs.declared.status.Status.TheVariants as status
 use Rattle.glass_run.proofs.Headlines.{Says, completed_says, rules_of}

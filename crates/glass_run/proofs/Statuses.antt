@@ -21,8 +21,8 @@ use Rattle.glass_run.specs.Instances.{InstanceRefused}
 use Rattle.glass_run.specs.Instances.InstanceRefused.{bad_batch, bad_defects, bad_lists, bad_params as bad_parameters, bad_plates}
 use Rattle.glass_run.specs.Judgements.{PlanRefused}
 use Rattle.glass_run.specs.Texts.{Texts, limit_of, or_refused, text_of, texts_of}
-use Rattle.glass_run.specs.declared.grammar.Verb.{Verb}
-use Rattle.glass_run.specs.declared.grammar.Verb.TheVariants as verb
+use Rattle.command_line.specs.declared.grammar.Verb.{Verb}
+use Rattle.command_line.specs.declared.grammar.Verb.TheVariants as verb
 use Rattle.glass_run.specs.declared.status.Status.{Status}
 use Rattle.glass_run.specs.declared.status.Status.TheVariants as status
 

@@ -11,7 +11,7 @@ use Rattle.glass_base.specs.declared.role.Role.{Role}
 use Rattle.glass_base.specs.declared.role.Role.TheVariants as role
 use Rattle.glass_run.specs.declared.status.Status.{Status}
 use Rattle.glass_run.specs.declared.status.Status.TheVariants as status
-use Rattle.glass_run.specs.Grammar.{role_word}
+use Rattle.command_line.specs.Grammar.{role_word}
 
 -- a file that is stored
 pub record Store : Type 0 where

@@ -3,15 +3,15 @@ use Rattle.std.specs.Prelude.{◌≡◌, ◌⊎◌, ℕ, List, [], slice_index_o
 use Rattle.glass_base.specs.Problem.{Problem}
 use Rattle.glass_base.specs.declared.role.Role.TheVariants as role
 use Rattle.glass_io.specs.Told.{Contents}
-use Rattle.glass_run.specs.declared.grammar.Count.TheVariants as count
+use Rattle.command_line.specs.declared.grammar.Count.TheVariants as count
 use Rattle.glass_gen.specs.Drawn.{IsDrawn}
-use Rattle.glass_run.specs.declared.grammar.Lead.TheVariants as lead
-use Rattle.glass_run.specs.declared.grammar.Verb.{Verb}
-use Rattle.glass_run.specs.declared.grammar.Verb.TheVariants as verb
+use Rattle.command_line.specs.declared.grammar.Lead.TheVariants as lead
+use Rattle.command_line.specs.declared.grammar.Verb.{Verb}
+use Rattle.command_line.specs.declared.grammar.Verb.TheVariants as verb
 use Rattle.glass_run.specs.Answers.{Answer}
 use Rattle.glass_run.specs.Checks.{Converts, Verifies}
 use Rattle.glass_run.specs.Drafts.{Drafts}
-use Rattle.glass_run.specs.Grammar.{Line, files_of, count_in, lead_in, stored_names}
+use Rattle.command_line.specs.Grammar.{Line, files_of, count_in, lead_in, stored_names}
 use Rattle.glass_run.specs.Instances.{InstanceRefused, IsInstanceOf}
 use Rattle.glass_run.specs.Judgements.{JudgesText}
 use Rattle.glass_run.specs.Pictures.{DrawsText}

@@ -1,7 +1,7 @@
 -- The code that a program ends with.
 use Rattle.std.specs.Prelude.{◌≡◌, ℕ, Option}
 use Rattle.glass_run.specs.Codes.{code_of}
-use Rattle.glass_run.specs.Grammar.{Line}
+use Rattle.command_line.specs.Grammar.{Line}
 use Rattle.glass_run.specs.Runs.{RunsTo, World}
 use Rattle.glass_run.specs.declared.status.Status.{Status}
 

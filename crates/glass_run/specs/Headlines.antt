@@ -22,15 +22,15 @@ use Rattle.glass_run.specs.Answers.{Answer}
 use Rattle.glass_run.specs.Checks.{IsConverted, IsLawfulToo, Verifies, accepted as accepted_answer, bound_line, loss_in, refused_line}
 use Rattle.glass_run.specs.Commands.{HasInstance, out_of, second_out_of}
 use Rattle.glass_run.specs.Drafts.{no_draft_line, summary}
-use Rattle.glass_run.specs.Grammar.{Line, count_in, files_of, line_of}
+use Rattle.command_line.specs.Grammar.{Line, count_in, files_of, line_of}
 use Rattle.glass_run.specs.Judgements.{IsFirstBroken, lawful_line, unlawful_line}
 use Rattle.glass_run.specs.Plans.{HasLoss, handled, planned, root_ranges, search_summary}
 use Rattle.glass_run.specs.Runs.{Prints, RunsTo, Stands, World}
 use Rattle.glass_run.specs.Said.{SayBoth}
 use Rattle.glass_run.specs.Texts.{Texts, text_for, text_or_empty, texts_of}
-use Rattle.glass_run.specs.declared.grammar.Count.TheVariants as count
-use Rattle.glass_run.specs.declared.grammar.Verb.{Verb}
-use Rattle.glass_run.specs.declared.grammar.Verb.TheVariants as verb
+use Rattle.command_line.specs.declared.grammar.Count.TheVariants as count
+use Rattle.command_line.specs.declared.grammar.Verb.{Verb}
+use Rattle.command_line.specs.declared.grammar.Verb.TheVariants as verb
 use Rattle.glass_run.specs.declared.status.Status.{Status}
 use Rattle.glass_run.specs.declared.status.Status.TheVariants as status
 

@@ -4,12 +4,12 @@ use Rattle.std.specs.Fmt.{decimal}
 use Rattle.glass_base.specs.Problem.{Problem}
 use Rattle.glass_base.specs.declared.role.Role.TheVariants as role
 use Rattle.cut_model.specs.declared.broken.Broken.{Broken}
-use Rattle.cut_model.specs.declared.broken.Rule.{Rule}
 use Rattle.cut_model.specs.Families.{families_of, rows_of}
 use Rattle.cut_model.specs.Lawful.{IsLawful, plate_rows}
 use Rattle.cut_model.specs.Loss.{loss_of}
 use Rattle.cut_model.specs.Rules.{KeepsCutRules}
 use Rattle.cut_model.specs.Tree.{Forest}
+use Rattle.cut_model.specs.Words.{breach_text}
 use Rattle.cut_rules.specs.Breaches.{IsBreach as IsCutBreach}
 use Rattle.stack_order.specs.Breaches.{IsBreach as IsOrderBreach}
 use Rattle.stack_order.specs.Cuts.{cuts_of}
@@ -19,28 +19,9 @@ use Rattle.plan_csv.specs.declared.bad_plan.BadPlan.TheVariants as bad_plan
 use Rattle.glass_run.specs.Answers.{Answer, bad_input, only_lines}
 use Rattle.glass_run.specs.declared.status.Status.TheVariants as status
 
--- the word by which a line names a rule
-abbrev pub rule_word : Rule → List ℕ
-rule_word Rule.L1 = codes "L1"
-rule_word Rule.L2 = codes "L2"
-rule_word Rule.L3 = codes "L3"
-rule_word Rule.L4 = codes "L4"
-rule_word Rule.L5 = codes "L5"
-rule_word Rule.L6 = codes "L6"
-rule_word Rule.L7 = codes "L7"
-rule_word Rule.L8 = codes "L8"
-rule_word Rule.L9Unknown = codes "L9unknown"
-rule_word Rule.L9Twice = codes "L9twice"
-rule_word Rule.L9Missing = codes "L9missing"
-rule_word Rule.L9EmptyPlate = codes "L9emptyplate"
-rule_word Rule.L9Plates = codes "L9plates"
-rule_word Rule.L10 = codes "L10"
-
--- a breach: its rule, its place and its two numbers
+-- the line that tells a breach
 abbrev pub unlawful_line : Broken → List ℕ
-unlawful_line b =
-    codes "unlawful " ++ rule_word b.rule ++ codes " plate " ++ decimal b.plate ++ codes " node " ++ decimal b.node ++ codes " "
-    ++ decimal b.left ++ codes " " ++ decimal b.right ++ codes "\n"
+unlawful_line b = breach_text b ++ codes "\n"
 
 abbrev pub unlawful : Broken → Answer
 unlawful b = only_lines status.Unlawful (unlawful_line b)

@@ -1,4 +1,3 @@
-pub mod Grammar
 pub mod Codes
 pub mod Answers
 pub mod Texts

@@ -7,7 +7,7 @@ use Rattle.cut_model.specs.Tree.{Forest}
 use Rattle.plan_csv.specs.PlanTexts.{plan_said}
 use Rattle.glass_run.specs.Answers.{Answer}
 use Rattle.glass_run.specs.Commands.{out_of}
-use Rattle.glass_run.specs.Grammar.{Line, picture_line_of}
+use Rattle.command_line.specs.Grammar.{Line, picture_line_of}
 use Rattle.glass_run.specs.Headlines.{SaidBy}
 use Rattle.glass_run.specs.Pictures.{Draws}
 use Rattle.glass_run.specs.Runs.{Prints, RunsTo, World}

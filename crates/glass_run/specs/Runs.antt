@@ -5,7 +5,7 @@ use Rattle.glass_base.specs.declared.role.Role.{Role}
 use Rattle.glass_io.specs.Told.{Appended, AppendedPrefix, Contents, Counted, HoldsPrefix, Paper, ReadFailed, SameBytes, SameContents, SameFaults, Shelf, WhereTold, WriteFailed}
 use Rattle.glass_run.specs.Answers.{Answer, Store}
 use Rattle.glass_run.specs.Commands.{Answers}
-use Rattle.glass_run.specs.Grammar.{Line, files_of, role_word}
+use Rattle.command_line.specs.Grammar.{Line, files_of, role_word}
 use Rattle.glass_run.specs.Texts.{Reaches}
 use Rattle.glass_run.specs.declared.status.Status.{Status}
 use Rattle.glass_run.specs.declared.status.Status.TheVariants as status

@@ -2,16 +2,16 @@
 
 ghost use Rattle.std.specs.Prelude.{◌≡◌, ◌++◌, IfOk, IfErr, IfSome, OnOk, map, option_to_list};
 ghost use Rattle.glass_io.specs.Told.{SameContents};
-ghost use Rattle.glass_run.specs.inner.Forms.{CountsFetch, CountsFetches, FetchesOne, GathersAll, OnFault, file_in, line_in};
-ghost use Rattle.glass_run.specs.Grammar.{file_of, files_of};
+ghost use Rattle.glass_run.specs.inner.Forms.{CountsFetch, CountsFetches, FetchesOne, GathersAll, OnFault, file_in};
+ghost use Rattle.command_line.specs.Lines.{line_in};
+ghost use Rattle.command_line.specs.Grammar.{file_of, files_of};
 ghost use Rattle.glass_run.specs.Texts.{Reaches, text_of, texts_of};
 ghost use Rattle.glass_run.specs.declared.fetching.NoReply.TheVariants.{Memory as OutOfReach};
 
-use crate::grammar::FETCH_ORDER;
 use crate::notices::{absent, too_long};
 use crate::reply::Notice;
 use crate::texts::{Text, limit};
-use crate::words::CommandLine;
+use command_line::{CommandLine, FETCH_ORDER};
 use glass_base::{Memory, Role, Run, append};
 use glass_io::{Fetched, Files, Trouble};
 use std::alloc::Global;

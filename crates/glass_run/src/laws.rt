@@ -4,12 +4,12 @@
 
 ghost use Rattle.std.specs.Prelude.{ℕ, List};
 ghost use Rattle.glass_io.specs.Told.{Contents};
-ghost use Rattle.glass_run.specs.Grammar.{Line};
+ghost use Rattle.command_line.specs.Grammar.{Line};
 ghost use Rattle.glass_run.specs.Headlines.{Accepts, Ended, FindsLawful, FindsNoDraft, FindsUnlawful, FindsWrong, IsCheck, IsJudging, IsSearch, IsSearchEnd, StoresConverted, StoresLawfulPlan, StoresSearch};
 ghost use Rattle.glass_run.specs.PictureHeadlines.{PictureEnded, StoresPicture};
 ghost use Rattle.glass_run.specs.Runs.{World};
-ghost use Rattle.glass_run.specs.declared.grammar.Verb.{Verb};
-ghost use Rattle.glass_run.specs.declared.grammar.Verb.TheVariants as verb;
+ghost use Rattle.command_line.specs.declared.grammar.Verb.{Verb};
+ghost use Rattle.command_line.specs.declared.grammar.Verb.TheVariants as verb;
 ghost use Rattle.glass_run.specs.declared.status.Status.{Status};
 ghost use Rattle.glass_run.specs.declared.status.Status.TheVariants as status;
 

@@ -5,7 +5,6 @@ mod checking;
 mod drafting;
 mod drawing;
 mod fetching;
-pub mod grammar;
 mod instances;
 mod judging;
 pub mod laws;
@@ -17,7 +16,6 @@ mod reply;
 pub mod run;
 pub mod status;
 mod texts;
-mod words;
 
 pub use box_workers::{Gate, HeldGate, OpenGate};
 pub use program::{run_picture, run_program};

@@ -7,13 +7,13 @@ ghost use Rattle.glass_run.specs.Checks.{bound_line as bound_line_of, refused_li
 ghost use Rattle.glass_run.specs.Drafts.{no_draft_line as no_draft_line_of, summary};
 ghost use Rattle.cert_log.specs.Texts.{loss_text};
 ghost use Rattle.glass_run.specs.Plans.{counted_lines as counted_lines_of, ended_lines as ended_lines_of};
-ghost use Rattle.glass_run.specs.Judgements.{lawful_line as lawful_line_of, rule_word as rule_word_of, unlawful_line as unlawful_line_of};
+ghost use Rattle.glass_run.specs.Judgements.{lawful_line as lawful_line_of, unlawful_line as unlawful_line_of};
 ghost use Rattle.glass_run.specs.Runs.{read_fault_line as read_fault_line_of};
 
-use crate::grammar::role_word;
 use cert_check::Why;
 use cert_log::Certificate;
-use cut_model::{Broken, Rule};
+use command_line::role_word;
+use cut_model::Broken;
 use glass_base::{Memory, Role};
 use std::alloc::Global;
 
@@ -131,33 +131,11 @@ pub(crate) fn search_lines(
     Ok(lines)
 }
 
-/// The word by which a line names a rule.
-fn rule_word(rule: Rule) -> &'static str
-    ensures { result.now ≡ rule_word_of rule }
-{
-    match rule {
-        Rule::L1 => "L1",
-        Rule::L2 => "L2",
-        Rule::L3 => "L3",
-        Rule::L4 => "L4",
-        Rule::L5 => "L5",
-        Rule::L6 => "L6",
-        Rule::L7 => "L7",
-        Rule::L8 => "L8",
-        Rule::L9Unknown => "L9unknown",
-        Rule::L9Twice => "L9twice",
-        Rule::L9Missing => "L9missing",
-        Rule::L9EmptyPlate => "L9emptyplate",
-        Rule::L9Plates => "L9plates",
-        Rule::L10 => "L10",
-    }
-}
-
 /// The line that names the first breach of a plan.
 pub(crate) fn unlawful_line(alloc: Global, broken: &Broken) -> Result<String, Memory>
     ensures { IfOk result (λ line. string_bytes line ≡ unlawful_line_of broken.now) }
 {
-    let word = rule_word(broken.rule);
+    let word = broken.rule.word();
     let (plate, node) = (broken.plate, broken.node);
     let (left, right) = (broken.left, broken.right);
     Ok(format!(in alloc; "unlawful {word} plate {plate} node {node} {left} {right}\n")?)

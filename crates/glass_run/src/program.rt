@@ -3,7 +3,7 @@
 ghost use Rattle.std.specs.Prelude.{◌≡◌, [], IfErr, IfOk, IfSome, MatchOption, map};
 ghost use Rattle.std.specs.String.{string_bytes};
 ghost use Rattle.glass_run.specs.Exits.{Exits};
-ghost use Rattle.glass_run.specs.Grammar.{line_of, picture_line_of};
+ghost use Rattle.command_line.specs.Grammar.{line_of, picture_line_of};
 ghost use Rattle.glass_run.specs.Runs.{world};
 
 use crate::run::{glass, glass_picture};

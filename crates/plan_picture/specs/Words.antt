@@ -3,26 +3,10 @@ use Rattle.std.specs.Prelude.{ℕ, ◌/◌, ◌%◌, List, ◌++◌, Bool, true,
 use Rattle.std.specs.Fmt.{decimal}
 use Rattle.cut_model.specs.declared.broken.Broken.{Broken}
 use Rattle.cut_model.specs.declared.broken.Rule.{Rule}
+use Rattle.cut_model.specs.Words.{breach_text}
 use Rattle.plan_picture.specs.declared.mark.Key.{Key}
 use Rattle.plan_picture.specs.declared.mark.Words.{Words}
 use Rattle.plan_picture.specs.declared.mark.Words.TheVariants as words
-
--- the word by which a rule is named
-abbrev pub rule_word : Rule → List ℕ
-rule_word Rule.L1 = codes "L1"
-rule_word Rule.L2 = codes "L2"
-rule_word Rule.L3 = codes "L3"
-rule_word Rule.L4 = codes "L4"
-rule_word Rule.L5 = codes "L5"
-rule_word Rule.L6 = codes "L6"
-rule_word Rule.L7 = codes "L7"
-rule_word Rule.L8 = codes "L8"
-rule_word Rule.L9Unknown = codes "L9unknown"
-rule_word Rule.L9Twice = codes "L9twice"
-rule_word Rule.L9Missing = codes "L9missing"
-rule_word Rule.L9EmptyPlate = codes "L9emptyplate"
-rule_word Rule.L9Plates = codes "L9plates"
-rule_word Rule.L10 = codes "L10"
 
 -- what it means to break a rule
 abbrev pub reason_text : Rule → List ℕ
@@ -40,12 +24,6 @@ reason_text Rule.L9Missing = codes "an item is not cut"
 reason_text Rule.L9EmptyPlate = codes "the plate has no item"
 reason_text Rule.L9Plates = codes "too many plates are used"
 reason_text Rule.L10 = codes "the item is cut too late for its stack"
-
--- a breach, as a run prints it
-abbrev pub breach_text : Broken → List ℕ
-breach_text b =
-    codes "unlawful " ++ rule_word b.rule ++ codes " plate " ++ decimal b.plate ++ codes " node " ++ decimal b.node ++ codes " "
-    ++ decimal b.left ++ codes " " ++ decimal b.right
 
 -- what a spot or a line of the legend stands for
 abbrev pub key_text : Key → List ℕ

@@ -1,32 +1,10 @@
 //! The fixed words of a picture.
 
 ghost use Rattle.std.specs.Prelude.{◌≡◌};
-ghost use Rattle.plan_picture.specs.Words.{class_text as class_of_words, key_text, reason_text, rule_word as rule_word_of};
+ghost use Rattle.plan_picture.specs.Words.{class_text as class_of_words, key_text, reason_text};
 
 use crate::mark::{Key, Words};
 use cut_model::Rule;
-
-/// The word by which a rule is named.
-pub(crate) fn rule_word(rule: Rule) -> &'static str
-    ensures { result.now ≡ rule_word_of rule }
-{
-    match rule {
-        Rule::L1 => "L1",
-        Rule::L2 => "L2",
-        Rule::L3 => "L3",
-        Rule::L4 => "L4",
-        Rule::L5 => "L5",
-        Rule::L6 => "L6",
-        Rule::L7 => "L7",
-        Rule::L8 => "L8",
-        Rule::L9Unknown => "L9unknown",
-        Rule::L9Twice => "L9twice",
-        Rule::L9Missing => "L9missing",
-        Rule::L9EmptyPlate => "L9emptyplate",
-        Rule::L9Plates => "L9plates",
-        Rule::L10 => "L10",
-    }
-}
 
 /// What it means to break a rule.
 pub(crate) fn reason(rule: Rule) -> &'static str

@@ -4,10 +4,11 @@ ghost use Rattle.std.specs.Prelude.{◌≡◌, ◌++◌, ◌≤◌, OnOk, IfOk};
 ghost use Rattle.std.specs.List.{flat_map};
 ghost use Rattle.std.specs.String.{string_bytes};
 ghost use Rattle.plan_picture.specs.Marks.{cut_text, defect_text, fill_class, head_text, item_class, label_text, look_class, mark_text, name_text, outline_text, piece_text, place_text, plate_text, rect_text, ring_text, row_class, sample_text, spot_text, stack_class, title_text};
-ghost use Rattle.plan_picture.specs.Words.{breach_text, number_text, share_text, sides_text, words_text};
+ghost use Rattle.cut_model.specs.Words.{breach_text};
+ghost use Rattle.plan_picture.specs.Words.{number_text, share_text, sides_text, words_text};
 
 use crate::mark::{Fill, Frame, Label, Line, Look, Mark, Words};
-use crate::words::{class_of, key_word, reason, rule_word};
+use crate::words::{class_of, key_word, reason};
 use cut_model::{Broken, Row};
 use glass_base::{Defect, Memory, Run};
 use std::alloc::Global;
@@ -274,7 +275,7 @@ fn write_loss(text: &mut String, loss: u64, thousandths: u64) -> Result<(), Memo
 fn write_breach(text: &mut String, broken: &Broken) -> Result<(), Memory>
     ensures { OnOk result (string_bytes text.new ≡ string_bytes text.old ++ breach_text broken.now) }
 {
-    let word = rule_word(broken.rule);
+    let word = broken.rule.word();
     let (plate, node) = (broken.plate, broken.node);
     let (left, right) = (broken.left, broken.right);
     write!(

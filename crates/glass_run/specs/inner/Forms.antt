@@ -1,4 +1,4 @@
--- What the program's own values mean: rows and lines of the grammar, texts, replies.
+-- What the program's own values mean: texts, replies.
 use Rattle.std.specs.Prelude.{◌≡◌, ℕ, List, [], map, slice_index_or, Result, Ok, Err, IfErr}
 use Rattle.std.specs.String.{string_bytes}
 use Rattle.glass_base.specs.declared.role.Role.{Role}
@@ -7,25 +7,14 @@ use Rattle.glass_io.specs.Told.{ReadFailed, SameFaults, Shelf}
 use Rattle.glass_run.specs.declared.fetching.NoReply.{NoReply}
 use Rattle.glass_run.specs.declared.fetching.NoReply.TheVariants as no_reply
 use Rattle.glass_run.specs.declared.fetching.Wanted.{Wanted}
-use Rattle.glass_run.specs.declared.grammar.Form.{Form}
 use Rattle.glass_run.specs.declared.reply.Notice.{Notice}
 use Rattle.glass_run.specs.declared.reply.Output.{Output}
 use Rattle.glass_run.specs.declared.reply.Reply.{Reply}
 use Rattle.glass_run.specs.declared.notices.Stop.{Stop}
 use Rattle.glass_run.specs.declared.notices.Stop.TheVariants as stop
 use Rattle.glass_run.specs.declared.texts.Text.{Text}
-use Rattle.glass_run.specs.declared.words.CommandLine.{CommandLine}
 use Rattle.glass_run.specs.Answers.{Answer, Store, only_lines}
-use Rattle.glass_run.specs.Grammar.{Line, Pattern}
 use Rattle.glass_run.specs.Texts.{Texts}
-
--- the row that a form is
-abbrev pub pattern_in : Form → Pattern
-pattern_in f = record { word = f.word.now; leads = f.leads.now; reads = f.reads.now; without = f.without.now; stores = f.stores.now; options = f.options.now; counts = f.counts.now }
-
--- the line that a command line is
-abbrev pub line_in : CommandLine → Line
-line_in l = record { verb = l.verb; leads = map string_bytes l.leads.now; names = map string_bytes l.names.now; options = map string_bytes l.options.now }
 
 -- a file to be fetched, by its role and its name
 abbrev pub file_in : Wanted → Role × List ℕ

@@ -1,6 +1,6 @@
 use Rattle.glass_base.specs.declared.role.Role.TheVariants as role
-use Rattle.glass_run.specs.inner.Forms.{line_in}
-use Rattle.glass_run.specs.Grammar.{fetch_order, file_of}
+use Rattle.command_line.specs.Lines.{line_in}
+use Rattle.command_line.specs.Grammar.{fetch_order, file_of}
 use Rattle.glass_run.proofs.ListedFiles.{filter_map_more}
 use Rattle.glass_run.proofs.fetching.files_wanted.Goals as goal
 

@@ -2,4 +2,4 @@ use Rattle.std.proofs.Common.{append_assoc, ◌∙◌}
 use Rattle.glass_run.proofs.lines.unlawful_line.Goals as goal
 
 pub returns : goal.returns
-returns c = (rw c.rule_word-word.ensures at c.in_ok-format.ensures.ok) ∙ simp append_assoc
+returns c = (rw c.word-word.ensures at c.in_ok-format.ensures.ok) ∙ simp append_assoc

@@ -1,4 +1,4 @@
-use Rattle.glass_run.specs.inner.Forms.{line_in}
+use Rattle.command_line.specs.Lines.{line_in}
 use Rattle.glass_run.proofs.Given.{with_texts}
 use Rattle.glass_run.proofs.run.reply_of.Goals as goal
 

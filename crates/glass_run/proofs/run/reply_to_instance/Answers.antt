@@ -1,12 +1,13 @@
 use Rattle.std.proofs.Common.{subst, sym}
 use Rattle.std.proofs.lemmas.Result.{IfOk-weaker}
 use Rattle.glass_run.specs.Answers.{Answer}
-use Rattle.glass_run.specs.Grammar.{stored_names}
+use Rattle.command_line.specs.Grammar.{stored_names}
 use Rattle.glass_run.specs.Judgements.{JudgesText}
 use Rattle.glass_base.specs.declared.role.Role.TheVariants as role
 use Rattle.glass_run.specs.Texts.{text_or_empty}
-use Rattle.glass_run.specs.declared.grammar.Verb.TheVariants as verb
-use Rattle.glass_run.specs.inner.Forms.{answer_in, line_in, texts_in}
+use Rattle.command_line.specs.declared.grammar.Verb.TheVariants as verb
+use Rattle.glass_run.specs.inner.Forms.{answer_in, texts_in}
+use Rattle.command_line.specs.Lines.{line_in}
 use Rattle.glass_run.proofs.Given.{answers_as, convert_answers, picture_answers, verify_answers}
 use Rattle.glass_run.proofs.run.reply_to_instance.Goals as goal
 

@@ -1,6 +1,7 @@
 use Rattle.std.proofs.lemmas.Result.{IfOk-weaker}
-use Rattle.glass_run.specs.inner.Forms.{answer_in, line_in}
-use Rattle.glass_run.specs.Grammar.{stored_names}
+use Rattle.glass_run.specs.inner.Forms.{answer_in}
+use Rattle.command_line.specs.Lines.{line_in}
+use Rattle.command_line.specs.Grammar.{stored_names}
 use Rattle.glass_run.proofs.Given.{said_instance, said_none}
 use Rattle.glass_run.proofs.run.reply_to_texts.Goals as goal
 

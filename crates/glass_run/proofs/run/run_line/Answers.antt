@@ -1,5 +1,6 @@
-use Rattle.glass_run.specs.inner.Forms.{answer_in, line_in}
-use Rattle.glass_run.specs.Grammar.{stored_names}
+use Rattle.glass_run.specs.inner.Forms.{answer_in}
+use Rattle.command_line.specs.Lines.{line_in}
+use Rattle.command_line.specs.Grammar.{stored_names}
 use Rattle.glass_run.proofs.Endings.{answers_told, delivery_ends, fails_to_read, fault_ends}
 use Rattle.glass_run.proofs.run.run_line.Goals as goal
 

@@ -1,0 +1,331 @@
+-- The command lines: each command is a row of the table `pattern_of`.
+use Rattle.std.specs.Prelude.{◌==◌, ◌&&◌, ◌||◌, ◌+◌, ◌++◌, ℕ, List, [], ◌∷◌, length, take, drop, find, position, slice_get, count_by, nat_le, nat_lt, Bool, false, not, is_some, if◌then◌else◌, Option, Some, None, codes, option_map, option_and_then}
+use Rattle.std.specs.Char.{is_ascii_digit}
+use Rattle.std.specs.List.{filter_map, list_all, list_any}
+use Rattle.std.specs.Option.{option_map_or, option_or, unwrap_or}
+use Rattle.std.specs.Str.{bytes_eq}
+use Rattle.std.specs.Str.Parse.{digits_value}
+use Rattle.glass_base.specs.Roles.{is_role}
+use Rattle.glass_base.specs.declared.role.Role.{Role}
+use Rattle.glass_base.specs.declared.role.Role.TheVariants as role
+use Rattle.command_line.specs.declared.grammar.Count.{Count}
+use Rattle.command_line.specs.declared.grammar.Count.TheVariants as count
+use Rattle.command_line.specs.declared.grammar.Lead.{Lead}
+use Rattle.command_line.specs.declared.grammar.Lead.TheVariants as lead
+use Rattle.command_line.specs.declared.grammar.Product.{Product}
+use Rattle.command_line.specs.declared.grammar.Product.TheVariants as product
+use Rattle.command_line.specs.declared.grammar.Verb.{Verb}
+use Rattle.command_line.specs.declared.grammar.Verb.TheVariants as verb
+
+-- what the words of a command are: its own word, then a number for each of these, a name for each file that it reads and for each that
+-- it stores, in this order, and then options, which name further files that it reads, or set numbers; a dash may stand in the place of
+-- a file that it can do without
+pub record Pattern : Type 0 where
+  pub word : List ℕ
+  pub leads : List Lead
+  pub reads : List Role
+  pub without : List Role
+  pub stores : List Product
+  pub options : List Role
+  pub counts : List Count
+
+abbrev pub pattern_of : Verb → Pattern
+pattern_of verb.Draft = record {
+  word = codes "draft";
+  leads = [];
+  reads = role.Batch ∷ [];
+  without = [];
+  stores = product.Plan ∷ [];
+  options = role.Params ∷ role.Plates ∷ [];
+  counts = [];
+}
+pattern_of verb.Plan = record {
+  word = codes "plan";
+  leads = [];
+  reads = role.Batch ∷ role.Defects ∷ [];
+  without = [];
+  stores = product.Plan ∷ product.Certificate ∷ [];
+  options = role.Params ∷ role.Plates ∷ [];
+  counts = count.Workers ∷ count.Budget ∷ [];
+}
+pattern_of verb.Gen = record {
+  word = codes "gen";
+  leads = lead.Start ∷ lead.Items ∷ lead.Defects ∷ [];
+  reads = [];
+  without = [];
+  stores = product.Plan ∷ product.Certificate ∷ [];
+  options = [];
+  counts = count.Workers ∷ count.Budget ∷ [];
+}
+pattern_of verb.Judge = record {
+  word = codes "judge";
+  leads = [];
+  reads = role.Batch ∷ role.Defects ∷ role.Plan ∷ [];
+  without = [];
+  stores = [];
+  options = role.Params ∷ role.Plates ∷ [];
+  counts = [];
+}
+pattern_of verb.Verify = record {
+  word = codes "verify";
+  leads = [];
+  reads = role.Batch ∷ role.Defects ∷ role.Plan ∷ role.Cert ∷ [];
+  without = role.Plan ∷ [];
+  stores = [];
+  options = role.Params ∷ role.Plates ∷ [];
+  counts = [];
+}
+pattern_of verb.Convert = record {
+  word = codes "convert";
+  leads = [];
+  reads = role.Batch ∷ role.Defects ∷ role.Plan ∷ role.Cert ∷ [];
+  without = role.Plan ∷ [];
+  stores = product.Certificate ∷ [];
+  options = role.Params ∷ role.Plates ∷ [];
+  counts = [];
+}
+pattern_of verb.Picture = record {
+  word = codes "picture";
+  leads = [];
+  reads = role.Batch ∷ role.Defects ∷ role.Plan ∷ [];
+  without = [];
+  stores = product.Picture ∷ [];
+  options = role.Params ∷ role.Plates ∷ [];
+  counts = [];
+}
+
+-- the commands of `glass`
+abbrev pub verbs : List Verb
+verbs = verb.Draft ∷ verb.Plan ∷ verb.Gen ∷ verb.Judge ∷ verb.Verify ∷ verb.Convert ∷ []
+
+-- the order in which the files of a command line are fetched and read
+abbrev pub fetch_order : List Role
+fetch_order = role.Batch ∷ role.Defects ∷ role.Params ∷ role.Plates ∷ role.Plan ∷ role.Cert ∷ []
+
+-- the word by which lines name a file
+abbrev pub role_word : Role → List ℕ
+role_word role.Batch = codes "batch"
+role_word role.Defects = codes "defects"
+role_word role.Params = codes "params"
+role_word role.Plan = codes "plan"
+role_word role.Cert = codes "cert"
+role_word role.Plates = codes "plates"
+
+-- a word is a dash alone
+abbrev pub is_dash : List ℕ → Bool
+is_dash (a ∷ []) = a == 45
+is_dash _ = false
+
+-- a file name is not empty, is not a dash alone, and does not begin with two dashes
+abbrev pub is_name : List ℕ → Bool
+is_name [] = false
+is_name (a ∷ []) = not (a == 45)
+is_name (a ∷ b ∷ rest) = not ((a == 45) && (b == 45))
+
+-- the file that a word in the place of a name stands for: a dash stands for none
+abbrev pub name_said : List ℕ → Option (List ℕ)
+name_said word = if is_dash word then None else Some word
+
+-- what stands before the file name in an option
+abbrev pub option_front : Role → List ℕ
+option_front of = codes "--" ++ role_word of ++ codes "="
+
+-- the file that a word names as an option of this role
+abbrev pub option_name : Role → List ℕ → Option (List ℕ)
+option_name of word =
+    let front = option_front of in
+    if bytes_eq (take (length front) word) front && is_name (drop (length front) word) then Some (drop (length front) word) else None
+
+abbrev pub is_option : Role → List ℕ → Bool
+is_option of word = is_some (option_name of word)
+
+-- what stands before the number in an option
+abbrev pub count_front : Count → List ℕ
+count_front count.Workers = codes "--workers="
+count_front count.Budget = codes "--budget="
+
+-- the greatest number that can be set; the least is 1
+abbrev pub count_most : Count → ℕ
+count_most count.Workers = 8
+count_most count.Budget = 10000000
+
+-- the number where a line sets none
+abbrev pub count_usual : Count → ℕ
+count_usual count.Workers = 4
+count_usual count.Budget = 100000
+
+-- a zero stands before other digits
+abbrev pub has_leading_zero : List ℕ → Bool
+has_leading_zero (a ∷ b ∷ rest) = a == 48
+has_leading_zero _ = false
+
+-- a text is a number: one digit or more, without a sign and without a zero at the front
+abbrev pub is_number : List ℕ → Bool
+is_number text = nat_lt 0 (length text) && list_all is_ascii_digit text && not (has_leading_zero text)
+
+-- the number that a text says, from the least to the greatest that it may be
+abbrev pub number_within : ℕ → ℕ → List ℕ → Option ℕ
+number_within least most text =
+    let n = digits_value 10 text in
+    if is_number text && (nat_le least n && nat_le n most) then Some n else None
+
+-- the numbers before the names by their order
+abbrev pub lead_place : Lead → ℕ
+lead_place lead.Start = 0
+lead_place lead.Items = 1
+lead_place lead.Defects = 2
+
+abbrev pub is_lead : Lead → Lead → Bool
+is_lead of other = lead_place of == lead_place other
+
+-- the least and the greatest number that can stand before the names
+abbrev pub lead_least : Lead → ℕ
+lead_least lead.Start = 0
+lead_least lead.Items = 1
+lead_least lead.Defects = 0
+
+abbrev pub lead_most : Lead → ℕ
+lead_most lead.Start = 4294967295
+lead_most lead.Items = 800
+lead_most lead.Defects = 20000
+
+-- the number that a word before the names is
+abbrev pub lead_value : Lead → List ℕ → Option ℕ
+lead_value of word = number_within (lead_least of) (lead_most of) word
+
+-- the number that a word sets
+abbrev pub count_value : Count → List ℕ → Option ℕ
+count_value of word =
+    let front = count_front of in
+    if bytes_eq (take (length front) word) front then number_within 1 (count_most of) (drop (length front) word) else None
+
+abbrev pub is_count : Count → List ℕ → Bool
+is_count of word = is_some (count_value of word)
+
+-- a word sets one of these numbers
+abbrev pub is_some_count : List Count → List ℕ → Bool
+is_some_count counts word = list_any (λ of. is_count of word) counts
+
+-- a word is an option of one of these roles
+abbrev pub is_some_option : List Role → List ℕ → Bool
+is_some_option roles word = list_any (λ of. is_option of word) roles
+
+-- one of these words at the most is an option of this role
+abbrev pub is_once : List (List ℕ) → Role → Bool
+is_once words of = nat_le (count_by (is_option of) words) 1
+
+-- one of these words at the most sets this number
+abbrev pub is_count_once : List (List ℕ) → Count → Bool
+is_count_once words of = nat_le (count_by (is_count of) words) 1
+
+-- a word is one of the options of a command
+abbrev pub is_command_option : Pattern → List ℕ → Bool
+is_command_option pattern word = is_some_option pattern.options word || is_some_count pattern.counts word
+
+-- the words are options of a command, each of them once at the most
+abbrev pub are_options : Pattern → List (List ℕ) → Bool
+are_options pattern words =
+    list_all (is_command_option pattern) words && list_all (is_once words) pattern.options && list_all (is_count_once words) pattern.counts
+
+-- a command line: its command, the numbers behind it, the names of files, and its options
+pub record Line : Type 0 where
+  pub verb : Verb
+  pub leads : List (List ℕ)
+  pub names : List (List ℕ)
+  pub options : List (List ℕ)
+
+-- the number of this kind that a line says before its names
+abbrev pub lead_at : Line → Lead → Option ℕ
+lead_at line of =
+    option_and_then (lead_value of) (option_and_then (λ place. slice_get line.leads place) (position (λ other. is_lead of other) (pattern_of line.verb).leads))
+
+-- whether each number that stands before the names of a command is said, and no other word
+abbrev pub are_leads_said : Line → Bool
+are_leads_said line =
+    let pattern = pattern_of line.verb in
+    (length line.leads == length pattern.leads) && list_all (λ of. is_some (lead_at line of)) pattern.leads
+
+-- the name of the file of this role, where it is one of the names of a line
+abbrev pub name_at : Line → Role → Option (List ℕ)
+name_at line of =
+    option_and_then name_said (option_and_then (λ place. slice_get line.names place) (position (λ other. is_role of other) (pattern_of line.verb).reads))
+
+-- whether a line names the file of this role that its command reads, or its command can do without
+abbrev pub is_read_named : Line → Role → Bool
+is_read_named line of = is_some (name_at line of) || list_any (λ other. is_role of other) (pattern_of line.verb).without
+
+-- the names under which a line stores
+abbrev pub stored_names : Line → List (List ℕ)
+stored_names line = drop (length (pattern_of line.verb).reads) line.names
+
+-- whether a word is an option of this role that names this file
+abbrev pub is_option_for : Role → List ℕ → List ℕ → Bool
+is_option_for of name word = option_map_or (λ n. bytes_eq n name) (option_name of word) false
+
+-- whether an option of one of these roles names this file
+abbrev pub option_names : List Role → List ℕ → List ℕ → Bool
+option_names roles name word = list_any (λ of. is_option_for of name word) roles
+
+-- whether a line names a file once
+abbrev pub is_named_once : Line → List ℕ → Bool
+is_named_once line name =
+    (count_by (λ n. bytes_eq n name) line.names + count_by (option_names (pattern_of line.verb).options name) line.options) == 1
+
+-- whether the names are those of the line's command
+abbrev pub are_files_named : Line → Bool
+are_files_named line =
+    let pattern = pattern_of line.verb in
+    (length line.names == length pattern.reads + length pattern.stores) && list_all (λ word. is_name word || is_dash word) line.names
+    && list_all (is_read_named line) pattern.reads && list_all is_name (stored_names line)
+
+-- whether the numbers, names and options are those of the line's command; a name that is stored differs from all other names
+abbrev pub is_line : Line → Bool
+is_line line = are_leads_said line && are_files_named line && are_options (pattern_of line.verb) line.options && list_all (is_named_once line) (stored_names line)
+
+-- the words behind a command's own as its numbers, its names and its options
+abbrev pub line_with : Verb → List (List ℕ) → Line
+line_with of words =
+    let numbers = length (pattern_of of).leads in
+    let many = length (pattern_of of).reads + length (pattern_of of).stores in
+    let behind = drop numbers words in
+    record { verb = of; leads = take numbers words; names = take many behind; options = drop many behind }
+
+abbrev pub line_if : Line → Option Line
+line_if line = if is_line line then Some line else None
+
+-- the command of this word
+abbrev pub verb_of : List ℕ → Option Verb
+verb_of word = find (λ of. bytes_eq word (pattern_of of).word) verbs
+
+-- the command line that words are, if they are one
+abbrev pub line_of : List (List ℕ) → Option Line
+line_of [] = None
+line_of (word ∷ words) = option_and_then (λ of. line_if (line_with of words)) (verb_of word)
+
+-- the line of the program that draws, if the words are one
+abbrev pub picture_line_of : List (List ℕ) → Option Line
+picture_line_of words = line_if (line_with verb.Picture words)
+
+-- the name of the file of this role, where an option names it
+abbrev pub name_by_option : Line → Role → Option (List ℕ)
+name_by_option line of = option_and_then (option_name of) (find (is_option of) line.options)
+
+-- the name of the file of this role, if the line names it
+abbrev pub name_of : Line → Role → Option (List ℕ)
+name_of line of = option_or (name_at line of) (name_by_option line of)
+
+-- the number that a line sets, or the usual one
+abbrev pub count_in : Line → Count → ℕ
+count_in line of = unwrap_or (option_and_then (count_value of) (find (is_count of) line.options)) (count_usual of)
+
+-- the number of this kind that stands before a line's names
+abbrev pub lead_in : Line → Lead → ℕ
+lead_in line of = unwrap_or (lead_at line of) (lead_least of)
+
+-- the file of this role with its name, if the line names it
+abbrev pub file_of : Line → Role → Option (Role × List ℕ)
+file_of line of = option_map (λ name. (of, name)) (name_of line of)
+
+-- the files that a line reads, each by its role and its name, in the order in which they are fetched
+abbrev pub files_of : Line → List (Role × List ℕ)
+files_of line = filter_map (file_of line) fetch_order

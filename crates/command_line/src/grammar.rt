@@ -1,0 +1,269 @@
+//! The commands, each a row of one table.
+
+ghost use Rattle.std.specs.Prelude.{◌≡◌};
+ghost use Rattle.command_line.specs.Grammar.{fetch_order, option_front as option_front_of, role_word as role_word_of, count_front as count_front_of, count_most as count_most_of, count_usual as count_usual_of, lead_least as lead_least_of, lead_most as lead_most_of, verbs};
+
+use glass_base::Role;
+
+/// A command.
+#[derive(Clone, Copy, Debug, PartialEq, Eq)]
+pub enum Verb {
+    /// Stores the plan of the draft of a batch.
+    Draft,
+    /// Searches for a plan, and stores it with its certificate.
+    Plan,
+    /// Searches for a plan of an instance that is drawn.
+    Gen,
+    /// Judges a solution file.
+    Judge,
+    /// Judges a solution file and checks a certificate.
+    Verify,
+    /// Does what `Verify` does, and stores the certificate with its causes named.
+    Convert,
+    /// Draws a plan.
+    Picture,
+}
+
+/// What a command stores.
+#[derive(Clone, Copy, Debug, PartialEq, Eq)]
+pub enum Product {
+    /// A plan.
+    Plan,
+    /// A certificate.
+    Certificate,
+    /// A picture of a plan.
+    Picture,
+}
+
+/// A number that stands before the names.
+#[derive(Clone, Copy, Debug, PartialEq, Eq)]
+pub enum Lead {
+    /// The start from which an instance is drawn.
+    Start,
+    /// How many items are drawn.
+    Items,
+    /// How many defects are drawn.
+    Defects,
+}
+
+impl Lead {
+    ghost use Rattle.std.specs.Prelude.{◌≡◌};
+    ghost use Rattle.command_line.specs.Grammar.{is_lead, lead_place};
+
+    /// Its place in the order in which the numbers stand, from 0.
+    fn place(self) -> usize
+        ensures { result ≡ lead_place self }
+    {
+        match self {
+            Lead::Start => 0,
+            Lead::Items => 1,
+            Lead::Defects => 2,
+        }
+    }
+
+    /// Whether this is the same number as another one.
+    pub(crate) fn is(self, other: Lead) -> bool
+        ensures { result ≡ is_lead self other }
+    {
+        self.place() == other.place()
+    }
+}
+
+/// A count that an option sets.
+#[derive(Clone, Copy, Debug, PartialEq, Eq)]
+pub enum Count {
+    /// How many workers a search has.
+    Workers,
+    /// How many boxes a search may close or split.
+    Budget,
+}
+
+/// What the words of a command are: its own word, then a number for each of `leads`, a name for each file that it reads and for each that
+/// it stores, in this order, and then its options, which name further files that it reads, or set counts. A dash may stand in the place
+/// of a file that it can do without.
+#[derive(Clone, Copy, Debug)]
+pub struct Form {
+    pub word: &'static str,
+    pub leads: &'static [Lead],
+    pub reads: &'static [Role],
+    pub without: &'static [Role],
+    pub stores: &'static [Product],
+    pub options: &'static [Role],
+    pub counts: &'static [Count],
+}
+
+/// The commands of `glass`.
+pub(crate) const VERBS: [Verb; 6] = [
+    Verb::Draft,
+    Verb::Plan,
+    Verb::Gen,
+    Verb::Judge,
+    Verb::Verify,
+    Verb::Convert,
+];
+
+/// The order in which the files of a command line are fetched and read.
+pub const FETCH_ORDER: [Role; 6] = [
+    Role::Batch,
+    Role::Defects,
+    Role::Params,
+    Role::Plates,
+    Role::Plan,
+    Role::Cert,
+];
+
+impl Verb {
+    ghost use Rattle.command_line.specs.Grammar.{pattern_of};
+    ghost use Rattle.command_line.specs.inner.Forms.{pattern_in};
+
+    /// The row of the command.
+    pub(crate) fn form(self) -> Form
+        ensures { pattern_in result ≡ pattern_of self }
+    {
+        match self {
+            Verb::Draft => Form {
+                word: "draft",
+                leads: &[],
+                reads: &[Role::Batch],
+                without: &[],
+                stores: &[Product::Plan],
+                options: &[Role::Params, Role::Plates],
+                counts: &[],
+            },
+            Verb::Plan => Form {
+                word: "plan",
+                leads: &[],
+                reads: &[Role::Batch, Role::Defects],
+                without: &[],
+                stores: &[Product::Plan, Product::Certificate],
+                options: &[Role::Params, Role::Plates],
+                counts: &[Count::Workers, Count::Budget],
+            },
+            Verb::Gen => Form {
+                word: "gen",
+                leads: &[Lead::Start, Lead::Items, Lead::Defects],
+                reads: &[],
+                without: &[],
+                stores: &[Product::Plan, Product::Certificate],
+                options: &[],
+                counts: &[Count::Workers, Count::Budget],
+            },
+            Verb::Judge => Form {
+                word: "judge",
+                leads: &[],
+                reads: &[Role::Batch, Role::Defects, Role::Plan],
+                without: &[],
+                stores: &[],
+                options: &[Role::Params, Role::Plates],
+                counts: &[],
+            },
+            Verb::Verify => Form {
+                word: "verify",
+                leads: &[],
+                reads: &[Role::Batch, Role::Defects, Role::Plan, Role::Cert],
+                without: &[Role::Plan],
+                stores: &[],
+                options: &[Role::Params, Role::Plates],
+                counts: &[],
+            },
+            Verb::Convert => Form {
+                word: "convert",
+                leads: &[],
+                reads: &[Role::Batch, Role::Defects, Role::Plan, Role::Cert],
+                without: &[Role::Plan],
+                stores: &[Product::Certificate],
+                options: &[Role::Params, Role::Plates],
+                counts: &[],
+            },
+            Verb::Picture => Form {
+                word: "picture",
+                leads: &[],
+                reads: &[Role::Batch, Role::Defects, Role::Plan],
+                without: &[],
+                stores: &[Product::Picture],
+                options: &[Role::Params, Role::Plates],
+                counts: &[],
+            },
+        }
+    }
+}
+
+/// The word by which lines name a file.
+pub fn role_word(role: Role) -> &'static str
+    ensures { result.now ≡ role_word_of role }
+{
+    match role {
+        Role::Batch => "batch",
+        Role::Defects => "defects",
+        Role::Params => "params",
+        Role::Plan => "plan",
+        Role::Cert => "cert",
+        Role::Plates => "plates",
+    }
+}
+
+/// What stands before the file name in an option.
+pub(crate) fn option_front(role: Role) -> &'static str
+    ensures { result.now ≡ option_front_of role }
+{
+    match role {
+        Role::Batch => "--batch=",
+        Role::Defects => "--defects=",
+        Role::Params => "--params=",
+        Role::Plan => "--plan=",
+        Role::Cert => "--cert=",
+        Role::Plates => "--plates=",
+    }
+}
+
+/// What stands before the number in an option.
+pub(crate) fn count_front(count: Count) -> &'static str
+    ensures { result.now ≡ count_front_of count }
+{
+    match count {
+        Count::Workers => "--workers=",
+        Count::Budget => "--budget=",
+    }
+}
+
+/// The greatest number that can be set.
+pub(crate) fn count_most(count: Count) -> u32
+    ensures { result ≡ count_most_of count }
+{
+    match count {
+        Count::Workers => 8,
+        Count::Budget => 10_000_000,
+    }
+}
+
+/// The number where a line sets none.
+pub(crate) fn count_usual(count: Count) -> u32
+    ensures { result ≡ count_usual_of count }
+{
+    match count {
+        Count::Workers => 4,
+        Count::Budget => 100_000,
+    }
+}
+
+/// The least number that can stand before the names.
+pub(crate) fn lead_least(lead: Lead) -> u32
+    ensures { result ≡ lead_least_of lead }
+{
+    match lead {
+        Lead::Start => 0,
+        Lead::Items => 1,
+        Lead::Defects => 0,
+    }
+}
+
+/// The greatest number that can stand before the names.
+pub(crate) fn lead_most(lead: Lead) -> u32
+    ensures { result ≡ lead_most_of lead }
+{
+    match lead {
+        Lead::Start => u32::MAX,
+        Lead::Items => 800,
+        Lead::Defects => 20_000,
+    }
+}

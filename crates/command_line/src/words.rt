@@ -1,0 +1,294 @@
+//! Questions on single words of a command line, and on all words of one kind.
+
+ghost use Rattle.std.specs.Prelude.{◌≡◌, ◌≤◌, ◌||◌, map, count_by, option_map, option_and_then, find, position, slice_get, IfSome};
+ghost use Rattle.std.specs.Char.{is_ascii_digit};
+ghost use Rattle.std.specs.List.{list_all, list_any};
+ghost use Rattle.std.specs.String.{string_bytes};
+ghost use Rattle.glass_base.specs.Roles.{is_role};
+ghost use Rattle.command_line.specs.Grammar.{count_most as count_most_of, are_options as are_options_of, has_leading_zero as has_leading_zero_of, is_command_option as is_command_option_of, is_number as is_number_of, is_count as is_count_of, is_count_once, is_some_count as is_some_count_of, is_dash as is_dash_of, is_lead, lead_value as lead_value_of, name_said as name_said_of, number_within as number_within_of, count_value as count_value_of, is_once, is_option_for as is_option_for_of, is_some_option as is_some_option_of, is_name as is_name_of, is_option as is_option_of, option_name as option_name_of, option_names as option_names_of};
+ghost use Rattle.command_line.specs.inner.Forms.{pattern_in};
+
+use crate::grammar::{
+    Count, Form, Lead, count_front, count_most, lead_least, lead_most, option_front,
+};
+use glass_base::Role;
+
+/// Whether a word is a file name: not empty, no dash alone, and without two dashes at its front.
+fn is_name(word: &str) -> bool
+    ensures { result ≡ is_name_of word.now }
+{
+    match word.as_bytes() {
+        [] => false,
+        [only] => *only != b'-',
+        [b'-', b'-', ..] => false,
+        _ => true,
+    }
+}
+
+/// Whether a word is a dash alone.
+fn is_dash(word: &str) -> bool
+    ensures { result ≡ is_dash_of word.now }
+{
+    match word.as_bytes() {
+        [only] => *only == b'-',
+        _ => false,
+    }
+}
+
+/// The file that a word in the place of a name stands for: a dash stands for none.
+pub(crate) fn name_said(word: &str) -> Option<&str>
+    ensures { option_map (λ name. name.now) result ≡ name_said_of word.now }
+{
+    if is_dash(word) { None } else { Some(word) }
+}
+
+/// Whether each word is a file name.
+pub(crate) fn are_names(words: &[String]) -> bool
+    ensures { result ≡ list_all is_name_of (map string_bytes words.now) }
+{
+    words.iter().all(|word| is_name(word.as_str()))
+}
+
+/// Whether a word may stand in the place of a name.
+fn is_name_or_dash(word: &str) -> bool
+    ensures { result ≡ is_name_of word.now || is_dash_of word.now }
+{
+    is_name(word) || is_dash(word)
+}
+
+/// Whether each word may stand in the place of a name.
+pub(crate) fn are_names_or_dashes(words: &[String]) -> bool
+    ensures { result ≡ list_all (λ word. is_name_of word || is_dash_of word) (map string_bytes words.now) }
+{
+    words.iter().all(|word| is_name_or_dash(word.as_str()))
+}
+
+/// The file that a word names as an option of this role.
+pub(crate) fn option_name(role: Role, word: &str) -> Option<&str>
+    ensures { option_map (λ name. name.now) result ≡ option_name_of role word.now }
+{
+    match word.strip_prefix(option_front(role)) {
+        Some(name) => { if is_name(name) { Some(name) } else { None } }
+        None => None,
+    }
+}
+
+/// Whether a word is an option of this role.
+fn is_option(role: Role, word: &str) -> bool
+    ensures { result ≡ is_option_of role word.now }
+{
+    option_name(role, word).is_some()
+}
+
+/// Whether a word is an option of one of these roles.
+fn is_some_option(roles: &[Role], word: &str) -> bool
+    ensures { result ≡ is_some_option_of roles.now word.now }
+{
+    roles.iter().any(|role| is_option(*role, word))
+}
+
+/// How many words are options of this role.
+fn options_of_role(role: Role, words: &[String]) -> usize
+    ensures { result ≡ count_by (is_option_of role) (map string_bytes words.now) }
+{
+    words
+        .iter()
+        .filter(|word| is_option(role, word.as_str()))
+        .count()
+}
+
+/// Whether each of these roles has one option at the most.
+fn are_once(roles: &[Role], words: &[String]) -> bool
+    ensures { result ≡ list_all (is_once (map string_bytes words.now)) roles.now }
+{
+    roles.iter().all(|role| options_of_role(*role, words) <= 1)
+}
+
+/// Whether a zero stands before other digits.
+fn has_leading_zero(text: &[u8]) -> bool
+    ensures { result ≡ has_leading_zero_of text.now }
+{
+    match text {
+        [first, _, ..] => *first == b'0',
+        _ => false,
+    }
+}
+
+/// Whether a text has no other bytes than digits.
+fn are_digits(text: &[u8]) -> bool
+    ensures { result ≡ list_all is_ascii_digit text.now }
+{
+    text.iter().all(|byte| byte.is_ascii_digit())
+}
+
+/// Whether a text is a number: one digit or more, without a sign and without a zero at the front.
+fn is_number(text: &[u8]) -> bool
+    ensures { result ≡ is_number_of text.now }
+{
+    !text.is_empty() && are_digits(text) && !has_leading_zero(text)
+}
+
+/// The number that a text says, from the least to the greatest that it may be.
+fn number_within(least: u32, most: u32, text: &str) -> Option<u32>
+    ensures value { result ≡ number_within_of least most text.now }
+    ensures within { IfSome result (λ n. (least ≤ n) × (n ≤ most)) }
+{
+    if !is_number(text.as_bytes()) {
+        return None;
+    }
+    match text.parse::<u32>() {
+        Ok(number) => {
+            if least <= number && number <= most {
+                Some(number)
+            } else {
+                None
+            }
+        }
+        Err(_) => None,
+    }
+}
+
+/// The number that a word before the names is.
+pub(crate) fn lead_value(lead: Lead, word: &str) -> Option<u32>
+    ensures { result ≡ lead_value_of lead word.now }
+{
+    number_within(lead_least(lead), lead_most(lead), word)
+}
+
+/// The number that a word sets.
+fn count_value(count: Count, word: &str) -> Option<u32>
+    ensures value { result ≡ count_value_of count word.now }
+    ensures within { IfSome result (λ n. (1 ≤ n) × (n ≤ count_most_of count)) }
+{
+    match word.strip_prefix(count_front(count)) {
+        Some(text) => number_within(1, count_most(count), text),
+        None => None,
+    }
+}
+
+/// Whether a word sets this number.
+fn is_count(count: Count, word: &str) -> bool
+    ensures { result ≡ is_count_of count word.now }
+{
+    count_value(count, word).is_some()
+}
+
+/// Whether a word sets one of these numbers.
+fn is_some_count(counts: &[Count], word: &str) -> bool
+    ensures { result ≡ is_some_count_of counts.now word.now }
+{
+    counts.iter().any(|count| is_count(*count, word))
+}
+
+/// How many words set this number.
+fn counts_of(count: Count, words: &[String]) -> usize
+    ensures { result ≡ count_by (is_count_of count) (map string_bytes words.now) }
+{
+    words
+        .iter()
+        .filter(|word| is_count(count, word.as_str()))
+        .count()
+}
+
+/// Whether each of these numbers is set once at the most.
+fn are_counts_once(counts: &[Count], words: &[String]) -> bool
+    ensures { result ≡ list_all (is_count_once (map string_bytes words.now)) counts.now }
+{
+    counts.iter().all(|count| counts_of(*count, words) <= 1)
+}
+
+/// Whether a word is one of the options of a command.
+fn is_command_option(form: &Form, word: &str) -> bool
+    ensures { result ≡ is_command_option_of (pattern_in form.now) word.now }
+{
+    is_some_option(form.options, word) || is_some_count(form.counts, word)
+}
+
+/// Whether each word is one of the options of a command.
+fn are_command_options(form: &Form, words: &[String]) -> bool
+    ensures { result ≡ list_all (is_command_option_of (pattern_in form.now)) (map string_bytes words.now) }
+{
+    words
+        .iter()
+        .all(|word| is_command_option(form, word.as_str()))
+}
+
+/// Whether words are options of a command, each of them once at the most.
+pub(crate) fn are_options(form: &Form, words: &[String]) -> bool
+    ensures { result ≡ are_options_of (pattern_in form.now) (map string_bytes words.now) }
+{
+    are_command_options(form, words)
+        && are_once(form.options, words)
+        && are_counts_once(form.counts, words)
+}
+
+/// Whether a word is an option of this role that names this file.
+fn is_option_for(role: Role, name: &str, word: &str) -> bool
+    ensures { result ≡ is_option_for_of role name.now word.now }
+{
+    option_name(role, word) == Some(name)
+}
+
+/// Whether an option of one of these roles names this file.
+pub(crate) fn option_names(roles: &[Role], name: &str, word: &str) -> bool
+    ensures { result ≡ option_names_of roles.now name.now word.now }
+{
+    roles.iter().any(|role| is_option_for(*role, name, word))
+}
+
+/// The place of a role among others.
+pub(crate) fn place_among(role: Role, roles: &[Role]) -> Option<usize>
+    ensures { result ≡ position (is_role role) roles.now }
+{
+    roles.iter().position(|other| role.is(*other))
+}
+
+/// Whether a role is among others.
+pub(crate) fn is_among(role: Role, roles: &[Role]) -> bool
+    ensures { result ≡ list_any (is_role role) roles.now }
+{
+    roles.iter().any(|other| role.is(*other))
+}
+
+/// The place of a number among others.
+pub(crate) fn lead_among(lead: Lead, leads: &[Lead]) -> Option<usize>
+    ensures { result ≡ position (is_lead lead) leads.now }
+{
+    leads.iter().position(|other| lead.is(*other))
+}
+
+/// The word at a place, if there is one.
+pub(crate) fn word_at(words: &[String], place: usize) -> Option<&str>
+    ensures { option_map (λ word. word.now) result ≡ slice_get (map string_bytes words.now) place }
+{
+    words.get(place).map(|word| word.as_str())
+}
+
+/// The first word that sets this number.
+fn first_count(count: Count, words: &[String]) -> Option<&str>
+    ensures { option_map (λ word. word.now) result ≡ find (is_count_of count) (map string_bytes words.now) }
+{
+    words
+        .iter()
+        .map(|word| word.as_str())
+        .find(|word| is_count(count, word))
+}
+
+/// The number that the first such word sets.
+pub(crate) fn count_set(count: Count, words: &[String]) -> Option<u32>
+    ensures value { result ≡ option_and_then (count_value_of count) (find (is_count_of count) (map string_bytes words.now)) }
+    ensures within { IfSome result (λ n. (1 ≤ n) × (n ≤ count_most_of count)) }
+{
+    let word = first_count(count, words)?;
+    count_value(count, word)
+}
+
+/// The first option of this role.
+pub(crate) fn first_option(role: Role, words: &[String]) -> Option<&str>
+    ensures { option_map (λ word. word.now) result ≡ find (is_option_of role) (map string_bytes words.now) }
+{
+    words
+        .iter()
+        .map(|word| word.as_str())
+        .find(|word| is_option(role, word))
+}

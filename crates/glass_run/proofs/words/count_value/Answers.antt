@@ -1,5 +1,0 @@
-use Rattle.glass_run.proofs.Counts.{sets_none}
-use Rattle.glass_run.proofs.words.count_value.Goals as goal
-
-pub returns-in-None-clause-value : goal.returns-in-None-clause-value
-returns-in-None-clause-value c = sets_none c.args.count _ c.args.word.now c.count_front.ensures c.in-None.ensures.cases
