@@ -83,13 +83,22 @@ pub struct Heading {
     pub wrong: bool,
 }
 
-/// A run of `glass`, and what is to come of it.
+/// The program that a case runs.
+#[derive(Clone, Copy, Debug)]
+pub enum Program {
+    Glass,
+    /// The one that draws.
+    Picture,
+}
+
+/// A run of a program, and what is to come of it.
 #[derive(Drop)]
 pub struct Case {
     pub name: String,
     /// The line of the book at which the case begins, counted from 1.
     pub line: u64,
     pub heading: Heading,
+    pub program: Program,
     /// The words of the command line.
     pub words: Vec<String>,
     /// The files before the run; where the case follows another one, those that are put over the files that are there.
@@ -115,6 +124,7 @@ impl Case {
             name,
             line,
             heading,
+            program: Program::Glass,
             words: Vec::new(alloc),
             files: Vec::new(alloc),
             failing_calls: Vec::new(alloc),

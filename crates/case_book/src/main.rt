@@ -1,4 +1,4 @@
-//! Runs a book of cases, which comes on standard input, and prints those that do not go as the book says.
+//! Runs a book of cases of the two programs, which comes on standard input, and prints those that do not go as the book says.
 //!
 //! A case is a paragraph: a line `case` with its name, and then lines that begin with a word.
 //!
@@ -9,6 +9,7 @@
 //! | `wrong NAME` | a case begins whose expectation is wrong on purpose: it is as it should be where the run differs from it |
 //! | `then-wrong NAME` | a case begins that is both: its run is on the files that were left, and must differ |
 //! | `words WORD WORD ..` | the words of the command line, one space between two; without this line there are none |
+//! | `picture WORD WORD ..` | the same, of the second program, which draws |
 //! | `file NAME` | a file before the run, with the text below; in a case that follows another one it is put over what was left |
 //! | `fails files N N ..` | the calls of the files that fail; fetches and stores are counted together, from 0 |
 //! | `fails sink N N ..` | the writes that fail, counted from 0 |

@@ -1,6 +1,6 @@
 //! Reading a book.
 
-use crate::book::{Case, Heading, NamedText, Text};
+use crate::book::{Case, Heading, NamedText, Program, Text};
 use crate::escapes::{put_line, word_of};
 use glass_run::Status;
 use std::alloc::{AllocError, AllocFailed, Global};
@@ -222,6 +222,10 @@ fn take_fails(alloc: Global, case: &mut Case, rest: &str) -> Result<(), Fault> {
 fn take_keyword(alloc: Global, case: &mut Case, keyword: &str, rest: &str) -> Result<Place, Fault> {
     match keyword {
         "words" => case.words = words_of(alloc, rest)?,
+        "picture" => {
+            case.program = Program::Picture;
+            case.words = words_of(alloc, rest)?;
+        }
         "fails" => take_fails(alloc, case, rest)?,
         "status" => case.statuses = statuses_of(alloc, rest)?,
         "printed" if rest.is_empty() => return Ok(Place::Printed),

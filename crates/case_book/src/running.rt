@@ -1,11 +1,11 @@
-//! Runs of `glass` over files and a sink in memory, and in what they differ from their cases.
+//! Runs of the programs over files and a sink in memory, and in what they differ from their cases.
 
-use crate::book::{Case, NamedText};
+use crate::book::{Case, NamedText, Program};
 use crate::comparing::{Mismatch, mismatch_of};
 use crate::expanding::{bytes_of, told_of};
 use glass_base::Run;
 use glass_io::{MemFiles, MemSink};
-use glass_run::{OpenGate, Status, glass};
+use glass_run::{OpenGate, Status, glass, glass_picture};
 use std::alloc::{AllocError, Global};
 use std::collections::BTreeMap;
 use std::mem;
@@ -280,7 +280,10 @@ fn end_of<R: Threads + Wait + Sync>(
     let mut files = given_files(alloc, case, files)?;
     let mut sink = sink_before(alloc, case)?;
     let words = case.words.as_slice();
-    let status = glass(rt, alloc, words, &mut files, &mut sink, &OpenGate);
+    let status = match case.program {
+        Program::Glass => glass(rt, alloc, words, &mut files, &mut sink, &OpenGate),
+        Program::Picture => glass_picture(rt, alloc, words, &mut files, &mut sink),
+    };
     Ok(End {
         status,
         files,
