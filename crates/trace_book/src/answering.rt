@@ -1,11 +1,15 @@
 //! What is found where a case is run.
 
+ghost use Rattle.cut_model.specs.Fits.{Fits};
+ghost use Rattle.cut_model.specs.Tree.{tree};
+
 use crate::book::{Case, Draw, Subject};
 use crate::boxes::tell_box;
 use crate::steps::tell_steps;
 use crate::telling::tell_trace;
 use anyhow::ensure;
 use batch_csv::read_batch;
+use cut_model::Plan;
 use defect_map::DefectMap;
 use first_plan::first_plan;
 use glass_base::Instance;
@@ -39,6 +43,20 @@ fn instance_of(alloc: Global, case: &Case) -> anyhow::Result<Instance> {
     Ok(Instance::on_plates(alloc, params, items, defects, widths)?)
 }
 
+/// Adds what is found of the trace of a plan.
+fn tell_plan_trace(
+    alloc: Global,
+    found: &mut String,
+    instance: &Instance,
+    plan: &Plan,
+) -> anyhow::Result<()>
+    requires { Fits (tree plan.now) }
+{
+    let trace = trace_of(alloc, instance, plan)?;
+    tell_steps(found, trace.steps.as_slice())?;
+    tell_trace(alloc, found, instance, &trace)
+}
+
 /// Adds what is found of the plan that a case gives, and of its trace.
 fn tell_plan(
     alloc: Global,
@@ -48,9 +66,7 @@ fn tell_plan(
 ) -> anyhow::Result<()> {
     let plan = read_plan(alloc, instance, text)?;
     writeln!(found, "lost {}", loss(instance, &plan))?;
-    let trace = trace_of(alloc, instance, &plan)?;
-    tell_steps(found, trace.steps.as_slice())?;
-    tell_trace(alloc, found, instance, &trace)
+    tell_plan_trace(alloc, found, instance, &plan)
 }
 
 /// Adds the draft.
@@ -77,16 +93,21 @@ fn tell_first(alloc: Global, found: &mut String, instance: &Instance) -> anyhow:
     }
 }
 
+/// Adds what is found of a case.
+fn tell(alloc: Global, found: &mut String, instance: &Instance, case: &Case) -> anyhow::Result<()> {
+    match case.subject {
+        Subject::Trace => tell_trace(alloc, found, instance, &case.trace),
+        Subject::Plan => tell_plan(alloc, found, instance, case.plan.as_bytes()),
+        Subject::Draft => tell_draft(alloc, found, instance),
+        Subject::FirstPlan => tell_first(alloc, found, instance),
+        Subject::Box => tell_box(alloc, found, instance, case.halves.as_slice()),
+    }
+}
+
 /// All that is found of a case, in the book's words.
 pub fn answer(alloc: Global, case: &Case) -> anyhow::Result<String> {
     let instance = instance_of(alloc, case)?;
     let mut found = String::new(alloc);
-    match case.subject {
-        Subject::Trace => tell_trace(alloc, &mut found, &instance, &case.trace)?,
-        Subject::Plan => tell_plan(alloc, &mut found, &instance, case.plan.as_bytes())?,
-        Subject::Draft => tell_draft(alloc, &mut found, &instance)?,
-        Subject::FirstPlan => tell_first(alloc, &mut found, &instance)?,
-        Subject::Box => tell_box(alloc, &mut found, &instance, case.halves.as_slice())?,
-    }
+    tell(alloc, &mut found, &instance, case)?;
     Ok(found)
 }

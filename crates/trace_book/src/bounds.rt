@@ -1,7 +1,7 @@
 //! What is found of a box by its least values.
 
 ghost use Rattle.std.specs.Prelude.{◌≡◌, IfOk, IsTrue, length as length_of_list};
-ghost use Rattle.box_bound.specs.Leastings.{IsFor};
+ghost use Rattle.box_bound.specs.Leastings.{IsFor, IsOf};
 ghost use Rattle.plan_box.specs.Decisions.{all_decided};
 ghost use Rattle.plan_box.specs.Frames.{frame_of};
 
@@ -79,7 +79,30 @@ fn blank(alloc: Global, instance: &Instance) -> Result<Trace, Memory>
     Ok(Trace { steps })
 }
 
-/// Adds the trace at the least values of a box whose steps are all decided, and whether it meets the rules.
+/// Whether a box has another trace at its least values, or another answer, where it is asked without leasts.
+fn is_probed_otherwise(
+    alloc: Global,
+    instance: &Instance,
+    map: &DefectMap,
+    bx: &PlanBox,
+    steps: &[Step],
+    meets: bool,
+) -> Result<bool, Memory>
+    requires map { map.now ≡ instance.now.defects }
+    requires instance { bx.now.frame ≡ frame_of instance.now }
+    requires whole { IsTrue (all_decided bx.now.ranges) }
+{
+    let mut other = blank(alloc, instance)?;
+    Ok(probe(instance, map, bx, &mut other) != meets || other.steps.as_slice() != steps)
+}
+
+/// Adds the trace at the least values of a box, and whether it meets the rules.
+fn tell_probed(found: &mut String, steps: &[Step], meets: bool) -> Result<(), AllocError> {
+    tell_steps(found, steps)?;
+    writeln!(found, "probe {meets}")
+}
+
+/// Adds what the probe of a box gives whose steps are all decided.
 fn tell_probe(
     alloc: Global,
     found: &mut String,
@@ -94,18 +117,68 @@ fn tell_probe(
     requires whole { IsTrue (all_decided bx.now.ranges) }
 {
     let mut trace = blank(alloc, instance)?;
-    let mut other = blank(alloc, instance)?;
     let meets = probe_at(instance, map, leasts, bx, &mut trace);
-    tell_steps(found, trace.steps.as_slice())?;
-    writeln!(found, "probe {meets}")?;
-    let same = probe(instance, map, bx, &mut other) == meets;
-    if !same || other.steps.as_slice() != trace.steps.as_slice() {
+    let steps = trace.steps.as_slice();
+    tell_probed(found, steps, meets)?;
+    if is_probed_otherwise(alloc, instance, map, bx, steps, meets)? {
         writeln!(found, "another probe without leasts")?;
     }
     Ok(())
 }
 
-/// Adds what is found of a box by its least values. They are filled for it, for the whole box, and for it again.
+/// The least values of a box. They are filled for it, for the whole box, and for it again, and told each time.
+fn leasts_of(
+    alloc: Global,
+    found: &mut String,
+    instance: &Instance,
+    bx: &PlanBox,
+) -> anyhow::Result<Leasts>
+    requires { bx.now.frame ≡ frame_of instance.now }
+    ensures { IfOk result (λ leasts. IsFor instance.now bx.now leasts) }
+{
+    let mut leasts = Leasts::new(alloc, instance)?;
+    leasts.fill(instance, bx);
+    tell_leasts(found, "least", &leasts)?;
+    fill_anew(alloc, instance, &mut leasts)?;
+    leasts.fill(instance, bx);
+    tell_leasts(found, "again", &leasts)?;
+    Ok(leasts)
+}
+
+/// Fills least values for the whole box.
+fn fill_anew(alloc: Global, instance: &Instance, leasts: &mut Leasts) -> Result<(), Memory>
+    requires { IsOf instance.now leasts.old }
+    ensures { IfOk result (λ _. IsOf instance.now leasts.new) }
+{
+    let root = PlanBox::root(alloc, instance, 0)?;
+    leasts.fill(instance, &root);
+    Ok(())
+}
+
+/// Adds what is found of a box by its least values, with which they are filled.
+fn tell_filled(
+    alloc: Global,
+    found: &mut String,
+    instance: &Instance,
+    map: &DefectMap,
+    leasts: &Leasts,
+    bx: &PlanBox,
+) -> anyhow::Result<()>
+    requires map { map.now ≡ instance.now.defects }
+    requires instance { bx.now.frame ≡ frame_of instance.now }
+    requires leasts { IsFor instance.now bx.now leasts.now }
+{
+    tell_bounds(found, instance, map, leasts, bx)?;
+    if bx.is_decided() {
+        tell_probe(alloc, found, instance, map, leasts, bx)?;
+    }
+    if choose(bx).is_none() != bx.is_point() {
+        writeln!(found, "another choice")?;
+    }
+    Ok(())
+}
+
+/// Adds what is found of a box by its least values.
 pub fn tell_found(
     alloc: Global,
     found: &mut String,
@@ -115,19 +188,6 @@ pub fn tell_found(
     requires instance { bx.now.frame ≡ frame_of instance.now }
 {
     let map = DefectMap::new(alloc, instance)?;
-    let root = PlanBox::root(alloc, instance, 0)?;
-    let mut leasts = Leasts::new(alloc, instance)?;
-    leasts.fill(instance, bx);
-    tell_leasts(found, "least", &leasts)?;
-    leasts.fill(instance, &root);
-    leasts.fill(instance, bx);
-    tell_leasts(found, "again", &leasts)?;
-    tell_bounds(found, instance, &map, &leasts, bx)?;
-    if bx.is_decided() {
-        tell_probe(alloc, found, instance, &map, &leasts, bx)?;
-    }
-    if choose(bx).is_none() != bx.is_point() {
-        writeln!(found, "another choice")?;
-    }
-    Ok(())
+    let leasts = leasts_of(alloc, found, instance, bx)?;
+    tell_filled(alloc, found, instance, &map, &leasts, bx)
 }

@@ -89,6 +89,23 @@ fn tell_free(found: &mut String, bx: &PlanBox, step: u32) -> Result<(), AllocErr
     Ok(())
 }
 
+/// Adds the identity of a box, how many of its steps are decided, its ranges and what is free.
+fn tell_frame(found: &mut String, bx: &PlanBox) -> Result<(), AllocError> {
+    let items = bx.frame().items;
+    writeln!(found, "box {}", bx.id())?;
+    writeln!(found, "decided {}", bx.decided())?;
+    for step in 0..items {
+        tell_ranges(found, bx, step)?;
+    }
+    for step in 0..items {
+        tell_free(found, bx, step)?;
+    }
+    if bx.is_point() {
+        writeln!(found, "point")?;
+    }
+    Ok(())
+}
+
 /// Adds what is found of the box that is left when these halves are taken.
 pub fn tell_box(
     alloc: Global,
@@ -97,17 +114,6 @@ pub fn tell_box(
     halves: &[Half],
 ) -> anyhow::Result<()> {
     let bx = box_of(alloc, instance, halves)?;
-    let items = bx.frame().items;
-    writeln!(found, "box {}", bx.id())?;
-    writeln!(found, "decided {}", bx.decided())?;
-    for step in 0..items {
-        tell_ranges(found, &bx, step)?;
-    }
-    for step in 0..items {
-        tell_free(found, &bx, step)?;
-    }
-    if bx.is_point() {
-        writeln!(found, "point")?;
-    }
+    tell_frame(found, &bx)?;
     tell_found(alloc, found, instance, &bx)
 }

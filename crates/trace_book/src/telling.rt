@@ -64,6 +64,19 @@ fn tell_other(
     Ok(())
 }
 
+/// Adds the text of a plan.
+fn tell_text(
+    alloc: Global,
+    found: &mut String,
+    instance: &Instance,
+    plan: &Plan,
+) -> anyhow::Result<()>
+    requires { Fits (tree plan.now) }
+{
+    let text = write_plan(alloc, instance, plan)?;
+    tell_rows(found, str::from_utf8(text.as_slice())?)
+}
+
 /// Adds what is found of a trace that has a step for each item and meets the rules.
 fn tell_complete(
     alloc: Global,
@@ -78,8 +91,7 @@ fn tell_complete(
     writeln!(found, "loss {wasted}")?;
     let plan = plan_of(alloc, instance, trace)?;
     tell_other(alloc, found, instance, trace, wasted, &plan)?;
-    let text = write_plan(alloc, instance, &plan)?;
-    tell_rows(found, str::from_utf8(text.as_slice())?)
+    tell_text(alloc, found, instance, &plan)
 }
 
 /// Adds what is found of a trace that meets the rules.
