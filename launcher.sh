@@ -259,6 +259,7 @@ fail() {
     wait "${process[$name]}" 2> /dev/null || true
     leave_place "$name"
   done
+  rm -rf "$room"/copy* # (beside them rt ci would not run)
   say "$1"
   exit 70
 }
