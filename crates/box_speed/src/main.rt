@@ -2,19 +2,27 @@
 //! were handled, how many were left open, and the least loss in mm². A line is
 //!
 //!     WORD START ITEMS DEFECTS BUDGET
+//!     search START ITEMS DEFECTS BUDGET WORKERS
 //!
 //! The instance is drawn from the start, with so many items and defects, and at most BUDGET boxes are handled. The word `speed` asks for a search
-//! that probes nothing; `first` and `broken` for one from the first plan on, which splits boxes by `choose` and by `choose_at`.
+//! that probes nothing; `first` and `broken` for one from the first plan on, which splits boxes by `choose` and by `choose_at`; and `search` for
+//! that of the product, by one to eight workers.
 #![tactic(auto)]
 
+mod count;
+mod product;
 mod searching;
 
-use crate::searching::{Choice, Count, search};
+use crate::count::Count;
+use crate::product::search_by;
+use crate::searching::{Choice, search};
 use anyhow::{bail, ensure};
 use defect_map::DefectMap;
 use glass_base::Instance;
 use glass_gen::generate;
 use std::alloc::Global;
+use std::sync::Wait;
+use std::thread::Threads;
 
 /// The choice with this word.
 fn choice_of(word: &str) -> anyhow::Result<Choice> {
@@ -35,15 +43,6 @@ fn numbers_of(alloc: Global, written: &str) -> anyhow::Result<Vec<u32>> {
     Ok(numbers)
 }
 
-/// The start, the numbers of items and of defects, and the budget that are written so.
-fn asked_by(alloc: Global, written: &str) -> anyhow::Result<(u32, u32, u32, u32)> {
-    let numbers = numbers_of(alloc, written)?;
-    match numbers.as_slice() {
-        [start, items, defects, budget] => Ok((*start, *items, *defects, *budget)),
-        _ => bail!("a search has four numbers"),
-    }
-}
-
 /// The instance that is drawn.
 fn drawn(alloc: Global, start: u32, items: u32, defects: u32) -> anyhow::Result<Instance> {
     ensure!(1 <= items && items <= 800, "1 to 800 items are drawn");
@@ -51,20 +50,49 @@ fn drawn(alloc: Global, start: u32, items: u32, defects: u32) -> anyhow::Result<
     Ok(generate(alloc, start, items, defects)?)
 }
 
-/// How the search goes that a line asks for.
-fn count_of(alloc: Global, line: &str) -> anyhow::Result<Count> {
-    let (word, written) = line.split_once(' ').unwrap_or((line, ""));
-    let choice = choice_of(word)?;
-    let (start, items, defects, budget) = asked_by(alloc, written)?;
-    let instance = drawn(alloc, start, items, defects)?;
+/// How a search by one worker goes, with this choice, from the start, the numbers of items and of defects, and the budget on.
+fn count_by_choice(alloc: Global, choice: Choice, numbers: &[u32]) -> anyhow::Result<Count> {
+    let [start, items, defects, budget] = numbers else {
+        bail!("a search has four numbers");
+    };
+    let instance = drawn(alloc, *start, *items, *defects)?;
     let map = DefectMap::new(alloc, &instance)?;
-    search(alloc, &instance, &map, choice, budget)
+    search(alloc, &instance, &map, choice, *budget)
+}
+
+/// How the search of the product goes, from these and the number of workers on.
+fn count_by_workers<R: Threads + Wait + Sync>(
+    rt: &R,
+    alloc: Global,
+    numbers: &[u32],
+) -> anyhow::Result<Count> {
+    let [start, items, defects, budget, workers] = numbers else {
+        bail!("a search by workers has five numbers");
+    };
+    ensure!(1 <= *workers && *workers <= 8, "1 to 8 workers search");
+    ensure!(
+        1 <= *budget && *budget <= 10_000_000,
+        "1 to 10,000,000 boxes are handled"
+    );
+    let instance = drawn(alloc, *start, *items, *defects)?;
+    let map = DefectMap::new(alloc, &instance)?;
+    search_by(rt, alloc, &instance, &map, *workers, *budget)
+}
+
+/// How the search goes that a line asks for.
+fn count_of<R: Threads + Wait + Sync>(rt: &R, alloc: Global, line: &str) -> anyhow::Result<Count> {
+    let (word, written) = line.split_once(' ').unwrap_or((line, ""));
+    let numbers = numbers_of(alloc, written)?;
+    if word == "search" {
+        return count_by_workers(rt, alloc, numbers.as_slice());
+    }
+    count_by_choice(alloc, choice_of(word)?, numbers.as_slice())
 }
 
 fn main(rt: HostRuntime) -> anyhow::Result<()> {
     for line in rt.lines(rt.alloc()) {
         let line = line?;
-        let Count { boxes, open, loss } = count_of(rt.alloc(), line.as_str())?;
+        let Count { boxes, open, loss } = count_of(&rt, rt.alloc(), line.as_str())?;
         match loss {
             Some(loss) => println!(rt; "{line}: {boxes} boxes, {open} open, loss {loss}")?,
             None => println!(rt; "{line}: {boxes} boxes, {open} open")?,

@@ -6,6 +6,7 @@ ghost use Rattle.plan_box.specs.Decisions.{is_free};
 ghost use Rattle.plan_box.specs.Frames.{frame_of};
 ghost use Rattle.plan_trace.specs.TraceRules.{Meets};
 
+use crate::count::Count;
 use anyhow::Context;
 use box_bound::{Leasts, bound_at, choose, choose_at, probe_at, refuted_at};
 use cut_model::Trace;
@@ -27,16 +28,6 @@ pub enum Choice {
     First,
     /// By `choose_at`.
     Broken,
-}
-
-/// How a search went.
-pub struct Count {
-    /// How many boxes were handled.
-    pub boxes: u32,
-    /// How many were left.
-    pub open: usize,
-    /// The least loss of the first plan and of those that were found, in mm², where boxes were probed.
-    pub loss: Option<u64>,
 }
 
 /// What a search knows of plans: the least loss, and a trace to be filled by probes.
@@ -133,8 +124,10 @@ fn split(
     let Some((step, var)) = chosen else {
         return Ok(());
     };
-    let room = bx.room(alloc)?;
-    let (lower, upper) = bx.split_in(instance, step, var, (0, 0), room);
+    let (lower, upper) = match bx.split(alloc, instance, step, var, (0, 0)) {
+        Ok(halves) => halves,
+        Err((_, memory)) => return Err(memory),
+    };
     append(waiting, upper)?;
     append(waiting, lower)
 }
@@ -212,7 +205,7 @@ pub fn search(
     let mut hand = first_hand(alloc, instance, map, choice)?;
     let (boxes, open) = boxes_from(alloc, instance, map, &mut hand, choice, budget)?;
     Ok(Count {
-        boxes,
+        boxes: boxes as usize,
         open,
         loss: (choice != Choice::NoProbe).then_some(hand.best),
     })

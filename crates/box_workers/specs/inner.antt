@@ -1,4 +1,5 @@
 pub mod Hands
+pub mod Spares
 pub mod Deciding
 pub mod Rounds
 pub mod Members

@@ -11,7 +11,7 @@ ghost use Rattle.box_workers.specs.inner.Teamwork.{IsTeamwork, Joins, Collects};
 use crate::hand::Hand;
 use crate::member::Member;
 use box_ring::Arm;
-use cert_log::Left;
+use cert_log::{Left, Note};
 use glass_base::{Memory, Run, append};
 use shared_best::{Seat, SharedBest};
 use std::alloc::Global;
@@ -24,6 +24,18 @@ fn move_left(from: Run<Left>, to: &mut Run<Left>) -> Result<(), Memory>
     while let Some(left) = from.pop() {
         append(to, left)?;
     }
+    Ok(())
+}
+
+/// Puts notes behind others. Where there are no others, they stay in their memory.
+fn join_log(from: Run<Note>, to: &mut Run<Note>) -> Result<(), Memory>
+    ensures { OnOk result (to.new.items ≡ to.old.items ++ from.items) }
+{
+    if to.is_empty() {
+        *to = from;
+        return Ok(());
+    }
+    to.extend_from_slice(from.as_slice())?;
     Ok(())
 }
 
@@ -40,8 +52,9 @@ fn join_hand(other: Hand, hand: &mut Hand) -> Result<(), Memory>
         scratch: _,
         spare: _,
         leasts: _,
+        spares: _,
     } = other;
-    hand.log.extend_from_slice(log.as_slice())?;
+    join_log(log, &mut hand.log)?;
     move_left(left, &mut hand.left)?;
     if loss < hand.loss {
         hand.plan = plan;
@@ -69,6 +82,7 @@ fn join_member(
         hand: other,
         arm,
         rest,
+        apart: _,
     } = member;
     if rest.is_none() {
         return Err(Memory);

@@ -10,6 +10,7 @@ ghost use Rattle.box_workers.specs.inner.Members.{IsNew, IsReady, IsUnused, arms
 use crate::hand::Hand;
 use crate::member::Member;
 use box_ring::Arm;
+use crossbeam_utils::CachePadded;
 use glass_base::{Instance, Memory, Run};
 use shared_best::{Seat, SharedBest};
 use std::alloc::Global;
@@ -47,6 +48,7 @@ pub(crate) fn enlist(
             hand,
             arm,
             rest: None,
+            apart: CachePadded::new(()),
         })?;
     }
     Ok(members)

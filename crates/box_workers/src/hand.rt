@@ -4,12 +4,14 @@ ghost use Rattle.box_bound.specs.Leastings.{IsOf};
 ghost use Rattle.cert_log.specs.Lawful.{no_loss};
 ghost use Rattle.box_workers.specs.Handling.{IsIdle};
 ghost use Rattle.box_workers.specs.inner.Hands.{Serves, CanKeep, IsKept};
+ghost use Rattle.box_workers.specs.inner.Spares.{HasRoomFor};
 
+use crate::spares::Spares;
 use box_bound::Leasts;
 use cert_log::{Left, Note};
 use cut_model::{Step, Trace};
 use glass_base::{Instance, Memory, Run};
-use plan_box::{PlanBox, Room};
+use plan_box::PlanBox;
 use shared_best::NONE;
 use std::alloc::Global;
 use std::mem;
@@ -46,6 +48,8 @@ pub struct Hand {
     pub spare: Option<Trace>,
     /// The least values of the box that it handled last.
     pub leasts: Leasts,
+    /// Memory for the halves of boxes.
+    pub(crate) spares: Spares,
 }
 
 /// A trace with a step for each item.
@@ -77,6 +81,7 @@ impl Hand {
             scratch: blank_trace(alloc, instance)?,
             spare: None,
             leasts: Leasts::new(alloc, instance)?,
+            spares: Spares::new(alloc),
         })
     }
 }
@@ -98,20 +103,20 @@ pub(crate) fn prepare(
     instance: &Instance,
     hand: &mut Hand,
     bx: &PlanBox,
-) -> Result<Room, Memory>
+) -> Result<(), Memory>
     ensures idle { IsIdle hand.old hand.new }
     ensures leasts { hand.new.leasts ≡ hand.old.leasts }
     ensures log { OnOk result (1 ≤ hand.new.log.spare) }
-    ensures room { IfOk result (λ room. room ≡ bx.now.frame) }
+    ensures room { OnOk result (HasRoomFor bx.now hand.new.spares) }
     ensures trace { OnOk result (CanKeep instance.now hand.new.plan hand.new.spare) }
 {
     hand.log.reserve(1)?;
-    let room = bx.room(alloc)?;
+    hand.spares.prepare(bx)?;
     let items = instance.items().len();
     if !can_serve(&hand.plan, items) && !can_serve(&hand.spare, items) {
         hand.spare = Some(blank_trace(alloc, instance)?);
     }
-    Ok(room)
+    Ok(())
 }
 
 /// The scratch becomes the plan, which has this loss. The trace of the plan before, or the spare one, becomes the scratch.

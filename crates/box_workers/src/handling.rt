@@ -9,6 +9,7 @@ ghost use Rattle.shared_best.specs.Seats.{IsSeatOf};
 ghost use Rattle.shared_best.specs.Words.{share};
 ghost use Rattle.box_workers.specs.Handling.{IsIdle, Gives, Answers};
 ghost use Rattle.box_workers.specs.inner.Hands.{CanKeep, IsNoted};
+ghost use Rattle.box_workers.specs.inner.Spares.{HasRoomFor};
 ghost use Rattle.box_workers.specs.inner.Deciding.{Improves, Decides};
 
 use crate::hand::{Hand, keep, prepare};
@@ -17,7 +18,7 @@ use cert_log::{Act, Cause, Note, trace_loss};
 use cut_model::Trace;
 use defect_map::DefectMap;
 use glass_base::{Instance, Memory};
-use plan_box::{PlanBox, Room, Var};
+use plan_box::{PlanBox, Var};
 use plan_trace::TraceBroken;
 use shared_best::{Seat, SharedBest};
 use std::alloc::Global;
@@ -65,7 +66,7 @@ fn improve(
     requires share { 0 < share seat.old.view }
     ensures seat { IsSeatOf shared.now seat.new }
     ensures scratch { length hand.new.scratch.steps.items ≡ length instance.now.items }
-    ensures same { (hand.new.leasts ≡ hand.old.leasts) × (hand.new.worker ≡ hand.old.worker) × (hand.new.log ≡ hand.old.log) × (hand.new.left ≡ hand.old.left) }
+    ensures same { (hand.new.leasts ≡ hand.old.leasts) × (hand.new.worker ≡ hand.old.worker) × (hand.new.log ≡ hand.old.log) × (hand.new.left ≡ hand.old.left) × (hand.new.spares ≡ hand.old.spares) }
     ensures improves { (probed : ℕ) × Improves instance.now bx.now.ranges probed seat.old.view seat.new.view hand.old hand.new }
 {
     // Read for its rules.
@@ -134,18 +135,18 @@ fn decide(
 
 /// Notes what is done with a box, and does it.
 fn carry_out(
+    alloc: Global,
     instance: &Instance,
     hand: &mut Hand,
     starts: u64,
     ticket: u64,
     bx: PlanBox,
-    room: Room,
     act: Act,
 ) -> Done
     requires frame { bx.frame ≡ frame_of instance.now }
     requires free { SplitsFree bx.ranges act }
     requires log { 1 ≤ hand.old.log.spare }
-    requires room { room ≡ bx.frame }
+    requires room { HasRoomFor bx hand.old.spares }
     requires limits { (starts ≤ 160000000) × (ticket < 10000000) }
     ensures noted { IsNoted record { id = bx.id; ticket = ticket; act = act } hand.old hand.new }
     ensures gives { (seen : ℕ) → (probed : ℕ) → Gives starts record { box = bx; ticket = ticket; seen = seen; probed = probed; act = act } result }
@@ -153,10 +154,13 @@ fn carry_out(
     let id = bx.id();
     hand.log.put(Note { id, ticket, act });
     match act {
-        Act::Closed { .. } => Done::Closed,
+        Act::Closed { .. } => {
+            hand.spares.keep(bx);
+            Done::Closed
+        }
         Act::Split { step, var } => {
             let ids = (starts + 2 * ticket, starts + 2 * ticket + 1);
-            let (lower, upper) = bx.split_in(instance, step, var, ids, room);
+            let (lower, upper) = hand.spares.split(alloc, instance, bx, step, var, ids);
             Done::Split(lower, upper)
         }
     }
@@ -192,14 +196,13 @@ pub fn handle(
     ensures done { IfOk result (λ d. Answers instance.now shared.now starts bx seat.old seat.new hand.old hand.new d) }
     ensures refused { IfErr result (λ e. (e.0 ≡ bx) × (seat.new ≡ seat.old) × IsIdle hand.old hand.new) }
 {
-    let room = match prepare(alloc, instance, hand, &bx) {
-        Ok(room) => room,
-        Err(refused) => return Err((bx, refused)),
-    };
+    if let Err(refused) = prepare(alloc, instance, hand, &bx) {
+        return Err((bx, refused));
+    }
     let ticket = shared.draw(seat);
     if ticket >= shared.budget() {
         return Ok(Done::Spent(bx));
     }
     let act = decide(instance, map, shared, seat, hand, &bx);
-    Ok(carry_out(instance, hand, starts, ticket, bx, room, act))
+    Ok(carry_out(alloc, instance, hand, starts, ticket, bx, act))
 }

@@ -14,6 +14,7 @@ mod member;
 pub mod patient_gate;
 mod running;
 pub mod searching;
+mod spares;
 mod spreading;
 mod teaming;
 pub mod working;

@@ -149,6 +149,7 @@ pub fn search<R: Threads + Wait + Sync, G: Gate + Sync>(
         scratch: _,
         spare: _,
         leasts,
+        spares: _,
     } = hand;
     let left = leave(instance, leasts, left, waiting)?;
     let (plan, best) = better(instance, plan, loss, first);

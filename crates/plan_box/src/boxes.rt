@@ -4,10 +4,11 @@ ghost use Rattle.std.specs.Prelude.{◌≡◌, ◌==◌, cond, false, ◌<◌, �
 ghost use Rattle.plan_box.specs.Decisions.{decided as decided_of};
 ghost use Rattle.plan_box.specs.Halves.{half_at};
 ghost use Rattle.plan_box.specs.Packed.{unpacked};
-ghost use Rattle.plan_box.specs.inner.Stored.{AreStored, IsEmptyFor};
+ghost use Rattle.plan_box.specs.inner.Stored.{AreStored};
 ghost use Rattle.plan_box.specs.Packed.{all_ranges};
 ghost use Rattle.plan_box.specs.Ranges.{full_ranges, span_of};
 
+use crate::blank::Blank;
 use crate::frame::Frame;
 use crate::packed::Packed;
 use crate::room::Room;
@@ -61,16 +62,16 @@ fn is_wide(ends: (u32, u32), condition: bool) -> bool
 }
 
 /// These stored ranges in other memory, with the full ones of the next step where that one is not stored.
-fn copied(stored: &[Packed], frame: Frame, step: u32, memory: Run<Packed>) -> Run<Packed>
+fn copied(stored: &[Packed], frame: Frame, step: u32, memory: Blank) -> Run<Packed>
     requires stored { AreStored frame stored.now }
     requires reached { step ≤ length (decided_of (map unpacked stored.now)) }
     requires inside { step < frame.items }
-    requires room { IsEmptyFor frame memory }
+    requires room { length (decided_of (map unpacked stored.now)) < memory }
     ensures stored { AreStored frame result.items }
     ensures longer { step < length result.items }
     ensures ranges { all_ranges frame (map unpacked result.items) ≡ all_ranges frame (map unpacked stored.now) }
 {
-    let mut ranges = memory;
+    let mut ranges = memory.list();
     ranges.put_all(stored);
     if stored.len() == step as usize {
         ranges.put(Packed::full(frame));
@@ -79,36 +80,22 @@ fn copied(stored: &[Packed], frame: Frame, step: u32, memory: Run<Packed>) -> Ru
     ranges
 }
 
-/// The same, without the memory that is not needed: there was enough for all steps, and many boxes wait at a time.
-fn extended(stored: &[Packed], frame: Frame, step: u32, memory: Run<Packed>) -> Run<Packed>
-    requires stored { AreStored frame stored.now }
-    requires reached { step ≤ length (decided_of (map unpacked stored.now)) }
-    requires inside { step < frame.items }
-    requires room { IsEmptyFor frame memory }
-    ensures stored { AreStored frame result.items }
-    ensures longer { step < length result.items }
-    ensures ranges { all_ranges frame (map unpacked result.items) ≡ all_ranges frame (map unpacked stored.now) }
-{
-    let mut ranges = copied(stored, frame, step, memory);
-    ranges.shrink_to_fit();
-    ranges
-}
-
-/// Stored ranges which reach a step: these where they do, else in other memory with those of the step.
-fn reaching(stored: Run<Packed>, frame: Frame, step: u32, memory: Run<Packed>) -> Run<Packed>
+/// Stored ranges which reach a step, with the memory that is left: these ranges where they do, else those in the other memory, with the
+/// full ones of the step.
+fn reaching(stored: Run<Packed>, frame: Frame, step: u32, memory: Blank) -> (Run<Packed>, Blank)
     requires stored { AreStored frame stored.items }
     requires reached { step ≤ length (decided_of (map unpacked stored.items)) }
     requires inside { step < frame.items }
-    requires room { IsEmptyFor frame memory }
-    ensures stored { AreStored frame result.items }
-    ensures longer { step < length result.items }
-    ensures ranges { all_ranges frame (map unpacked result.items) ≡ all_ranges frame (map unpacked stored.items) }
+    requires room { length (decided_of (map unpacked stored.items)) < memory }
+    ensures stored { AreStored frame result.0.items }
+    ensures longer { step < length result.0.items }
+    ensures ranges { all_ranges frame (map unpacked result.0.items) ≡ all_ranges frame (map unpacked stored.items) }
 {
     if (step as usize) < stored.len() {
-        stored
-    } else {
-        extended(stored.as_slice(), frame, step, memory)
+        return (stored, memory);
     }
+    let longer = copied(stored.as_slice(), frame, step, memory);
+    (longer, Blank::of(stored))
 }
 
 /// Stored ranges with another range for a variable of a stored step, which lies in the old one.
@@ -134,11 +121,10 @@ fn narrowed(
 }
 
 impl PlanBox {
-    ghost use Rattle.std.specs.Prelude.{◌≡◌, ◌<◌, ◌≤◌, ◌↔◌, IfOk, IfErr, IsTrue, map, slice_index_or, length};
+    ghost use Rattle.std.specs.Prelude.{◌≡◌, ◌<◌, ◌≤◌, ◌↔◌, IfOk, IfErr, IsTrue, OnOk, map, slice_index_or, length};
     ghost use Rattle.plan_box.specs.Decisions.{all_decided, decided as decided_of, is_free, IsPoint};
     ghost use Rattle.plan_box.specs.inner.Openings.{is_open as is_open_of};
     ghost use Rattle.plan_box.specs.Halves.{lower_half, upper_half, child_of};
-    ghost use Rattle.plan_box.specs.inner.Stored.{IsEmptyFor};
     ghost use Rattle.plan_box.specs.Packed.{unpacked};
     ghost use Rattle.plan_box.specs.Ranges.{PlainBox, IsBox, full_ranges, root_of, span_of};
     ghost use Rattle.plan_box.specs.Packed.{all_ranges};
@@ -263,24 +249,49 @@ impl PlanBox {
         true
     }
 
-    /// Memory for the two halves of this box.
+    /// Memory for the two halves of this box, and for those of any other one of its frame.
     pub fn room(&self, alloc: Global) -> Result<Room, Memory>
         ensures { IfOk result (λ room. room ≡ self.now.frame) }
     {
         Room::new(alloc, self.frame)
     }
 
+    /// Takes memory for a half of this box, where this is not enough yet.
+    pub fn reserve_half(&self, memory: &mut Blank) -> Result<(), Memory>
+        ensures { OnOk result (length (decided_of self.now.ranges) < memory.new) }
+    {
+        memory.reserve(self.stored.len() + 1)?;
+        Ok(())
+    }
+
+    /// Memory for the two halves of this box.
+    fn memory(&self, alloc: Global) -> Result<(Blank, Blank), Memory>
+        ensures lower { IfOk result (λ memory. length (decided_of self.now.ranges) < memory.0) }
+        ensures upper { IfOk result (λ memory. length (decided_of self.now.ranges) < memory.1) }
+    {
+        let mut lower = Blank::new(alloc);
+        let mut upper = Blank::new(alloc);
+        self.reserve_half(&mut lower)?;
+        self.reserve_half(&mut upper)?;
+        Ok((lower, upper))
+    }
+
+    /// The memory of this box, which is no longer wanted.
+    pub fn into_blank(self) -> Blank {
+        Blank::of(self.stored)
+    }
+
     /// A copy of this box with another range for a variable, which lies in the old one.
-    fn child(&self, step: u32, var: Var, id: u64, range: (u32, u32), memory: Run<Packed>) -> PlanBox
+    fn child(&self, step: u32, var: Var, id: u64, range: (u32, u32), memory: Blank) -> PlanBox
         requires reached { step ≤ length (decided_of self.now.ranges) }
         requires inside { step < self.now.frame.items }
         requires order { range.0 ≤ range.1 }
         requires from { (span_of var (slice_index_or self.now.ranges step (full_ranges self.now.frame))).low ≤ range.0 }
         requires within { range.1 ≤ (span_of var (slice_index_or self.now.ranges step (full_ranges self.now.frame))).high }
-        requires room { IsEmptyFor self.now.frame memory }
+        requires room { length (decided_of self.now.ranges) < memory }
         ensures { result ≡ child_of (λ _. record { low = range.0; high = range.1 }) self.now step var id }
     {
-        let reached = extended(self.stored.as_slice(), self.frame, step, memory);
+        let reached = copied(self.stored.as_slice(), self.frame, step, memory);
         PlanBox {
             id,
             frame: self.frame,
@@ -288,30 +299,32 @@ impl PlanBox {
         }
     }
 
-    /// This box with another range for a variable, which lies in the old one, in its own memory where the step is stored.
+    /// This box with another range for a variable, which lies in the old one, and the memory that is left: its own stays with it where the
+    /// step is stored.
     fn into_child(
         self,
         step: u32,
         var: Var,
         id: u64,
         range: (u32, u32),
-        memory: Run<Packed>,
-    ) -> PlanBox
+        memory: Blank,
+    ) -> (PlanBox, Blank)
         requires reached { step ≤ length (decided_of self.ranges) }
         requires inside { step < self.frame.items }
         requires order { range.0 ≤ range.1 }
         requires from { (span_of var (slice_index_or self.ranges step (full_ranges self.frame))).low ≤ range.0 }
         requires within { range.1 ≤ (span_of var (slice_index_or self.ranges step (full_ranges self.frame))).high }
-        requires room { IsEmptyFor self.frame memory }
-        ensures { result ≡ child_of (λ _. record { low = range.0; high = range.1 }) self step var id }
+        requires room { length (decided_of self.ranges) < memory }
+        ensures { result.0 ≡ child_of (λ _. record { low = range.0; high = range.1 }) self step var id }
     {
         let frame = self.frame;
-        let reached = reaching(self.stored, frame, step, memory);
-        PlanBox {
+        let (reached, left) = reaching(self.stored, frame, step, memory);
+        let child = PlanBox {
             id,
             frame,
             stored: narrowed(reached, frame, step, var, range),
-        }
+        };
+        (child, left)
     }
 
     /// The range of a free variable.
@@ -327,26 +340,46 @@ impl PlanBox {
         self.range(step, var)
     }
 
-    /// The halves of this box at a free variable, with these identities.
-    pub fn split_in(
+    /// The halves of this box at a free variable, with these identities, in the memory that `reserve_half` took, the lower and the upper half
+    /// in that order; and the memory that is left of it and of this box's own.
+    pub fn split_over(
         self,
         _instance: &Instance,
         step: u32,
         var: Var,
         ids: (u64, u64),
-        room: Room,
-    ) -> (PlanBox, PlanBox)
+        memory: (Blank, Blank),
+    ) -> (PlanBox, PlanBox, Blank)
         requires instance { self.frame ≡ frame_of _instance.now }
         requires free { IsTrue (is_free self.ranges step var) }
-        requires room { room ≡ self.frame }
+        requires room { (length (decided_of self.ranges) < memory.0) × (length (decided_of self.ranges) < memory.1) }
         ensures lower { result.0 ≡ child_of lower_half self step var ids.0 }
         ensures upper { result.1 ≡ child_of upper_half self step var ids.1 }
     {
         let (low, high) = self.open_range(step, var);
         let middle = low + (high - low) / 2;
-        let memory = room.lists();
         let upper = self.child(step, var, ids.1, (middle + 1, high), memory.1);
-        let lower = self.into_child(step, var, ids.0, (low, middle), memory.0);
+        let (lower, left) = self.into_child(step, var, ids.0, (low, middle), memory.0);
+        (lower, upper, left)
+    }
+
+    /// The halves of this box at a free variable, with these identities.
+    pub fn split_in(
+        self,
+        instance: &Instance,
+        step: u32,
+        var: Var,
+        ids: (u64, u64),
+        room: Room,
+    ) -> (PlanBox, PlanBox)
+        requires instance { self.frame ≡ frame_of instance.now }
+        requires free { IsTrue (is_free self.ranges step var) }
+        requires room { room ≡ self.frame }
+        ensures lower { result.0 ≡ child_of lower_half self step var ids.0 }
+        ensures upper { result.1 ≡ child_of upper_half self step var ids.1 }
+    {
+        let _ = &self.stored;
+        let (lower, upper, _) = self.split_over(instance, step, var, ids, room.blanks());
         (lower, upper)
     }
 
@@ -365,9 +398,12 @@ impl PlanBox {
         ensures upper { IfOk result (λ halves. halves.1 ≡ child_of upper_half self step var ids.1) }
         ensures unchanged { IfErr result (λ refused. refused.0 ≡ self) }
     {
-        match self.room(alloc) {
-            Ok(room) => Ok(self.split_in(instance, step, var, ids, room)),
-            Err(memory) => Err((self, memory)),
+        match self.memory(alloc) {
+            Ok(memory) => {
+                let (lower, upper, _) = self.split_over(instance, step, var, ids, memory);
+                Ok((lower, upper))
+            }
+            Err(refused) => Err((self, refused)),
         }
     }
 }

@@ -1,11 +1,9 @@
 //! Memory for the halves of a box.
+ghost use Rattle.std.specs.Prelude.{◌<◌, IfOk};
 
-ghost use Rattle.std.specs.Prelude.{IfOk};
-ghost use Rattle.plan_box.specs.inner.Stored.{IsEmptyFor};
-
+use crate::blank::Blank;
 use crate::frame::Frame;
-use crate::packed::Packed;
-use glass_base::{Memory, Run};
+use glass_base::Memory;
 use std::alloc::Global;
 use std::marker::Model;
 
@@ -13,40 +11,39 @@ use std::marker::Model;
 #[derive(Drop)]
 pub struct Room {
     frame: Frame,
-    lower: Run<Packed>,
-    upper: Run<Packed>,
+    lower: Blank,
+    upper: Blank,
 }
 
 impl Model for Room {
+    ghost use Rattle.std.specs.Prelude.{◌<◌};
     ghost use Rattle.plan_box.specs.declared.frame.Frame.{Frame};
-    ghost use Rattle.plan_box.specs.inner.Stored.{IsEmptyFor};
 
     ghost Value = { Frame };
 
     ghost view = { λ r. r.frame };
 
-    ghost invariant = { λ r. IsEmptyFor r.frame r.lower × IsEmptyFor r.frame r.upper };
+    ghost invariant = { λ r. (r.frame.items < r.lower) × (r.frame.items < r.upper) };
 }
 
-/// An empty list with room for the ranges of all steps of a frame.
-fn empty_for(alloc: Global, frame: Frame) -> Result<Run<Packed>, Memory>
-    ensures { IfOk result (λ run. IsEmptyFor frame run) }
+/// Memory for all steps of a frame, and for one more, as a half of any box of the frame can be sure to find enough.
+fn whole_of(alloc: Global, frame: Frame) -> Result<Blank, Memory>
+    ensures { IfOk result (λ blank. frame.items < blank) }
 {
-    let mut run = Run::new(alloc);
-    run.reserve(frame.items as usize)?;
-    Ok(run)
+    let mut blank = Blank::new(alloc);
+    blank.reserve(frame.items as usize + 1)?;
+    Ok(blank)
 }
 
 impl Room {
-    ghost use Rattle.std.specs.Prelude.{◌≡◌, IfOk};
-    ghost use Rattle.plan_box.specs.inner.Stored.{IsEmptyFor};
+    ghost use Rattle.std.specs.Prelude.{◌≡◌, ◌<◌, IfOk};
 
     /// Memory for two boxes of this frame.
     pub(crate) fn new(alloc: Global, frame: Frame) -> Result<Room, Memory>
         ensures { IfOk result (λ room. room ≡ frame) }
     {
-        let lower = empty_for(alloc, frame)?;
-        let upper = empty_for(alloc, frame)?;
+        let lower = whole_of(alloc, frame)?;
+        let upper = whole_of(alloc, frame)?;
         Ok(Room {
             frame,
             lower,
@@ -54,10 +51,10 @@ impl Room {
         })
     }
 
-    /// The two lists, each with room for all steps.
-    pub(crate) fn lists(self) -> (Run<Packed>, Run<Packed>)
-        ensures lower { IsEmptyFor self result.0 }
-        ensures upper { IsEmptyFor self result.1 }
+    /// The memory for each of the two boxes.
+    pub(crate) fn blanks(self) -> (Blank, Blank)
+        ensures lower { self.items < result.0 }
+        ensures upper { self.items < result.1 }
     {
         (self.lower, self.upper)
     }

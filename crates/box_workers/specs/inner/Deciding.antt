@@ -28,3 +28,4 @@ pub record Decides (b : Problem) (w : Words) (x : PlainBox) (s t : Seated) (old 
   pub worker : new.worker ≡ old.worker
   pub log : new.log ≡ old.log
   pub left : new.left ≡ old.left
+  pub spares : new.spares ≡ old.spares

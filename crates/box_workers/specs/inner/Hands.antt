@@ -39,6 +39,7 @@ pub record IsKept (b : Problem) (loss : ℕ) (old new : Hand) : Type 0 where
   pub worker : new.worker ≡ old.worker
   pub log : new.log ≡ old.log
   pub left : new.left ≡ old.left
+  pub spares : new.spares ≡ old.spares
 
 -- a note was written, and nothing else was done
 pub record IsNoted (n : Note) (old new : Hand) : Type 0 where

@@ -1,6 +1,5 @@
 -- What a box keeps of the ranges that it stores.
-use Rattle.std.specs.Prelude.{◌≡◌, ℕ, [], ◌+◌, ◌≤◌, List, length, map, All}
-use Rattle.glass_base.specs.Run.{Listed}
+use Rattle.std.specs.Prelude.{ℕ, ◌+◌, ◌≤◌, List, length, map, All}
 use Rattle.plan_box.specs.declared.frame.Frame.{Frame}
 use Rattle.plan_box.specs.declared.packed.Packed.{Packed}
 use Rattle.plan_box.specs.Decisions.{decided}
@@ -18,8 +17,3 @@ pub record AreStored (f : Frame) (stored : List Packed) : Type 0 where
 -- the box of an identity, a frame and stored ranges
 abbrev pub box_of : ℕ → Frame → List Packed → PlainBox
 box_of id f stored = record { id = id; frame = f; ranges = all_ranges f (map unpacked stored) }
-
--- an empty list with room for the ranges of all steps
-pub record IsEmptyFor (f : Frame) (run : Listed Packed) : Type 0 where
-  pub empty : run.items ≡ []
-  pub room : f.items ≤ run.spare

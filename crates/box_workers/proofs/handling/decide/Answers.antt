@@ -21,6 +21,7 @@ returns-in-Some-clause-decides c =
         worker = refl;
         log = refl;
         left = refl;
+        spares = refl;
       },
     )
 
@@ -40,6 +41,7 @@ returns-then-bound_at-threshold-clause-decides c =
         worker = same.1;
         log = same.2;
         left = same.3;
+        spares = same.4;
       },
     )
 
@@ -64,5 +66,6 @@ returns-clause-decides c =
         worker = same.1;
         log = same.2;
         left = same.3;
+        spares = same.4;
       },
     )

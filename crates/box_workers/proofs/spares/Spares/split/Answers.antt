@@ -1,0 +1,6 @@
+use Rattle.std.proofs.Common.{subst, sym, ◌<◌, length}
+use Rattle.plan_box.specs.Decisions.{decided}
+use Rattle.box_workers.proofs.spares.Spares.split.Goals as goal
+
+pub split_over-lower-requires-clause-room : goal.split_over-lower-requires-clause-room
+split_over-lower-requires-clause-room c = (rw c.replace-below.ensures.value c.requires.room.lower, rw c.replace-above.ensures.value c.requires.room.upper)
