@@ -1,61 +1,45 @@
 #!/usr/bin/env bash
-# Prints how many boxes a search handles in a second by the clock with one, two, four and eight workers, behind the first plan, on drawn
-# instances of 50 and 200 items: the time of `plan` less that with a budget of one box, each the least of three runs, and how many times
-# those of one worker that is; and, as what the machine itself can do, how many times as many boxes as one run with one worker so many runs
-# with one worker each handle side by side. BUDGET (800,000; 200 items times it are the most that `plan` takes) may be given. Nothing else
-# should run on the machine beside it. The program is built first where it is not yet.
+# Prints how many boxes the search handles in a second by the clock with one, two, four and eight workers, behind the first plan and without
+# the certificate, on drawn instances of 50 and 200 items: the time of a search less that of one with a budget of one box. And, as what the
+# machine itself can do: how many times as many boxes as one search so many searches with one worker each handle side by side. Each time is
+# the least of ROUNDS (5) runs, and the runs take turns, since a machine that others use is not quiet for long. BUDGET (3,200,000) and ROUNDS
+# may be given. Nothing else should run beside it. The program is proved and built first, which takes some minutes where crates changed.
 set -euo pipefail
 top=$(cd "$(dirname "$(readlink -f "$0")")/.." && pwd)
-program=$top/crates/glass_program/out/glass_program
+budget=${1:-3200000}
+rounds=${2:-5}
 work=$(mktemp -d)
 trap 'rm -rf "$work"' EXIT
-budget=${1:-800000}
-draw() {
-  awk -v start="$1" -v items="$2" -v defects="$3" -v batch="$work/batch.csv" -v faults="$work/defects.csv" -f "$top/bench/drawn.awk"
+(cd "$top/crates/box_speed" && rt run < stdin) > "$work/built" 2>&1 || { tail -20 "$work/built"; exit 1; }
+program=$top/crates/box_speed/out/box_speed
+# the time of so many searches at once, of this budget and by so many workers each
+spent() {
+  TIMEFORMAT=%R
+  { time {
+    for ((run = 0; run < $1; run++)); do
+      echo "search $instance $2 $3" | "$program" > "$work/told$run" &
+    done
+    wait
+  }; } 2>&1
 }
-plan() {
-  "$1" plan "$work/batch.csv" "$work/defects.csv" "$work/plan.csv" "$work/cert" --budget="$2" --workers="$3" > "$work/printed" || [ $? -eq 1 ]
-}
-# the least time of three runs with this budget and so many workers
-least() {
-  for _ in 1 2 3; do
-    TIMEFORMAT=%R
-    { time plan "$program" "$1" "$2"; } 2>&1
-  done | sort -n | head -1
-}
-# the least time of three times so many runs with one worker each and this budget, side by side
-beside() {
-  for _ in 1 2 3; do
-    TIMEFORMAT=%R
-    { time {
-      for ((run = 0; run < $2; run++)); do
-        "$program" plan "$work/batch.csv" "$work/defects.csv" "$work/plan$run" "$work/cert$run" --budget="$1" --workers=1 > "$work/printed$run" &
-      done
-      wait
-    }; } 2>&1
-  done | sort -n | head -1
-}
-draw 7 1 0
-plan "$top/glass" 1 1
 echo "$(nproc) processors"
 for instance in '7 50 20' '7 200 60'; do
-  # shellcheck disable=SC2086
-  draw $instance
-  for workers in 1 2 4 8; do
-    first=$(least 1 "$workers")
-    all=$(least "$budget" "$workers")
-    boxes=$(awk '$1 == "boxes" { print $2 }' "$work/printed")
-    echo "$workers $first $all $boxes"
-    echo "$workers $(beside 1 "$workers") $(beside "$budget" "$workers") beside"
-  done | awk -v instance="$instance" '
-    $4 == "beside" {
-      if (!alone) alone = $3 - $2
-      printf "; so many runs side by side: %.2f times\n", $1 * alone / ($3 - $2)
-      next
-    }
-    {
-      speed = ($4 - 1) / ($3 - $2)
-      if (!one) one = speed
-      printf "%s: %d workers, %.2f s with one box, %.2f s with %d: %d boxes in a second, %.2f times one worker", instance, $1, $2, $3, $4, speed, speed / one
+  for ((round = 0; round < rounds; round++)); do
+    for workers in 1 2 4 8; do
+      echo "$workers first $(spent 1 1 "$workers")"
+      echo "$workers all $(spent 1 "$budget" "$workers")"
+      echo "$workers beside_first $(spent "$workers" 1 1)"
+      echo "$workers beside $(spent "$workers" "$budget" 1)"
+    done
+  done | awk -v instance="$instance" -v budget="$budget" '
+    { key = $1 " " $2; if (!(key in least) || $3 < least[key]) least[key] = $3 }
+    END {
+      one = least["1 all"] - least["1 first"]
+      for (workers = 1; workers <= 8; workers *= 2) {
+        took = least[workers " all"] - least[workers " first"]
+        beside = least[workers " beside"] - least[workers " beside_first"]
+        printf "%s: %d workers, %.2f s with one box, %.2f s with %d: %d boxes in a second, %.2f times one worker; ", instance, workers, least[workers " first"], least[workers " all"], budget, budget / took, one / took
+        printf "so many searches side by side: %.2f times\n", workers * one / beside
+      }
     }'
 done

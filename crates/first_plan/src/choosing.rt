@@ -7,11 +7,11 @@ ghost use Rattle.first_plan.specs.FirstPlans.{IsFirstPlan};
 ghost use Rattle.plan_draft.specs.Drafts.{HasNoDraft, IsDraft};
 ghost use Rattle.plan_trace.specs.Claims.{IsComplete};
 
+use crate::beaming::beam_plan;
 use cut_model::Trace;
 use defect_map::DefectMap;
 use glass_base::{Instance, Memory};
 use loss_area::length;
-use plan_beams::beam_plan;
 use plan_draft::draft;
 use plan_trace::laws::traces_keep_their_kinds;
 use std::alloc::Global;

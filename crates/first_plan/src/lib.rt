@@ -1,6 +1,7 @@
 //! A first plan: that of two beams, or the draft where that is shorter.
 #![tactic(auto)]
 
+mod beaming;
 mod choosing;
 
 pub use choosing::first_plan;

@@ -1,4 +1,4 @@
-//! A first plan by two beams over partial traces.
+//! Two beams over partial traces. What they find is only a guess, which has to be asked of the rules.
 #![tactic(auto)]
 
 mod chains;
@@ -23,4 +23,4 @@ mod taken;
 mod task;
 mod ticks;
 
-pub use planning::beam_plan;
+pub use planning::{Beams, Found};
