@@ -1,43 +1,16 @@
 //! The search of the product, with one worker or several.
-ghost use Rattle.std.specs.Prelude.{◌≡◌, ◌≤◌, ◌<◌, IfSome, [], ◌∷◌, IfOk};
-ghost use Rattle.plan_box.specs.Frames.{frame_of};
-ghost use Rattle.plan_box.specs.Ranges.{root_of};
-ghost use Rattle.cert_log.specs.Lawful.{no_loss};
-ghost use Rattle.box_workers.specs.Runs.{IsFirst, first_loss as first_loss_of};
+ghost use Rattle.std.specs.Prelude.{◌≡◌, ◌≤◌};
 
 use crate::count::Count;
-use box_workers::{PatientGate, search};
-use cert_log::{History, trace_loss};
-use cut_model::Trace;
+use box_workers::{PatientGate, first_loss, search, start_boxes};
+use cert_log::History;
 use defect_map::DefectMap;
 use first_plan::first_plan;
-use glass_base::{Instance, Memory, Run, append};
-use plan_box::PlanBox;
+use glass_base::{Instance, Memory};
 use shared_best::{NONE, SharedBest};
 use std::alloc::Global;
 use std::sync::Wait;
 use std::thread::Threads;
-
-/// The loss of the first plan in mm², or `NONE`.
-fn first_loss(instance: &Instance, first: &Option<Trace>) -> u64
-    requires { IsFirst instance.now first.now }
-    ensures loss { result ≡ first_loss_of instance.now first.now }
-    ensures some { IfSome first.now (λ _. result < no_loss) }
-{
-    match first {
-        None => NONE,
-        Some(trace) => trace_loss(instance, trace),
-    }
-}
-
-/// The box of all plans.
-fn start_boxes(alloc: Global, instance: &Instance) -> Result<Run<PlanBox>, Memory>
-    ensures { IfOk result (λ start. start.items ≡ root_of (frame_of instance.now) 0 ∷ []) }
-{
-    let mut start = Run::new(alloc);
-    append(&mut start, PlanBox::root(alloc, instance, 0)?)?;
-    Ok(start)
-}
 
 /// The history of a search from the first plan on.
 fn history_of<R: Threads + Wait + Sync>(

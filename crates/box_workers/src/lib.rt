@@ -16,6 +16,7 @@ mod running;
 pub mod searching;
 mod spares;
 mod spreading;
+pub mod starting;
 mod teaming;
 pub mod working;
 
@@ -25,4 +26,5 @@ pub use handling::{Done, handle};
 pub use held_gate::HeldGate;
 pub use patient_gate::PatientGate;
 pub use searching::search;
+pub use starting::{first_loss, start_boxes};
 pub use working::{Rest, work};

@@ -1,11 +1,9 @@
 //! What `plan` answers to an instance.
 
-ghost use Rattle.std.specs.Prelude.{◌≡◌, ◌≤◌, ◌<◌, [], ◌∷◌, ℕ, List, IfOk, IfSome, OnOk, map, option_map, slice_index_or};
+ghost use Rattle.std.specs.Prelude.{◌≡◌, ◌≤◌, [], ℕ, List, IfOk, OnOk, map, option_map, slice_index_or};
 ghost use Rattle.cut_model.specs.Tree.{neighbour_count, tree};
-ghost use Rattle.plan_box.specs.Frames.{frame_of};
-ghost use Rattle.plan_box.specs.Ranges.{root_of};
 ghost use Rattle.cert_log.specs.Good.{IsVersion};
-ghost use Rattle.cert_log.specs.Lawful.{IsBest, IsLawful, loss_of as known_loss, no_loss};
+ghost use Rattle.cert_log.specs.Lawful.{IsBest, IsLawful, loss_of as known_loss};
 ghost use Rattle.cert_log.specs.Outcomes.{IsHead};
 ghost use Rattle.cert_log.specs.Texts.{head_of};
 ghost use Rattle.box_workers.specs.Runs.{IsFirst, first_loss as first_loss_of};
@@ -17,16 +15,15 @@ use crate::lines::search_lines;
 use crate::notices::{bad_input, reply_with};
 use crate::reply::{Output, Reply};
 use crate::status::Status;
-use box_workers::{Gate, search};
-use cert_log::{Certificate, History, Node, assemble, trace_loss, write_cert};
+use box_workers::{Gate, first_loss, search, start_boxes};
+use cert_log::{Certificate, History, Node, assemble, write_cert};
 use cut_model::{Plan, Trace, plates_used};
 use defect_map::DefectMap;
 use first_plan::first_plan;
 use glass_base::{Instance, Memory, Role, Run, append};
-use plan_box::PlanBox;
 use plan_csv::write_plan;
 use plan_trace::plan_of;
-use shared_best::{NONE, SharedBest};
+use shared_best::SharedBest;
 use std::alloc::Global;
 use std::sync::Wait;
 use std::thread::Threads;
@@ -39,27 +36,6 @@ const MOST_WORK: u64 = 160_000_000;
 pub(crate) struct Found {
     certificate: Certificate,
     plan: Option<Plan>,
-}
-
-/// The loss of a first trace in mm², or `NONE`.
-fn first_loss(instance: &Instance, first: &Option<Trace>) -> u64
-    requires { IsFirst instance.now first.now }
-    ensures loss { result ≡ first_loss_of instance.now first.now }
-    ensures some { IfSome first.now (λ _. result < no_loss) }
-{
-    match first {
-        None => NONE,
-        Some(trace) => trace_loss(instance, trace),
-    }
-}
-
-/// The box that holds every lawful plan.
-fn start_boxes(alloc: Global, instance: &Instance) -> Result<Run<PlanBox>, Memory>
-    ensures { IfOk result (λ start. start.items ≡ root_of (frame_of instance.now) 0 ∷ []) }
-{
-    let mut start = Run::new(alloc);
-    append(&mut start, PlanBox::root(alloc, instance, 0)?)?;
-    Ok(start)
 }
 
 /// The history of a search that goes on from this trace, or from none.

@@ -1,8 +1,8 @@
 //! What a search by one worker or several handles, and what it leaves.
 ghost use Rattle.std.specs.Prelude.{◌≤◌};
 
-use crate::searched::{notes_of, root, searched, small};
-use box_workers::OpenGate;
+use crate::searched::{notes_of, searched, small};
+use box_workers::{OpenGate, start_boxes};
 use cert_log::{History, Left, Note};
 use glass_base::{Instance, Memory};
 use std::alloc::Global;
@@ -21,7 +21,7 @@ fn search_all<R: Threads + Wait + Sync>(
     requires workers { (1 ≤ workers) × (workers ≤ 8) }
     requires budget { (1 ≤ budget) × (budget ≤ 10000000) }
 {
-    let start = root(alloc, instance)?;
+    let start = start_boxes(alloc, instance)?;
     searched(rt, alloc, instance, start, workers, budget, &OpenGate)
 }
 

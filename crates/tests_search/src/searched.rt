@@ -1,7 +1,7 @@
 //! The search of an instance of one item.
-ghost use Rattle.std.specs.Prelude.{◌≡◌, ◌≤◌, [], ◌∷◌, All, length, IfOk};
+ghost use Rattle.std.specs.Prelude.{◌≡◌, ◌≤◌, All, length};
 ghost use Rattle.plan_box.specs.Frames.{frame_of};
-ghost use Rattle.plan_box.specs.Ranges.{PlainBox, root_of};
+ghost use Rattle.plan_box.specs.Ranges.{PlainBox};
 ghost use Rattle.cert_log.specs.Lawful.{numbered};
 
 use box_workers::{Gate, search};
@@ -28,15 +28,6 @@ pub(crate) fn small(alloc: Global) -> Result<Instance, Fail> {
     };
     append(&mut items, item)?;
     Ok(Instance::new(alloc, Params::usual(), items, Run::new(alloc))?)
-}
-
-/// The box of all plans.
-pub(crate) fn root(alloc: Global, instance: &Instance) -> Result<Run<PlanBox>, Memory>
-    ensures { IfOk result (λ start. start.items ≡ root_of (frame_of instance.now) 0 ∷ []) }
-{
-    let mut start = Run::new(alloc);
-    append(&mut start, PlanBox::root(alloc, instance, 0)?)?;
-    Ok(start)
 }
 
 /// The history of a search from these boxes, without a first plan.
