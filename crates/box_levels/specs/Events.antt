@@ -34,7 +34,7 @@ tickets_of es = map (λ (e : Event). e.ticket) es
 -- a box was split at a free variable
 abbrev pub SplitsFree : List Ranges → Act → Type 0
 SplitsFree rs (Act.Split step v) = IsTrue (is_free rs step v)
-SplitsFree rs (Act.Closed threshold cause) = Unit {0}
+SplitsFree rs (Act.Closed cause threshold) = Unit {0}
 
 -- what was handled and what is left is what there was at the start and what was made
 pub record AreKept (starts : ℕ) (boxes : List PlainBox) (es : List Event) (left : List PlainBox) : Type 0 where

@@ -74,22 +74,22 @@ reaches threshold n low small = by_test (nat_lt threshold no_loss) refl
 
 splits_free : (b : Problem) (rs : List Ranges) (seen loss : ℕ) (a : Act) → IsAct b rs seen loss a → SplitsFree rs a
 splits_free b rs seen loss (Act.Split step v) is = is.2
-splits_free b rs seen loss (Act.Closed threshold cause) is = tt
+splits_free b rs seen loss (Act.Closed cause threshold) is = tt
 
 -- what was done with a box is right, where what was seen and the hand's loss are no less than the best loss at last
 right_of : (b : Problem) (first best seen loss : ℕ) (rs : List Ranges) (a : Act) → IsProblem b → best ≤ seen → best ≤ loss → seen ≤ first → IsAct b rs seen loss a → Handled b first best rs a
 right_of b first best seen loss rs (Act.Split step v) rules low_seen low_loss top is = (is.0, (let l = is.1 in omega arith), is.2)
-right_of b first best seen loss rs (Act.Closed threshold (Cause.Reason r)) rules low_seen low_loss top is = (is.1, (let t = is.0 in omega arith), (let t = is.0 in omega arith))
-right_of b first best seen loss rs (Act.Closed threshold Cause.Bound) rules low_seen low_loss top is =
+right_of b first best seen loss rs (Act.Closed (Cause.Reason r) threshold) rules low_seen low_loss top is = (is.1, (let t = is.0 in omega arith), (let t = is.0 in omega arith))
+right_of b first best seen loss rs (Act.Closed Cause.Bound threshold) rules low_seen low_loss top is =
     ((is.1, reaches threshold (bound b rs) is.2 (bound_small b rs rules is.1)), (let t = is.0 in omega arith), (let t = is.0 in omega arith))
-right_of b first best seen loss rs (Act.Closed threshold Cause.Unsaid) rules low_seen low_loss top is = absurd is
+right_of b first best seen loss rs (Act.Closed Cause.Unsaid threshold) rules low_seen low_loss top is = absurd is
 
 -- the threshold of a closed box is at most what was seen, and the bound of one that was split is below it
 act_within : (b : Problem) (rs : List Ranges) (seen loss : ℕ) (a : Act) → IsAct b rs seen loss a → Within b rs seen a
 act_within b rs seen loss (Act.Split step v) is = let l = is.1 in omega arith
-act_within b rs seen loss (Act.Closed threshold (Cause.Reason r)) is = let t = is.0 in omega arith
-act_within b rs seen loss (Act.Closed threshold Cause.Bound) is = let t = is.0 in omega arith
-act_within b rs seen loss (Act.Closed threshold Cause.Unsaid) is = absurd is
+act_within b rs seen loss (Act.Closed (Cause.Reason r) threshold) is = let t = is.0 in omega arith
+act_within b rs seen loss (Act.Closed Cause.Bound threshold) is = let t = is.0 in omega arith
+act_within b rs seen loss (Act.Closed Cause.Unsaid threshold) is = absurd is
 
 -- what stands is right by each loss that is at most what was seen, and at most its worker's loss
 stands_right : (b : Problem) (boxes : List PlainBox) (w : Words) (lowest best low : ℕ) (e : Event) → IsProblem b → Stands b w lowest best e → low ≤ lowest → low ≤ best → IsRight b (course_of boxes w) low e

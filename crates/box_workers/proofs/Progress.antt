@@ -76,7 +76,7 @@ made_frames b starts ticket (Act.Split step v) x lower upper of is =
     second_or : PlainBox → List PlainBox → PlainBox
     second_or d [] = d
     second_or d (y ∷ ys) = first_or d ys
-made_frames b starts ticket (Act.Closed threshold cause) x lower upper of is = absurd (let e = ap (λ (l : List PlainBox). length l) is in omega arith)
+made_frames b starts ticket (Act.Closed cause threshold) x lower upper of is = absurd (let e = ap (λ (l : List PlainBox). length l) is in omega arith)
 
 -- so all boxes that wait have the frame, where the halves of a box wait
 pub halves_wait : (b : Problem) (starts : ℕ) (e : Event) (x lower upper : PlainBox) (ws : List PlainBox) → All (λ (y : PlainBox). y.frame ≡ frame_of b) ws → e.box ≡ x → x.frame ≡ frame_of b → made_by starts e ≡ lower ∷ upper ∷ []

@@ -50,10 +50,10 @@ least_min a c (e ∷ es) h = let i = least_min (min a e.probed) (min c e.probed)
 -- where the least of all losses was seen, it decides
 exact : (b : Problem) (m loss probed seen : ℕ) (rs : List Ranges) (a : Act) → seen ≡ m → m ≤ loss → loss ≤ no_loss → IsProbed b rs probed → IsAct b rs seen (min loss probed) a → Reached b rs (min m probed) a
 exact b m loss probed seen rs (Act.Split step v) s low small p is = let l = is.1 in omega arith
-exact b m loss probed seen rs (Act.Closed threshold (Cause.Reason r)) s low small p is =
+exact b m loss probed seen rs (Act.Closed (Cause.Reason r) threshold) s low small p is =
     elim p [ inl found ↦ absurd (found.0.not_refuted (_, is.1.applies)) | inr none ↦ (let t = is.0 in let n = none.1 in omega arith) ]
-exact b m loss probed seen rs (Act.Closed threshold Cause.Bound) s low small p is = let t = is.0 in omega arith
-exact b m loss probed seen rs (Act.Closed threshold Cause.Unsaid) s low small p is = absurd is
+exact b m loss probed seen rs (Act.Closed Cause.Bound threshold) s low small p is = let t = is.0 in omega arith
+exact b m loss probed seen rs (Act.Closed Cause.Unsaid threshold) s low small p is = absurd is
 
 -- what is announced at last
 announced_is : (loss probed : ℕ) (v : View) → ((probed < loss) × ((told loss probed v).announced ≡ min v.announced probed)) ⊎ ((loss ≤ probed) × ((told loss probed v).announced ≡ v.announced))

@@ -59,9 +59,9 @@ IsPlanAfter b rs loss probed old new =
 
 -- what was done rightly with a box, where this loss was seen, and the hand had this loss after the probe
 abbrev pub IsAct : Problem → List Ranges → ℕ → ℕ → Act → Type 0
-IsAct b rs seen loss (Act.Closed threshold (Cause.Reason r)) = (threshold ≡ seen) × IsFirstReason b rs r
-IsAct b rs seen loss (Act.Closed threshold Cause.Bound) = (threshold ≡ min seen loss) × (¬ IsRefuted b rs) × (threshold ≤ bound b rs)
-IsAct b rs seen loss (Act.Closed threshold Cause.Unsaid) = ⊥
+IsAct b rs seen loss (Act.Closed (Cause.Reason r) threshold) = (threshold ≡ seen) × IsFirstReason b rs r
+IsAct b rs seen loss (Act.Closed Cause.Bound threshold) = (threshold ≡ min seen loss) × (¬ IsRefuted b rs) × (threshold ≤ bound b rs)
+IsAct b rs seen loss (Act.Closed Cause.Unsaid threshold) = ⊥
 IsAct b rs seen loss (Act.Split step v) = (¬ IsRefuted b rs) × (bound b rs < min seen loss) × IsTrue (is_free rs step v)
 
 -- one box was handled

@@ -36,7 +36,7 @@ least_loss loss (e ∷ es) = least_loss (min loss e.probed) es
 
 -- a threshold is at most what was seen, and the bound of a box that was split is below that
 abbrev pub Within : Problem → List Ranges → ℕ → Act → Type 0
-Within b rs seen (Act.Closed threshold cause) = threshold ≤ seen
+Within b rs seen (Act.Closed cause threshold) = threshold ≤ seen
 Within b rs seen (Act.Split step v) = bound b rs < seen
 
 -- a box was handled by a worker whose loss was this one before
@@ -59,7 +59,7 @@ AreSeen loss (e ∷ es) = (e.seen ≡ loss) × AreSeen (min loss e.probed) es
 
 -- a threshold is this loss, and the bound of a box that was split is below it
 abbrev pub Reached : Problem → List Ranges → ℕ → Act → Type 0
-Reached b rs loss (Act.Closed threshold cause) = threshold ≡ loss
+Reached b rs loss (Act.Closed cause threshold) = threshold ≡ loss
 Reached b rs loss (Act.Split step v) = bound b rs < loss
 
 -- each box was closed or split by the least of this loss and the probed losses up to its own

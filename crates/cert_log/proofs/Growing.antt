@@ -53,7 +53,7 @@ module _ (b : Problem) (s : Course) (h : History) (lawful : IsLawful b s h) wher
       let l = next (child_of lower_half x step v (lower_id h.starts m.ticket)) (lower_in b s h lawful n x m step v at noted same is) in
       let u = next (child_of upper_half x step v (upper_id h.starts m.ticket)) (upper_in b s h lawful n x m step v at noted same is) in
       (forks m step v l.0 u.0, (noted, same, is, l.1, u.1))
-  grown n x m (Act.Closed threshold cause) at noted same is next = (ends m threshold cause, (noted, same, is))
+  grown n x m (Act.Closed cause threshold) at noted same is next = (ends m threshold cause, (noted, same, is))
 
   -- from the last level up to level n, which lies k levels above the end
   has_above : (k n : ℕ) → n + k ≡ suc lawful.depth → (x : PlainBox) → Contains (level_of s h n) x → HasTwig h x

@@ -45,5 +45,5 @@ module _ (b : Problem) (s : Course) (h : History) (lawful : IsLawful b s h) wher
       (grown_fits (suc n) (child_of lower_half x step v (lower_id h.starts m.ticket)) lower (lower_in b s h lawful n x m step v at g.0 g.1 g.2) g.3)
       (grown_fits (suc n) (child_of upper_half x step v (upper_id h.starts m.ticket)) upper (upper_in b s h lawful n x m step v at g.0 g.1 g.2) g.4))
   grown_fits n x (ends m threshold cause) at g =
-      All-cons (FitsVersion 2) (Node.Closed cause) [] (closed_fits b threshold x.ranges cause (handled_as b s h lawful n x m (Act.Closed threshold cause) at g.0 g.1 g.2).0) (All-nil (FitsVersion 2))
+      All-cons (FitsVersion 2) (Node.Closed cause) [] (closed_fits b threshold x.ranges cause (handled_as b s h lawful n x m (Act.Closed cause threshold) at g.0 g.1 g.2).0) (All-nil (FitsVersion 2))
   grown_fits n x (waits l) at g = All-cons (FitsVersion 2) Node.Left [] tt (All-nil (FitsVersion 2))

@@ -75,7 +75,7 @@ module _ (b : Problem) (s : Course) (h : History) (lawful : IsLawful b s h) wher
     grown_stands (suc n) (child_of upper_half x step v (upper_id h.starts m.ticket)) upper (upper_in n x m step v at g.0 g.1 g.2) g.4,
   )
   grown_stands n x (ends m threshold cause) at g =
-      let e = handled_as n x m (Act.Closed threshold cause) at g.0 g.1 g.2 in closed_stands b h.best threshold x.ranges cause e.1 e.0
+      let e = handled_as n x m (Act.Closed cause threshold) at g.0 g.1 g.2 in closed_stands b h.best threshold x.ranges cause e.1 e.0
   grown_stands n x (waits l) at g = tt
 
   -- each box that is split is not refuted, and has a bound below the loss that is to be beaten

@@ -58,7 +58,7 @@ bounds_last (u ∷ us) t = ap (λ (ns : List ℕ). ns ++ kept_bounds u) (bounds_
 abbrev Tells : History → Note → Act → Twig → Type 0
 Tells h n (Act.Split step v) t =
     (lower : Twig) × (upper : Twig) × (t ≡ forks n step v lower upper) × Grows h (lower_id h.starts n.ticket) lower × Grows h (upper_id h.starts n.ticket) upper
-Tells h n (Act.Closed threshold cause) t = t ≡ ends n threshold cause
+Tells h n (Act.Closed cause threshold) t = t ≡ ends n threshold cause
 
 module _ (h : History) (once : AreDifferent h) where
   same_note : (m n : Note) (x : ℕ) → Contains h.log.items m → Contains h.log.items n → m.id ≡ x → n.id ≡ x → m ≡ n
@@ -82,12 +82,12 @@ module _ (h : History) (once : AreDifferent h) where
       let ticket : m.ticket ≡ n.ticket = ap (λ (k : Note). k.ticket) same in
       (lower, upper, cc (same, s, w), subst (λ (k : ℕ). Grows h (lower_id h.starts k) lower) ticket g.3, subst (λ (k : ℕ). Grows h (upper_id h.starts k) upper) ticket g.4)
   note_tells n x (Act.Split step v) (ends m threshold cause) at is acts g =
-      absurd (let e : Act.Closed threshold cause ≡ Act.Split step v = sym g.2 ∙ ap (λ (k : Note). k.act) (same_note m n x g.0 at g.1 is) ∙ acts in cc)
-  note_tells n x (Act.Closed threshold cause) (forks m step v lower upper) at is acts g =
-      absurd (let e : Act.Split step v ≡ Act.Closed threshold cause = sym g.2 ∙ ap (λ (k : Note). k.act) (same_note m n x g.0 at g.1 is) ∙ acts in cc)
-  note_tells n x (Act.Closed threshold cause) (ends m threshold' cause') at is acts g =
+      absurd (let e : Act.Closed cause threshold ≡ Act.Split step v = sym g.2 ∙ ap (λ (k : Note). k.act) (same_note m n x g.0 at g.1 is) ∙ acts in cc)
+  note_tells n x (Act.Closed cause threshold) (forks m step v lower upper) at is acts g =
+      absurd (let e : Act.Split step v ≡ Act.Closed cause threshold = sym g.2 ∙ ap (λ (k : Note). k.act) (same_note m n x g.0 at g.1 is) ∙ acts in cc)
+  note_tells n x (Act.Closed cause threshold) (ends m threshold' cause') at is acts g =
       let same = same_note m n x g.0 at g.1 is in
-      let e : Act.Closed threshold' cause' ≡ Act.Closed threshold cause = sym g.2 ∙ ap (λ (k : Note). k.act) same ∙ acts in
+      let e : Act.Closed cause' threshold' ≡ Act.Closed cause threshold = sym g.2 ∙ ap (λ (k : Note). k.act) same ∙ acts in
       let s : threshold' ≡ threshold = cc in let w : cause' ≡ cause = cc in cc (same, s, w)
   note_tells n x act (waits l) at is acts g = absurd (not_both n l x at g.0 is g.1)
 
@@ -126,11 +126,11 @@ module _ (h : History) (once : AreDifferent h) where
 
   -- a note of a closed box
   pub write_closed : (id : ℕ) (waiting : List ℕ) (x : ℕ) (nodes : List Node) (least : Option ℕ) (n : Note) (threshold : ℕ) (cause : Cause)
-      → IsGrowing h id (waiting ++ x ∷ []) nodes least → Contains h.log.items n → n.id ≡ x → n.act ≡ Act.Closed threshold cause
+      → IsGrowing h id (waiting ++ x ∷ []) nodes least → Contains h.log.items n → n.id ≡ x → n.act ≡ Act.Closed cause threshold
       → IsGrowing h id waiting (nodes ++ Node.Closed cause ∷ []) least
   write_closed id waiting x nodes least n threshold cause g at is acts =
       let r = has_last h waiting x g.twigs g.grow in
-      let whole : g.twigs ≡ r.earlier ++ ends n threshold cause ∷ [] = r.are ∙ ap (λ (u : Twig). r.earlier ++ u ∷ []) (note_tells n x (Act.Closed threshold cause) r.last at is acts r.grows) in
+      let whole : g.twigs ≡ r.earlier ++ ends n threshold cause ∷ [] = r.are ∙ ap (λ (u : Twig). r.earlier ++ u ∷ []) (note_tells n x (Act.Closed cause threshold) r.last at is acts r.grows) in
       let n0 = ap nodes_ahead whole ∙ nodes_last r.earlier (ends n threshold cause) in
       let b0 = ap bounds_ahead whole ∙ bounds_last r.earlier (ends n threshold cause) in
       record {

@@ -44,7 +44,7 @@ module _ (h : History) (once : AreDifferent h) (next : ℕ) (old new : Growth) w
         (write_split h once root old.waiting.items next old.nodes.items old.bound n step v g at is acts);
   }
 
-  pub writes_closed : (n : Note) (threshold : ℕ) (cause : Cause) → Contains h.log.items n → n.id ≡ next → n.act ≡ Act.Closed threshold cause
+  pub writes_closed : (n : Note) (threshold : ℕ) (cause : Cause) → Contains h.log.items n → n.id ≡ next → n.act ≡ Act.Closed cause threshold
       → new.waiting.items ≡ old.waiting.items → new.nodes.items ≡ old.nodes.items ++ Node.Closed cause ∷ [] → new.bound ≡ old.bound → Writes h next old new
   writes_closed n threshold cause at is acts w e b = record {
     one = one_more (Node.Closed cause) e;

@@ -63,7 +63,7 @@ ClosedFor b threshold rs Cause.Bound = ¬ IsRefuted b rs × Reaches (loss_of thr
 -- a box was handled rightly, where `first` was to be beaten at first and `best` at last
 abbrev pub Handled : Problem → ℕ → ℕ → List Ranges → Act → Type 0
 Handled b first best rs (Act.Split step v) = ¬ IsRefuted b rs × (bound b rs < first) × IsTrue (is_free rs step v)
-Handled b first best rs (Act.Closed threshold cause) = ClosedFor b threshold rs cause × (best ≤ threshold) × (threshold ≤ first)
+Handled b first best rs (Act.Closed cause threshold) = ClosedFor b threshold rs cause × (best ≤ threshold) × (threshold ≤ first)
 
 -- the loss of a trace of these steps, in mm²: what its length has beside the items
 abbrev pub trace_loss : Problem → List Step → ℕ

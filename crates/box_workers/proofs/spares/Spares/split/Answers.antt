@@ -1,5 +1,3 @@
-use Rattle.std.proofs.Common.{subst, sym, ◌<◌, length}
-use Rattle.plan_box.specs.Decisions.{decided}
 use Rattle.box_workers.proofs.spares.Spares.split.Goals as goal
 
 pub split_over-lower-requires-clause-room : goal.split_over-lower-requires-clause-room

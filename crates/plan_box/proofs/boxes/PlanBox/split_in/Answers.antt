@@ -1,6 +1,5 @@
-use Rattle.std.proofs.Common.{◌≡◌, ◌<◌, ◌∙◌, ap, arith, length}
+use Rattle.std.proofs.Common.{ap, arith}
 use Rattle.plan_box.specs.declared.frame.Frame.{Frame}
-use Rattle.plan_box.specs.Decisions.{decided}
 use Rattle.plan_box.proofs.Counts.{decided_few}
 use Rattle.plan_box.proofs.Stored.{box_from}
 use Rattle.plan_box.proofs.boxes.PlanBox.split_in.Goals as goal
