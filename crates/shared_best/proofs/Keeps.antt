@@ -8,7 +8,7 @@ use Rattle.atomic_table.specs.Table.Act.{keeps}
 use Rattle.shared_best.specs.declared.view.View.{View}
 use Rattle.shared_best.specs.Words.{none_known, all_draws, times, once_below, IsEachOnce, share, IsWhole, looked, lowered, drawn, kept_half, new_half, joined, Settles}
 use Rattle.shared_best.specs.inner.Plays.{look_then, lower_then, draw_then, settle_then}
-use Rattle.shared_best.specs.inner.Rule.{Fits, Sound, Kept, spent_view}
+use Rattle.shared_best.specs.inner.Rule.{Fits, Sound, all_words, Kept, spent_view}
 use Rattle.shared_best.proofs.Counts.{times-append, once_more, below_once, sum_two}
 use Rattle.std.proofs.lemmas.List.Sums.{sum_by-append}
 use Rattle.shared_best.proofs.Views.{total_set, at_le, two_le, sum_alone, each_set, each_snoc, least_low, least_at, least_set, least_snoc, least_alone, set_there, empty_of_length}
@@ -36,22 +36,22 @@ turns k best next best' next' views id v w at h o =
           let f = h.each j u e in record { of_first = f.of_first; seen = (let s = f.seen in let b = o.best_is in omega arith); quiet = f.quiet });
     }
 
--- a step on the first word, and one on the second
+-- a step on the best loss, and one on the next ticket
 on_best : (k slots id : ℕ) (v : View) (held : List (ℕ × ℕ)) (f : ℕ → ℕ) (then : ℕ → Me ℕ View → Type 0)
     → ((best next : ℕ) (views : List View) → Sound k best next views → get_elem? views id ≡ some v → (w : View) × Sound k (f best) next (set views id w) × then best (w, held))
-    → Allows (Kept k) slots id (v, held) 0 f then
+    → Allows (Kept k) slots id (v, held) 16 f then
 on_best k slots id v held f then go s h homes at fits =
     let P : List ℕ → Type 0 = λ ws. (w : View) × (a : Act ℕ) × Valid s.homes held a
-    × Kept k (stepped (record { words = ws; homes = s.homes; views = s.views }) 0 (f (slice_index ws 0)) id held w a) × then (slice_index ws 0) (w, carried_after held a) in
+    × Kept k (stepped (record { words = ws; homes = s.homes; views = s.views }) 16 (f (slice_index ws 16)) id held w a) × then (slice_index ws 16) (w, carried_after held a) in
     let g = go h.best h.next s.views h.sound at in
     subst P (sym h.words) (g.0, keeps, tt, record { best = f h.best; next = h.next; words = refl; sound = g.1 }, g.2)
 
 on_next : (k slots id : ℕ) (v : View) (held : List (ℕ × ℕ)) (f : ℕ → ℕ) (then : ℕ → Me ℕ View → Type 0)
     → ((best next : ℕ) (views : List View) → Sound k best next views → get_elem? views id ≡ some v → (w : View) × Sound k best (f next) (set views id w) × then next (w, held))
-    → Allows (Kept k) slots id (v, held) 1 f then
+    → Allows (Kept k) slots id (v, held) 17 f then
 on_next k slots id v held f then go s h homes at fits =
     let P : List ℕ → Type 0 = λ ws. (w : View) × (a : Act ℕ) × Valid s.homes held a
-    × Kept k (stepped (record { words = ws; homes = s.homes; views = s.views }) 1 (f (slice_index ws 1)) id held w a) × then (slice_index ws 1) (w, carried_after held a) in
+    × Kept k (stepped (record { words = ws; homes = s.homes; views = s.views }) 17 (f (slice_index ws 17)) id held w a) × then (slice_index ws 17) (w, carried_after held a) in
     let g = go h.best h.next s.views h.sound at in
     subst P (sym h.words) (g.0, keeps, tt, record { best = h.best; next = f h.next; words = refl; sound = g.1 }, g.2)
 
@@ -65,8 +65,8 @@ others_idle k best next views id v h at whole j u n e =
 whole_best : (k best next : ℕ) (views : List View) (id : ℕ) (v : View) → Sound k best next views → get_elem? views id ≡ some v → IsWhole v → best ≡ min k v.announced
 whole_best k best next views id v h at whole = h.best_is ∙ least_alone k views id v h.small at (λ j u n e. (others_idle k best next views id v h at whole j u n e).1)
 
-pub looks : (k slots id : ℕ) (v : View) (held : List (ℕ × ℕ)) → Allows (Kept k) slots id (v, held) 0 (λ n. n) (look_then (step slots 0 0 0 none) (v, held))
-looks k slots id v held = on_best k slots id v held (λ n. n) (look_then (step slots 0 0 0 none) (v, held)) (λ best next views h at.
+pub looks : (k slots id : ℕ) (v : View) (held : List (ℕ × ℕ)) → Allows (Kept k) slots id (v, held) 16 (λ n. n) (look_then (step slots 16 0 0 none) (v, held))
+looks k slots id v held = on_best k slots id v held (λ n. n) (look_then (step slots 16 0 0 none) (v, held)) (λ best next views h at.
     let mine = h.each id v at in let low : best ≤ v.announced = (let e = least_at k views id v at in let b = h.best_is in omega arith) in
     let under : best ≤ k = (let e = least_low k views in let b = h.best_is in omega arith) in (
       looked v best,
@@ -90,8 +90,8 @@ looks k slots id v held = on_best k slots id v held (λ n. n) (look_then (step s
       ),
     ))
 
-pub lowers : (k slots id loss : ℕ) (v : View) (held : List (ℕ × ℕ)) → 0 < share v → Allows (Kept k) slots id (v, held) 0 (λ n. min n loss) (lower_then (step slots 0 loss 0 none) (v, held))
-lowers k slots id loss v held some_share = on_best k slots id v held (λ n. min n loss) (lower_then (step slots 0 loss 0 none) (v, held)) (λ best next views h at.
+pub lowers : (k slots id loss : ℕ) (v : View) (held : List (ℕ × ℕ)) → 0 < share v → Allows (Kept k) slots id (v, held) 16 (λ n. min n loss) (lower_then (step slots 16 loss 0 none) (v, held))
+lowers k slots id loss v held some_share = on_best k slots id v held (λ n. min n loss) (lower_then (step slots 16 loss 0 none) (v, held)) (λ best next views h at.
     let mine = h.each id v at in let low : best ≤ v.announced = (let e = least_at k views id v at in let b = h.best_is in omega arith) in (
       lowered v loss,
       turns k best next (min best loss) next views id v (lowered v loss) at h record {
@@ -118,8 +118,8 @@ room k best next views id v h at =
 drawn_above : (k best next : ℕ) (views : List View) (id : ℕ) (v : View) → Sound k best next views → get_elem? views id ≡ some v → (x : ℕ) → 0 < times x v.tickets → x < next
 drawn_above k best next views id v h at x has = below_once x next (let a = at_le (λ (u : View). times x u.tickets) views id v at in let t = h.tickets x in omega arith)
 
-pub draws : (k slots id : ℕ) (v : View) (held : List (ℕ × ℕ)) → 0 < v.allowance → Allows (Kept k) slots id (v, held) 1 (λ n. (n + 1) % 2 ^ 64) (draw_then (step slots 1 1 0 none) (v, held))
-draws k slots id v held may = on_next k slots id v held (λ n. (n + 1) % 2 ^ 64) (draw_then (step slots 1 1 0 none) (v, held)) (λ best next views h at.
+pub draws : (k slots id : ℕ) (v : View) (held : List (ℕ × ℕ)) → 0 < v.allowance → Allows (Kept k) slots id (v, held) 17 (λ n. (n + 1) % 2 ^ 64) (draw_then (step slots 17 1 0 none) (v, held))
+draws k slots id v held may = on_next k slots id v held (λ n. (n + 1) % 2 ^ 64) (draw_then (step slots 17 1 0 none) (v, held)) (λ best next views h at.
     let mine = h.each id v at in let low : best ≤ v.announced = (let e = least_at k views id v at in let b = h.best_is in omega arith) in
     let r = room k best next views id v h at in let small : (next + 1) % 2 ^ 64 ≡ next + 1 = omega arith in
     let long = length-append v.tickets (next ∷ []) in (
@@ -143,8 +143,8 @@ settled k best next views id v h at live whole =
       seen = (let b = whole_best k best next views id v h at whole in let f = (h.each id v at).of_first live in let s = (h.each id v at).seen in omega arith);
     }
 
-pub settles : (k slots id : ℕ) (v : View) (held : List (ℕ × ℕ)) → Allows (Kept k) slots id (v, held) 0 (λ n. n) (settle_then (step slots 0 0 0 none) (v, held))
-settles k slots id v held = on_best k slots id v held (λ n. n) (settle_then (step slots 0 0 0 none) (v, held)) (λ best next views h at.
+pub settles : (k slots id : ℕ) (v : View) (held : List (ℕ × ℕ)) → Allows (Kept k) slots id (v, held) 16 (λ n. n) (settle_then (step slots 16 0 0 none) (v, held))
+settles k slots id v held = on_best k slots id v held (λ n. n) (settle_then (step slots 16 0 0 none) (v, held)) (λ best next views h at.
     let mine = h.each id v at in let low : best ≤ v.announced = (let e = least_at k views id v at in let b = h.best_is in omega arith) in (
       v,
       turns k best next best next views id v v at h record { best_is = omega arith; announced = omega arith; tickets = λ x. refl; count = refl; share_is = refl; fits = mine },
@@ -218,11 +218,11 @@ pub record Closes (n next : ℕ) (v : View) : Type 0 where
   pub once : IsEachOnce v.tickets
 
 -- what the words are once a whole seat closes them
-pub closes : (k id : ℕ) (v : View) (ws xs : List ℕ) (n next : ℕ) → Final (Seen (Kept k) id v) ws xs → v.live ≡ true → IsWhole v → get_elem? ws 0 ≡ some n → get_elem? ws 1 ≡ some next → Closes n next v
+pub closes : (k id : ℕ) (v : View) (ws xs : List ℕ) (n next : ℕ) → Final (Seen (Kept k) id v) ws xs → v.live ≡ true → IsWhole v → get_elem? ws 16 ≡ some n → get_elem? ws 17 ≡ some next → Closes n next v
 closes k id v ws xs n next final live whole first second =
-    let s = final.0 in let h : Kept k s = final.1.0 in let at = final.1.1 in let is : h.best ∷ h.next ∷ [] ≡ ws = sym h.words ∙ final.2 in
-    let n_is : h.best ≡ n = some-injective h.best n (ap (λ (l : List ℕ). get_elem? l 0) is ∙ first) in
-    let next_is : h.next ≡ next = some-injective h.next next (ap (λ (l : List ℕ). get_elem? l 1) is ∙ second) in
+    let s = final.0 in let h : Kept k s = final.1.0 in let at = final.1.1 in let is : all_words h.best h.next ≡ ws = sym h.words ∙ final.2 in
+    let n_is : h.best ≡ n = some-injective h.best n (ap (λ (l : List ℕ). get_elem? l 16) is ∙ first) in
+    let next_is : h.next ≡ next = some-injective h.next next (ap (λ (l : List ℕ). get_elem? l 17) is ∙ second) in
     let e = settled k h.best h.next s.views id v h.sound at live whole in let b = whole_best k h.best h.next s.views id v h.sound at whole in let f = (h.sound.each id v at).of_first live in
     let idle = others_idle k h.best h.next s.views id v h.sound at whole in
     let all : length v.tickets ≡ h.next = sym (sum_alone (λ (u : View). length u.tickets) s.views id v at (λ j u m d. (idle j u m d).0)) ∙ h.sound.count in record {

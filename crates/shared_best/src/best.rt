@@ -17,7 +17,17 @@ pub const NONE: u64 = u64::MAX;
 /// The allowance of the first seat: no run draws so often, and the next ticket stays far below 2^64.
 const ALL_DRAWS: u64 = 1 << 62;
 
-/// The rule of the words: the first is the best loss, the second the next ticket. A slot, of which there is none, would hold a byte.
+/// How many words the table has. Those before and behind the two that are used keep other memory out of their cache line, and out of the
+/// one beside it, which a processor may load with it: else whoever reads that memory waits whenever another thread draws a ticket.
+const WORDS: usize = 32;
+
+/// The place of the best loss among the words.
+const BEST: usize = 16;
+
+/// The place of the next ticket.
+const TICKET: usize = 17;
+
+/// The rule of the words. A slot, of which there is none, would hold a byte.
 struct TwoWords;
 
 impl TableRule<u8, View, u64> for TwoWords {
@@ -77,7 +87,7 @@ pub struct SharedBest {
     first: u64,
     budget: u64,
     ghost key: { table.shared.key ≡ first },
-    ghost words: { (table.shared.table_id.words ≡ 2) × (table.shared.table_id.slots ≡ 0) },
+    ghost words: { (table.shared.table_id.words ≡ 32) × (table.shared.table_id.slots ≡ 0) },
 }
 
 impl Model for SharedBest {
@@ -100,7 +110,9 @@ impl SharedBest {
         ensures words { IfOk result (λ r. (r.0.first ≡ first) × (r.0.budget ≡ budget)) }
         ensures seat { IfOk result (λ r. IsSeatOf r.0 r.1 × (r.1.view ≡ newcomer first)) }
     {
-        let (table, inner) = Table::of_words(alloc, &[first, 0], &first)?;
+        let mut words = [0; WORDS];
+        words[BEST] = first;
+        let (table, inner) = Table::of_words(alloc, &words, &first)?;
         let shared = SharedBest {
             table,
             first,
@@ -131,7 +143,7 @@ impl SharedBest {
         ensures first { result ≤ self.now.first }
         ensures whole { IsWhole seat.old.view → result ≡ min self.now.first seat.old.view.announced }
     {
-        self.table.shared.load::<Look>(&mut seat.inner, 0)
+        self.table.shared.load::<Look>(&mut seat.inner, BEST)
     }
 
     /// Announces a loss, in mm²: the best loss becomes the lesser of itself and `loss`. The seat must be one of this `SharedBest`, and
@@ -144,7 +156,7 @@ impl SharedBest {
     {
         self.table
             .shared
-            .fetch_min::<Lower>(&mut seat.inner, 0, loss);
+            .fetch_min::<Lower>(&mut seat.inner, BEST, loss);
     }
 
     /// The next ticket, counted from 0 on, which no other draw gives. It is above those that this seat drew before. The seat must be one
@@ -156,7 +168,10 @@ impl SharedBest {
         ensures view { seat.new.view ≡ drawn seat.old.view result }
         ensures above { (x : ℕ) → 0 < times x seat.old.view.tickets → x < result }
     {
-        let ticket = self.table.shared.fetch_add::<Draw>(&mut seat.inner, 1, 1);
+        let ticket = self
+            .table
+            .shared
+            .fetch_add::<Draw>(&mut seat.inner, TICKET, 1);
         seat.allowance -= 1;
         ticket
     }
@@ -192,7 +207,7 @@ impl SharedBest {
             .shared
             .join_seat::<Halves>(&mut into.inner, inner);
         // The join itself reads no word. This load shows what a whole seat knows, and that the sum below is small.
-        self.table.shared.load::<Settle>(&mut into.inner, 0);
+        self.table.shared.load::<Settle>(&mut into.inner, BEST);
         into.allowance += allowance;
     }
 
@@ -216,8 +231,8 @@ impl SharedBest {
             allowance: _,
         } = seat;
         let closed = table.close_with(inner);
-        let best = closed.word(0);
-        let next = closed.word(1);
+        let best = closed.word(BEST);
+        let next = closed.word(TICKET);
         closed.free();
         (best, next)
     }

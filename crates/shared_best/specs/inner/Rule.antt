@@ -1,5 +1,5 @@
 -- The rule that the two words keep, with the views of all seats.
-use Rattle.std.specs.Prelude.{◌≡◌, ℕ, ◌≤◌, false, true, List, [], ◌∷◌, length, min, sum_by}
+use Rattle.std.specs.Prelude.{◌≡◌, ℕ, ◌≤◌, false, true, List, [], ◌∷◌, ◌++◌, length, min, replicate, sum_by}
 use mathlib.Core.Option.{some}
 use lib.ListN.{get_elem?}
 use Rattle.atomic_table.specs.Table.{State}
@@ -30,9 +30,13 @@ pub record Sound (first best next : ℕ) (views : List View) : Type 0 where
   pub shares : sum_by share views ≡ all_draws
   pub each : (j : ℕ) (v : View) → get_elem? views j ≡ some v → Fits first best v
 
+-- the words of the table: the best loss and the next ticket, with 16 words before them and 14 behind them that are not used
+abbrev pub all_words : ℕ → ℕ → List ℕ
+all_words best next = replicate 16 0 ++ best ∷ next ∷ replicate 14 0
+
 -- the words are the best loss and the next ticket
 pub record Kept (first : ℕ) (s : State ℕ View) : Type 0 where
   pub best : ℕ
   pub next : ℕ
-  pub words : s.words ≡ best ∷ next ∷ []
+  pub words : s.words ≡ all_words best next
   pub sound : Sound first best next s.views
