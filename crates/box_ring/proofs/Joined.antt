@@ -6,7 +6,7 @@ use Rattle.plan_box.specs.declared.frame.Frame.{Frame}
 use Rattle.plan_box.specs.Ranges.{PlainBox}
 use Rattle.box_ring.specs.declared.tally.Tally.{Tally}
 use Rattle.box_ring.specs.Tallies.{IsWhole, HasRest, AllWhole}
-use Rattle.box_ring.specs.Arms.{Deque, ArmState, frame, first_or, Links, IsRing, AllOfFrame, put, taken}
+use Rattle.box_ring.specs.Arms.{Deque, ArmState, frame, first_or, Links, IsRing, AllOfFrame, deques_put, deques_taken}
 use Rattle.box_ring.specs.Gathers.{all_put, all_taken, IsFramed, AllFramed, Gathers}
 use Rattle.box_ring.specs.inner.Rule.{both_tallies}
 use Rattle.box_ring.specs.inner.Rings.{Completes}
@@ -22,8 +22,8 @@ Waits (Some e) rest d t = (e ≡ first_or rest d) × (t.parts ≡ 1) × Links re
 pub record Joins (all rest : List ArmState) (d : Deque) (t : Tally) (next : Option Deque) (o : Tally) (ts : List Tally) : Type 0 where
   pub waits : Waits next rest d t
   pub whole : AllWhole ts
-  pub put_is : (h : PlainBox → ℕ) → sum_by (put h) rest + sum_by h t.put + all_put h ts + sum_by h o.put ≡ sum_by (put h) all
-  pub taken_is : (h : PlainBox → ℕ) → sum_by (taken h) rest + sum_by h t.taken + all_taken h ts + sum_by h o.taken ≡ sum_by (taken h) all
+  pub put_is : (h : PlainBox → ℕ) → sum_by (deques_put h) rest + sum_by h t.put + all_put h ts + sum_by h o.put ≡ sum_by (deques_put h) all
+  pub taken_is : (h : PlainBox → ℕ) → sum_by (deques_taken h) rest + sum_by h t.taken + all_taken h ts + sum_by h o.taken ≡ sum_by (deques_taken h) all
   pub framed : (f : Frame) → AllOfFrame f all → AllFramed f ts × AllOfFrame f rest × IsFramed f t
 
 not_empty : {A : Type 0} (xs : List A) (x : A) → xs ++ x ∷ [] ≡ [] → ⊥
@@ -131,6 +131,12 @@ joins_next all rest xs x d c t v y w next o ts now e a b g s m both whole r j =
 pub whole_last : (all rest : List ArmState) (d : Deque) (t y : Tally) (next : Option Deque) (o : Tally) (ts now : List Tally) → now ≡ ts ++ y ∷ [] → IsWhole y → HasRest y → Joins all rest d t next o ts → AllWhole now
 whole_last all rest d t y next o ts now m w r j = whole_add now ts y m j.whole w r
 
+-- the boxes that were pushed and popped at once count on both sides
+with_passed : (f : ArmState → ℕ) (h : PlainBox → ℕ) (xs : List ArmState) → sum_by (λ (a : ArmState). f a + sum_by h a.passed) xs ≡ sum_by f xs + sum_by (λ (a : ArmState). sum_by h a.passed) xs
+with_passed f h [] = refl
+with_passed f h (x ∷ xs) =
+    let i = with_passed f h xs in let a = sum_by-cons (λ (a : ArmState). f a + sum_by h a.passed) x xs in let b = sum_by-cons f x xs in let c = sum_by-cons (λ (a : ArmState). sum_by h a.passed) x xs in omega arith
+
 -- no arm is left, and the last deque is whole
 pub gathers_last : (all rest : List ArmState) (d : Deque) (t y : Tally) (next : Option Deque) (o : Tally) (ts now : List Tally) → rest ≡ [] → now ≡ ts ++ y ∷ [] → y ≡ both_tallies t o → IsWhole y → HasRest y
     → Joins all rest d t next o ts → Gathers all now
@@ -138,6 +144,7 @@ gathers_last all rest d t y next o ts now e m both w r j = record {
   some = some_left now (whole_last all rest d t y next o ts now m w r j);
   weighs = λ xs left h. (let l = left h in
       let p = last_sum (λ v. v.put) h rest t y o ts now _ e m (put_sum h t o y both) (j.put_is h) in
-      let q = last_sum (λ v. v.taken) h rest t y o ts now _ e m (taken_sum h t o y both) (j.taken_is h) in omega arith);
+      let q = last_sum (λ v. v.taken) h rest t y o ts now _ e m (taken_sum h t o y both) (j.taken_is h) in
+      let c = with_passed (deques_put h) h all in let d = with_passed (deques_taken h) h all in omega arith);
   frame = λ f a. (let i = j.framed f a in framed_add f now ts y m i.0 (both_framed f t o y both i.2));
 }

@@ -71,6 +71,7 @@ new_fresh d v w next f e g = record {
   other_taken = ap (λ (k : Tally). k.taken) g;
   misses = refl;
   missed = refl;
+  passed = refl;
 }
 
 pub stays_none : (a : ArmState) → Stays a a

@@ -1,5 +1,5 @@
 -- Arms of a ring as contracts see them.
-use Rattle.std.specs.Prelude.{◌≡◌, ℕ, ◌+◌, Bool, true, false, if◌then◌else◌, List, [], ◌∷◌, min, sum_by, Option, Some, None}
+use Rattle.std.specs.Prelude.{◌≡◌, ℕ, ◌+◌, Bool, true, false, if◌then◌else◌, List, [], ◌∷◌, ◌++◌, min, sum_by, Option, Some, None}
 use Rattle.std.proofs.Common.{Global}
 use Rattle.atomic_blocks.specs.Lent.{RowsId}
 use Rattle.plan_box.specs.declared.frame.Frame.{Frame}
@@ -12,7 +12,7 @@ abbrev pub Deque : Type 0
 Deque = RowsId × Global
 
 -- an arm: its own deque and what it knows of it, the deque that it steals from, if there is one, and what it knows of that; how often it
--- missed since the last box, and whether its last call was a pop that gave none
+-- missed since the last box, whether its last call was a pop that gave none, and the boxes that it pushed and popped at once
 pub record ArmState : Type 0 where
   pub deque : Deque
   pub own : Tally
@@ -20,6 +20,7 @@ pub record ArmState : Type 0 where
   pub other : Tally
   pub misses : ℕ
   pub missed : Bool
+  pub passed : List PlainBox
 
 -- the frame of all boxes of its ring
 abbrev pub frame : ArmState → Frame
@@ -27,11 +28,15 @@ frame a = a.own.frame
 
 -- an arm of which nothing was asked yet, by its deques and what it knows of them
 abbrev pub new_arm : Deque → Tally → Option Deque → Tally → ArmState
-new_arm d v next w = record { deque = d; own = v; next = next; other = w; misses = 0; missed = false }
+new_arm d v next w = record { deque = d; own = v; next = next; other = w; misses = 0; missed = false; passed = [] }
 
 -- after a push of this box
 abbrev pub after_push : ArmState → PlainBox → ArmState
 after_push a x = record a { own = putting a.own (x ∷ []); missed = false }
+
+-- after this box was pushed and popped at once
+abbrev pub after_push_pop : ArmState → PlainBox → ArmState
+after_push_pop a x = record a { misses = 0; missed = false; passed = a.passed ++ x ∷ [] }
 
 -- after a push that was refused
 abbrev pub after_refusal : ArmState → ArmState
@@ -97,16 +102,25 @@ pub record IsFresh (a : ArmState) : Type 0 where
   pub other_taken : a.other.taken ≡ []
   pub misses : a.misses ≡ 0
   pub missed : a.missed ≡ false
+  pub passed : a.passed ≡ []
 
 -- the same of each arm
 abbrev pub AllFresh : List ArmState → Type 0
 AllFresh [] = Unit {0}
 AllFresh (a ∷ rest) = IsFresh a × AllFresh rest
 
--- what the boxes weigh that an arm has put
-abbrev pub put : (PlainBox → ℕ) → ArmState → ℕ
-put h a = sum_by h a.own.put + sum_by h a.other.put
+-- what the boxes weigh that an arm has put into the two deques
+abbrev pub deques_put : (PlainBox → ℕ) → ArmState → ℕ
+deques_put h a = sum_by h a.own.put + sum_by h a.other.put
 
--- what the boxes weigh that an arm has taken
+-- what the boxes weigh that an arm has taken from the two deques
+abbrev pub deques_taken : (PlainBox → ℕ) → ArmState → ℕ
+deques_taken h a = sum_by h a.own.taken + sum_by h a.other.taken
+
+-- what the boxes weigh that an arm has put, with those that it took at once
+abbrev pub put : (PlainBox → ℕ) → ArmState → ℕ
+put h a = deques_put h a + sum_by h a.passed
+
+-- what the boxes weigh that an arm has taken, with those that it had put just before
 abbrev pub taken : (PlainBox → ℕ) → ArmState → ℕ
-taken h a = sum_by h a.own.taken + sum_by h a.other.taken
+taken h a = deques_taken h a + sum_by h a.passed

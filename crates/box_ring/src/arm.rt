@@ -3,8 +3,9 @@ ghost use Rattle.std.specs.Prelude.{◌≡◌, ◌<◌, true};
 ghost use Rattle.crossbeam_deque.specs.Handles.{worker_view};
 ghost use Rattle.box_ring.specs.inner.Neighbours.{IsAlike};
 
-use crate::deque::{Boxes, pop, push};
+use crate::deque::{Boxes, is_empty, pop, push};
 use crate::neighbour::Neighbour;
+use http_server::Log;
 use plan_box::PlanBox;
 use std::marker::Model;
 use std::sync::Wait;
@@ -21,26 +22,29 @@ pub struct Arm {
     misses: u64,
     /// Whether the last call was a pop that gave None.
     missed: bool,
+    /// The boxes that were pushed and popped at once. It takes no memory: contracts alone read it.
+    passed: Log<PlanBox, ()>,
     ghost part: { 0 < (worker_view own).parts },
     ghost framed: { (worker_view own).framed ≡ true },
     ghost alike: { IsAlike (worker_view own).frame other },
 }
 
 impl Model for Arm {
+    ghost use Rattle.std.specs.Prelude.{map};
     ghost use Rattle.crossbeam_deque.specs.Handles.{worker_deque, worker_view};
     ghost use Rattle.box_ring.specs.Arms.{ArmState};
     ghost use Rattle.box_ring.specs.inner.Neighbours.{deque_of, tally_of};
 
     ghost Value = { ArmState };
 
-    ghost view = { λ a. record { deque = worker_deque a.own; own = worker_view a.own; next = deque_of a.other; other = tally_of a.other; misses = a.misses; missed = a.missed } };
+    ghost view = { λ a. record { deque = worker_deque a.own; own = worker_view a.own; next = deque_of a.other; other = tally_of a.other; misses = a.misses; missed = a.missed; passed = map (λ p. p.0) a.passed.items } };
 }
 
 impl Arm {
-    ghost use Rattle.std.specs.Prelude.{◌≡◌, ◌<◌, true, MatchOption, OnOk, IfErr, IfSome, IfNone, ⊤};
+    ghost use Rattle.std.specs.Prelude.{◌≡◌, ◌<◌, true, MatchOption, OnOk, IfErr, IfSome, IfNone, IsTrue, ⊤};
     ghost use Rattle.crossbeam_deque.specs.Handles.{worker_deque, worker_view};
     ghost use Rattle.box_ring.specs.Tallies.{FoundFew, IsWhole, HasRest};
-    ghost use Rattle.box_ring.specs.Arms.{new_arm, frame, after_push, after_refusal, after_pop, after_no_pop, after_steal, after_no_steal, Stays};
+    ghost use Rattle.box_ring.specs.Arms.{new_arm, frame, after_push, after_push_pop, after_refusal, after_pop, after_no_pop, after_steal, after_no_steal, Stays};
     ghost use Rattle.box_ring.specs.inner.Neighbours.{IsAlike, deque_of, tally_of};
 
     /// A new arm over its own deque and the way to the next one.
@@ -54,6 +58,7 @@ impl Arm {
             other,
             misses: 0,
             missed: false,
+            passed: Log::new(),
         }
     }
 
@@ -67,6 +72,20 @@ impl Arm {
     {
         self.missed = false;
         push(&mut self.own, bx)
+    }
+
+    /// Pushes a box and pops it at once, as a call of its own. No other worker could tell whether the box was in the deque in between; so
+    /// the deque is left alone, and no memory is taken. The box must have the ring's frame.
+    pub fn push_pop(&mut self, bx: PlanBox) -> PlanBox
+        requires { bx.frame ≡ frame self.old }
+        ensures same { result ≡ bx }
+        ensures arm { self.new ≡ after_push_pop self.old bx }
+        ensures stays { Stays self.old self.new }
+    {
+        self.misses = 0;
+        self.missed = false;
+        self.passed = self.passed.and(&bx, &());
+        bx
     }
 
     /// Takes the last box of the arm's own deque, which has the ring's frame. None only where that deque held no box at a step of this
@@ -89,6 +108,14 @@ impl Arm {
                 None
             }
         }
+    }
+
+    /// Whether the arm's own deque held no box at a step of this call.
+    pub fn is_empty(&mut self) -> bool
+        ensures same { self.new ≡ self.old }
+        ensures found { IsTrue result → FoundFew 0 self.old.own }
+    {
+        is_empty(&mut self.own)
     }
 
     /// Takes the first box of the next arm's deque, which has the ring's frame. None only where that deque held at most one box at a
@@ -131,6 +158,7 @@ impl Arm {
             other,
             misses: _,
             missed: _,
+            passed: _,
         } = self;
         (own, other)
     }

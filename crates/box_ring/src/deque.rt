@@ -1,9 +1,9 @@
 //! One deque of boxes: its owner pushes and pops at the back, and one thief takes at the front.
-ghost use Rattle.std.specs.Prelude.{◌≡◌, ◌<◌, [], ◌∷◌, MatchOption, MatchResult, true, IfOk};
+ghost use Rattle.std.specs.Prelude.{◌≡◌, ◌<◌, [], ◌∷◌, MatchOption, MatchResult, true, IfOk, IsTrue};
 ghost use Rattle.crossbeam_deque.specs.Handles.{view, IsPassOf, SamePass, SameWorker, worker_deque, stealer_deque, worker_view};
 ghost use Rattle.plan_box.specs.Frames.{IsFrame};
 ghost use Rattle.box_ring.specs.Tallies.{Balanced, FoundFew, HasRest, all_parts, no_tally, putting};
-ghost use Rattle.box_ring.specs.inner.Rule.{PutThen, TakeThen, SeedThen, UnseedThen, TotalFact, owner_tally, thief_tally, both_tallies, blank_tally, ready_tally};
+ghost use Rattle.box_ring.specs.inner.Rule.{PutThen, TakeThen, SeedThen, UnseedThen, TotalFact, NumberFact, owner_tally, thief_tally, both_tallies, blank_tally, ready_tally};
 
 use crate::tally::Tally;
 use crossbeam_deque::protocol::{Join, Lesson, Outcome, Protocol, Split};
@@ -89,6 +89,13 @@ impl Lesson<PlanBox, Tally> for Total {
     ghost fact = { TotalFact };
 }
 
+/// What the number of boxes tells.
+struct Number;
+
+impl Lesson<PlanBox, Tally> for Number {
+    ghost fact = { NumberFact };
+}
+
 /// The owner's end of a deque, with its part of the pass.
 pub(crate) type Boxes = Worker<PlanBox, Global, Tally, Counted>;
 
@@ -131,6 +138,15 @@ pub(crate) fn pop(deque: &mut Boxes) -> Option<PlanBox>
     ensures rule { MatchOption result ((worker_view deque.new ≡ worker_view deque.old) × FoundFew 0 (worker_view deque.old)) (λ x. TakeThen (worker_view deque.old) (x ∷ []) (worker_view deque.new)) }
 {
     deque.pop_as::<Pops>()
+}
+
+/// Whether the deque holds no box.
+pub(crate) fn is_empty(deque: &mut Boxes) -> bool
+    ensures same { SameWorker deque.old deque.new }
+    ensures view { worker_view deque.new ≡ worker_view deque.old }
+    ensures found { IsTrue result → FoundFew 0 (worker_view deque.old) }
+{
+    deque.len_as::<Number>() == 0
 }
 
 /// Takes the first box. Asks again while another thread was faster.

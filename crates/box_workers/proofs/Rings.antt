@@ -46,12 +46,14 @@ frames_stay f (x ∷ xs) (y ∷ ys) s a = (s.0.frame ∙ a.0, frames_stay f xs y
 fresh_put : (weight : PlainBox → ℕ) (xs : List ArmState) → AllFresh xs → sum_by (put weight) xs ≡ 0
 fresh_put weight [] a = refl
 fresh_put weight (x ∷ xs) a =
-    let i = fresh_put weight xs a.1 in let c = sum_by-cons (put weight) x xs in let p = ap (sum_by weight) a.0.own_put in let q = ap (sum_by weight) a.0.other_put in omega arith
+    let i = fresh_put weight xs a.1 in let c = sum_by-cons (put weight) x xs in let p = ap (sum_by weight) a.0.own_put in let q = ap (sum_by weight) a.0.other_put in
+    let r = ap (sum_by weight) a.0.passed in omega arith
 
 fresh_taken : (weight : PlainBox → ℕ) (xs : List ArmState) → AllFresh xs → sum_by (taken weight) xs ≡ 0
 fresh_taken weight [] a = refl
 fresh_taken weight (x ∷ xs) a =
-    let i = fresh_taken weight xs a.1 in let c = sum_by-cons (taken weight) x xs in let p = ap (sum_by weight) a.0.own_taken in let q = ap (sum_by weight) a.0.other_taken in omega arith
+    let i = fresh_taken weight xs a.1 in let c = sum_by-cons (taken weight) x xs in let p = ap (sum_by weight) a.0.own_taken in let q = ap (sum_by weight) a.0.other_taken in
+    let r = ap (sum_by weight) a.0.passed in omega arith
 
 -- workers that got boxes
 dealt_stays : (ms ns : List Member) → EachDealt ms ns → EachStays (arms_of ms) (arms_of ns)

@@ -1,13 +1,13 @@
 //! The work of one worker beside others.
-ghost use Rattle.std.specs.Prelude.{◌≡◌, ℕ, ◌+◌, ◌≤◌, ◌<◌, ◌∷◌, [], length, IfOk, IfSome, MatchBool, MatchOption, option_to_list};
+ghost use Rattle.std.specs.Prelude.{◌≡◌, ℕ, ◌+◌, ◌-◌, ◌≤◌, ◌<◌, ◌++◌, ◌∷◌, [], All, length, IfOk, OnOk, IfSome, IfNone, MatchBool, option_to_list};
+ghost use Rattle.std.specs.VecDeque.{deque_len, deque_capacity};
 ghost use Rattle.plan_box.specs.Frames.{frame_of};
+ghost use Rattle.plan_box.specs.Ranges.{PlainBox};
 ghost use Rattle.box_bound.specs.Leastings.{IsOf};
-ghost use Rattle.box_levels.specs.Events.{Event, made_by};
 ghost use Rattle.box_ring.specs.Arms.{frame, Stays};
 ghost use Rattle.shared_best.specs.Seats.{IsSeatOf};
-ghost use Rattle.box_workers.specs.Handling.{Handles};
 ghost use Rattle.box_workers.specs.Works.{Works};
-ghost use Rattle.box_workers.specs.inner.Rounds.{Takes, Puts, Leaves, Stops};
+ghost use Rattle.box_workers.specs.inner.Rounds.{Moves, Turns, Leaves, Stops};
 
 use crate::gate::Gate;
 use crate::hand::Hand;
@@ -20,6 +20,7 @@ use glass_base::{Instance, Memory};
 use plan_box::PlanBox;
 use shared_best::{Seat, SharedBest};
 use std::alloc::Global;
+use std::collections::VecDeque;
 use std::sync::Wait;
 
 /// After so many turns in a row without a box a worker rests.
@@ -34,32 +35,76 @@ pub enum Rest {
     Spent,
 }
 
-/// A box of the arm's own deque, or else one of the next arm's.
-fn take<R: Wait>(rt: &R, arm: &mut Arm) -> Option<PlanBox>
+/// Takes the box that came to those at hand last; else pops one of the arm's own deque, or else steals one of the next arm's.
+fn find<R: Wait>(rt: &R, arm: &mut Arm, at_hand: &mut VecDeque<PlanBox>) -> Option<PlanBox>
+    requires frames { All (λ (x : PlainBox). x.frame ≡ frame arm.old) at_hand.old.items }
     ensures stays { Stays arm.old arm.new }
-    ensures takes { Takes (option_to_list result) arm.old arm.new }
-    ensures misses { arm.old.misses < 100000 → MatchOption result (arm.new.misses ≡ arm.old.misses + 1) (λ _. arm.new.misses ≡ 0) }
+    ensures moves { Moves at_hand.old.items at_hand.new.items (option_to_list result) arm.old arm.new }
+    ensures frames { All (λ (x : PlainBox). x.frame ≡ frame arm.new) at_hand.new.items }
+    ensures misses { arm.old.misses < 100000 → IfNone result (arm.new.misses ≡ arm.old.misses + 1) }
     ensures frame { IfSome result (λ x. x.frame ≡ frame arm.old) }
 {
+    if let Some(bx) = at_hand.pop_back() {
+        return Some(arm.push_pop(bx));
+    }
     if let Some(bx) = arm.pop() {
         return Some(bx);
     }
     arm.steal(rt)
 }
 
-/// Pushes the halves of a box. The box that was pushed last is popped first: so the lower half before the upper one.
-fn push_halves(arm: &mut Arm, lower: PlanBox, upper: PlanBox) -> Result<(), Memory>
-    requires { (lower.frame ≡ frame arm.old) × (upper.frame ≡ frame arm.old) }
+/// Pushes the box that has been at hand longest, if there is one.
+fn push_oldest(arm: &mut Arm, at_hand: &mut VecDeque<PlanBox>) -> Result<(), Memory>
+    requires frames { All (λ (x : PlainBox). x.frame ≡ frame arm.old) at_hand.old.items }
     ensures stays { Stays arm.old arm.new }
-    ensures puts { IfOk result (λ _. Puts (lower ∷ upper ∷ []) arm.old arm.new) }
+    ensures moves { OnOk result (Moves at_hand.old.items at_hand.new.items [] arm.old arm.new) }
+    ensures frames { All (λ (x : PlainBox). x.frame ≡ frame arm.new) at_hand.new.items }
+    ensures len { deque_len at_hand.new ≡ deque_len at_hand.old - 1 }
+    ensures misses { arm.new.misses ≡ arm.old.misses }
 {
-    let Ok(()) = arm.push(upper) else {
-        return Err(Memory);
+    let Some(bx) = at_hand.pop_front() else {
+        return Ok(());
     };
-    let Ok(()) = arm.push(lower) else {
-        return Err(Memory);
-    };
+    match arm.push(bx) {
+        Ok(()) => Ok(()),
+        Err(_) => Err(Memory),
+    }
+}
+
+/// Pushes a box where the deque holds none, so that there is one to steal.
+fn offer(arm: &mut Arm, at_hand: &mut VecDeque<PlanBox>) -> Result<(), Memory>
+    requires frames { All (λ (x : PlainBox). x.frame ≡ frame arm.old) at_hand.old.items }
+    ensures stays { Stays arm.old arm.new }
+    ensures moves { OnOk result (Moves at_hand.old.items at_hand.new.items [] arm.old arm.new) }
+    ensures frames { All (λ (x : PlainBox). x.frame ≡ frame arm.new) at_hand.new.items }
+{
+    if at_hand.is_empty() || !arm.is_empty() {
+        return Ok(());
+    }
+    push_oldest(arm, at_hand)
+}
+
+/// Pushes all boxes that are at hand.
+fn push_all(arm: &mut Arm, at_hand: VecDeque<PlanBox>) -> Result<(), Memory>
+    requires frames { All (λ (x : PlainBox). x.frame ≡ frame arm.old) at_hand.items }
+    ensures stays { Stays arm.old arm.new }
+    ensures moves { OnOk result (Moves at_hand.items [] [] arm.old arm.new) }
+    ensures misses { arm.new.misses ≡ arm.old.misses }
+{
+    let mut at_hand = at_hand;
+    while !at_hand.is_empty() {
+        push_oldest(arm, &mut at_hand)?;
+    }
     Ok(())
+}
+
+/// Puts the halves of a box to the boxes at hand. The box that came last is handled first: so the lower half before the upper one.
+fn put_halves(at_hand: &mut VecDeque<PlanBox>, lower: PlanBox, upper: PlanBox)
+    requires { deque_len at_hand.old + 2 ≤ deque_capacity at_hand.old }
+    ensures { at_hand.new.items ≡ at_hand.old.items ++ upper ∷ lower ∷ [] }
+{
+    at_hand.push_back_reserved(upper);
+    at_hand.push_back_reserved(lower);
 }
 
 /// Leaves a box open, with its bound.
@@ -76,7 +121,7 @@ fn leave_open(instance: &Instance, hand: &mut Hand, bx: PlanBox)
     hand.left.put(Left { bx, bound });
 }
 
-/// Handles a box, and pushes its halves. Where the budget is spent the box is left open; that is told by `false`.
+/// Handles a box, and puts its halves to the boxes at hand. Where the budget is spent the box is left open; that is told by `false`.
 fn turn<G: Gate>(
     alloc: Global,
     instance: &Instance,
@@ -85,13 +130,13 @@ fn turn<G: Gate>(
     seat: &mut Seat,
     hand: &mut Hand,
     starts: u64,
-    arm: &mut Arm,
+    at_hand: &mut VecDeque<PlanBox>,
     bx: PlanBox,
     gate: &G,
 ) -> Result<bool, Memory>
     requires map { map.now ≡ instance.now.defects }
     requires frame { bx.frame ≡ frame_of instance.now }
-    requires ring { frame arm.old ≡ frame_of instance.now }
+    requires frames { All (λ (x : PlainBox). x.frame ≡ frame_of instance.now) at_hand.old.items }
     requires leasts { IsOf instance.now hand.old.leasts }
     requires scratch { length hand.old.scratch.steps.items ≡ length instance.now.items }
     requires room { 1 ≤ hand.old.left.spare }
@@ -101,14 +146,15 @@ fn turn<G: Gate>(
     ensures seat { IsSeatOf shared.now seat.new }
     ensures scratch { length hand.new.scratch.steps.items ≡ length instance.now.items }
     ensures leasts { IsOf instance.now hand.new.leasts }
-    ensures stays { Stays arm.old arm.new }
-    ensures turns { IfOk result (λ more. MatchBool more ((e : Event) × Handles instance.now shared.now bx seat.old seat.new hand.old hand.new e × Puts (made_by starts e) arm.old arm.new) (Stops instance.now shared.now bx seat.old seat.new hand.old hand.new × (arm.new ≡ arm.old))) }
+    ensures frames { OnOk result (All (λ (x : PlainBox). x.frame ≡ frame_of instance.now) at_hand.new.items) }
+    ensures turns { IfOk result (λ more. MatchBool more (Turns instance.now shared.now starts bx seat.old seat.new hand.old hand.new at_hand.old.items at_hand.new.items) (Stops instance.now shared.now bx seat.old seat.new hand.old hand.new × (at_hand.new.items ≡ at_hand.old.items))) }
 {
+    at_hand.reserve(2)?;
     gate.pass(hand.worker, bx.id());
     match handle(alloc, instance, map, shared, seat, hand, starts, bx) {
         Ok(Done::Closed) => Ok(true),
         Ok(Done::Split(lower, upper)) => {
-            push_halves(arm, lower, upper)?;
+            put_halves(at_hand, lower, upper);
             Ok(true)
         }
         Ok(Done::Spent(bx)) => {
@@ -123,14 +169,17 @@ fn turn<G: Gate>(
 /// one from the next worker's; the box passes the gate and is handled, and its halves are pushed. After a turn without a box the gate is
 /// told so.
 ///
+/// Boxes that it will pop again itself are kept at hand: those are pushed and popped at once when their turn comes. Only where its deque
+/// is found empty the oldest of them is pushed, so that another worker can steal it, and at the end all that are left.
+///
 /// It rests, `Spent`, where a ticket that it drew reached the budget: then the box that it was drawn for is left open in the hand. It
 /// rests, `Idle`, where the arm has missed 100,000 times in a row.
 ///
 /// The ring must be for boxes of this instance, the arm must not have missed yet, and the seat must be free to draw more tickets than the
 /// budget has. `starts` is the number of start boxes, as for `handle`.
 ///
-/// Only want of memory is refused: seat, hand and arm are then as the turns before left them, but a box in hand may be lost. It may wait
-/// for another thread, which is at the same deque.
+/// Only want of memory is refused: seat, hand and arm are then as the turns before left them, but the boxes at hand may be lost. It may
+/// wait for another thread, which is at the same deque.
 pub fn work<R: Wait, G: Gate>(
     rt: &R,
     alloc: Global,
@@ -160,17 +209,30 @@ pub fn work<R: Wait, G: Gate>(
     // Read for its range.
     let _best = hand.loss;
     hand.left.reserve(1)?;
+    let mut at_hand = VecDeque::new(alloc);
     while arm.misses() < IDLE_TURNS {
-        match take(rt, arm) {
+        match find(rt, arm, &mut at_hand) {
             None => gate.idle(hand.worker),
             Some(bx) => {
+                offer(arm, &mut at_hand)?;
                 if !turn(
-                    alloc, instance, map, shared, seat, hand, starts, arm, bx, gate,
+                    alloc,
+                    instance,
+                    map,
+                    shared,
+                    seat,
+                    hand,
+                    starts,
+                    &mut at_hand,
+                    bx,
+                    gate,
                 )? {
+                    push_all(arm, at_hand)?;
                     return Ok(Rest::Spent);
                 }
             }
         }
     }
+    push_all(arm, at_hand)?;
     Ok(Rest::Idle)
 }

@@ -85,6 +85,26 @@ fn a_ring_hands_its_boxes_on(rt: HostRuntime) -> Result<(), Fail> {
     Ok(())
 }
 
+#[test]
+fn a_box_that_is_popped_at_once_comes_into_no_deque(rt: HostRuntime) -> Result<(), Fail> {
+    let (mut first, mut second) = pair(rt.alloc())?;
+    let missed = [identity(first.pop()), identity(first.steal(&rt))];
+    assert_eq!(rt; (missed, first.misses()), ([None, None], 1));
+    let bx = first.push_pop(PlanBox::of_frame(rt.alloc(), FRAME, 7));
+    assert_eq!(rt; (bx.id(), first.misses()), (7, 0));
+    assert_eq!(rt;
+        (first.is_empty(), identity(second.steal(&rt))),
+        (true, None)
+    );
+    push(rt.alloc(), &mut first, 8)?;
+    assert_eq!(rt;
+        (first.is_empty(), identity(second.steal(&rt))),
+        (false, Some(8))
+    );
+    assert_eq!(rt; first.is_empty(), true);
+    Ok(())
+}
+
 /// Pushes two boxes.
 fn push_two(alloc: Global, arm: Arm) -> Result<Arm, Fail>
     requires { frame_at arm ≡ FRAME }

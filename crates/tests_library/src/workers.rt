@@ -48,7 +48,7 @@ fn worked<R: Wait>(
     alloc: Global,
     instance: &Instance,
     budget: u64,
-) -> Result<(Rest, Hand), Fail>
+) -> Result<(Rest, Hand, Arm), Fail>
     requires { budget ≤ 10000000 }
 {
     let map = DefectMap::new(alloc, instance)?;
@@ -58,7 +58,7 @@ fn worked<R: Wait>(
     let rest = work(
         rt, alloc, instance, &map, &shared, &mut seat, &mut hand, 1, &mut arm, &OpenGate,
     )?;
-    Ok((rest, hand))
+    Ok((rest, hand, arm))
 }
 
 /// The ticket and the identity of the note in this place.
@@ -74,12 +74,17 @@ fn left(hand: &Hand, place: usize) -> Option<u64> {
     hand.left.as_slice().get(place).map(|left| left.bx.id())
 }
 
+/// The identity of the last box in the arm's deque.
+fn popped(arm: &mut Arm) -> Option<u64> {
+    arm.pop().map(|bx| bx.id())
+}
+
 // The stack is a single number from the start, turn, kind and lift are not; so the first boxes are all undecided, each is split, and its
-// lower half is handled next.
+// lower half is handled next. The upper halves are in the deque behind it, in the order in which they were made.
 #[test]
 fn a_worker_rests_where_the_budget_is_spent(rt: HostRuntime) -> Result<(), Fail> {
     let instance = small(rt.alloc())?;
-    let (rest, hand) = worked(&rt, rt.alloc(), &instance, 3)?;
+    let (rest, hand, mut arm) = worked(&rt, rt.alloc(), &instance, 3)?;
     let notes = [
         noted(&hand, 0),
         noted(&hand, 1),
@@ -89,5 +94,12 @@ fn a_worker_rests_where_the_budget_is_spent(rt: HostRuntime) -> Result<(), Fail>
     assert_eq!(rt; rest, Rest::Spent);
     assert_eq!(rt; notes, [Some((0, 0)), Some((1, 1)), Some((2, 3)), None]);
     assert_eq!(rt; [left(&hand, 0), left(&hand, 1)], [Some(5), None]);
+    let waiting = [
+        popped(&mut arm),
+        popped(&mut arm),
+        popped(&mut arm),
+        popped(&mut arm),
+    ];
+    assert_eq!(rt; waiting, [Some(6), Some(4), Some(2), None]);
     Ok(())
 }

@@ -1,9 +1,9 @@
 -- What each kind of step does to the tally of the one who makes it.
-use Rattle.std.specs.Prelude.{◌≡◌, ◌+◌, ◌-◌, true, false, List, [], ◌∷◌, ◌++◌}
+use Rattle.std.specs.Prelude.{◌≡◌, ◌+◌, ◌-◌, true, false, List, [], ◌∷◌, ◌++◌, length}
 use Rattle.plan_box.specs.Ranges.{PlainBox}
 use Rattle.plan_box.specs.declared.frame.Frame.{Frame}
 use Rattle.box_ring.specs.declared.tally.Tally.{Tally}
-use Rattle.box_ring.specs.Tallies.{tally, no_frame, all_parts, putting, taking, AreOfFrame, IsWhole, HasRest, Rests}
+use Rattle.box_ring.specs.Tallies.{tally, no_frame, all_parts, putting, taking, AreOfFrame, IsWhole, HasRest, Rests, FoundFew}
 
 -- a new deque's whole pass, before the frame is known
 abbrev pub blank_tally : Tally
@@ -39,6 +39,10 @@ UnseedThen v xs w = w ≡ ready_tally v.frame
 -- who has the whole pass has taken all that it put but what the deque holds
 abbrev pub TotalFact : Tally → List PlainBox → Type 0
 TotalFact v xs = IsWhole v → Rests v xs
+
+-- the deque was found to hold so many boxes
+abbrev pub NumberFact : Tally → List PlainBox → Type 0
+NumberFact v xs = FoundFew (length xs) v
 
 -- what the owner keeps when the pass is split
 abbrev pub owner_tally : Tally → Tally

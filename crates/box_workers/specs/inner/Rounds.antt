@@ -57,12 +57,12 @@ pub record Stops (b : Problem) (w : Words) (x : PlainBox) (s t : Seated) (old ne
   pub seat : t.view ≡ drawn s.view ticket
   pub leaves : Leaves b x old new
 
--- an arm took these boxes, and put none
-pub record Takes (xs : List PlainBox) (old new : ArmState) : Type 0 where
-  pub puts : (weight : PlainBox → ℕ) → put weight new ≡ put weight old
-  pub takes : (weight : PlainBox → ℕ) → taken weight new ≡ taken weight old + sum_by weight xs
+-- of the boxes at hand an arm put those that are at hand no more, and it took these
+pub record Moves (before after : List PlainBox) (took : List PlainBox) (old new : ArmState) : Type 0 where
+  pub puts : (weight : PlainBox → ℕ) → put weight new + sum_by weight after ≡ put weight old + sum_by weight before
+  pub takes : (weight : PlainBox → ℕ) → taken weight new ≡ taken weight old + sum_by weight took
 
--- an arm put these boxes, and took none
-pub record Puts (xs : List PlainBox) (old new : ArmState) : Type 0 where
-  pub puts : (weight : PlainBox → ℕ) → put weight new ≡ put weight old + sum_by weight xs
-  pub takes : (weight : PlainBox → ℕ) → taken weight new ≡ taken weight old
+-- so far a worker handled these boxes: their halves are what its arm put and what is at hand; the boxes are what its arm took
+pub record Midway (starts : ℕ) (old new : ArmState) (es : List Event) (at_hand : List PlainBox) : Type 0 where
+  pub puts : (weight : PlainBox → ℕ) → put weight new + sum_by weight at_hand ≡ put weight old + sum_by (λ (e : Event). sum_by weight (made_by starts e)) es
+  pub takes : (weight : PlainBox → ℕ) → taken weight new ≡ taken weight old + sum_by (λ (e : Event). weight e.box) es

@@ -1,20 +1,20 @@
-use Rattle.std.proofs.Common.{rules, ◌≡◌, ◌∷◌, ◌++◌, ◌≤◌, List, [], append-nil, inl, refl, sym, ap, ◌∙◌, arith}
+use Rattle.std.proofs.Common.{rules, ◌≡◌, ◌∷◌, ◌++◌, ◌≤◌, List, [], append-nil, inl, refl, sym, ap, ◌∙◌, subst, arith}
 use Rattle.plan_box.specs.Frames.{frame_of}
+use Rattle.plan_box.specs.Ranges.{PlainBox}
 use Rattle.cert_log.specs.declared.history.Left.{Left}
 use Rattle.cert_log.specs.Lawful.{no_loss}
-use Rattle.box_levels.specs.Events.{Event, made_by}
 use Rattle.box_ring.proofs.Rows.{stays_none, stays_twice}
-use Rattle.box_workers.specs.Handling.{Handles}
 use Rattle.box_workers.specs.Works.{left_open}
-use Rattle.box_workers.specs.inner.Rounds.{Takes, Puts, Stops}
+use Rattle.box_workers.specs.inner.Rounds.{Moves, Midway, Turns, Stops}
 use Rattle.box_workers.proofs.Progress.{few_push}
 use Rattle.box_workers.proofs.Worked.{worked_none, worked_more, worked_spent, new_tickets, draws_one, may_draw}
-use Rattle.box_workers.proofs.Traffic.{traffic_none, traffic_more, traffic_left, rests_spent}
+use Rattle.box_workers.proofs.Traffic.{midway_none, midway_more, traffic_idle, traffic_left, rests_spent}
 use Rattle.box_workers.proofs.working.work.Goals as goal
 
 pub loop-alloc-init : goal.loop-alloc-init
 loop-alloc-init g c = record {
-  runs = ([], worked_none c.args.instance.now c.args.shared.now c.args.seat.now c.args.hand.now _ c.requires.seat (record { worker = refl; log = refl; plan = refl; loss = refl }), inl refl, traffic_none c.args.starts c.args.arm.now);
+  runs = ([], worked_none c.args.instance.now c.args.shared.now c.args.seat.now c.args.hand.now _ c.requires.seat (record { worker = refl; log = refl; plan = refl; loss = refl }), inl refl, subst (Midway c.args.starts c.args.arm.now c.args.arm.now []) (sym c.new-at_hand.ensures.items) (midway_none c.args.starts c.args.arm.now));
+  frames = search rules;
   left = c.reserve.ensures.items;
   room = search rules;
   leasts = c.requires.leasts;
@@ -26,8 +26,10 @@ loop-alloc-init g c = record {
 pub returns-then-not-branch-clause-works : goal.returns-then-not-branch-clause-works
 returns-then-not-branch-clause-works g c =
     let i = c.loop-alloc.invariant.runs in let x = c.in-Some.bx in
-    let st : Stops c.args.instance.now c.args.shared.now x c.loop-alloc.seat c.turn.new.seat c.loop-alloc.hand c.turn.new.hand × (c.turn.new.arm ≡ c.take.new.arm) = search rules in
-    let took : Takes (x ∷ []) c.loop-alloc.arm c.take.new.arm = search rules in
+    let st : Stops c.args.instance.now c.args.shared.now x c.loop-alloc.seat c.turn.new.seat c.loop-alloc.hand c.turn.new.hand × (c.turn.new.at_hand.items ≡ c.offer.new.at_hand.items) = search rules in
+    let found : Moves c.loop-alloc.at_hand.items c.find.new.at_hand.items (x ∷ []) c.loop-alloc.arm c.find.new.arm = search rules in
+    let offered : Moves c.find.new.at_hand.items c.offer.new.at_hand.items [] c.find.new.arm c.offer.new.arm = search rules in
+    let pushed : Moves c.offer.new.at_hand.items [] [] c.offer.new.arm c.push_all.new.arm = subst (λ (ws : List PlainBox). Moves ws [] [] c.offer.new.arm c.push_all.new.arm) st.1 (search rules) in
     let some = may_draw c.args.shared.now.budget c.loop-alloc.seat.view.allowance c.args.seat.now.view.allowance i.0 i.2 i.1.allowance c.requires.allowance in
     record {
       events = i.0;
@@ -35,38 +37,40 @@ returns-then-not-branch-clause-works g c =
       left = x ∷ [];
       worked = worked_spent c.args.instance.now c.args.shared.now c.args.seat.now c.loop-alloc.seat c.turn.new.seat c.args.hand.now c.loop-alloc.hand c.turn.new.hand i.0 i.1 st.0.ticket st.0.seat st.0.leaves.like c.turn.ensures.seat some;
       left_is = st.0.leaves.left ∙ ap (λ (ls : List Left). ls ++ left_open c.args.instance.now (x ∷ [])) c.loop-alloc.invariant.left;
-      traffic = traffic_left c.args.starts c.args.arm.now c.loop-alloc.arm c.take.new.arm c.turn.new.arm i.0 x i.3 took st.1;
-      rests = rests_spent c.args.shared.now.budget st.0.ticket x c.turn.new.arm.misses st.0.spent;
+      traffic = traffic_left c.args.starts c.args.arm.now c.loop-alloc.arm c.find.new.arm i.0 c.loop-alloc.at_hand.items i.3 c.offer.new.arm c.find.new.at_hand.items c.offer.new.at_hand.items x found offered c.push_all.new.arm pushed;
+      rests = rests_spent c.args.shared.now.budget st.0.ticket x c.push_all.new.arm.misses st.0.spent;
     }
 
 pub loop-alloc-smaller : goal.loop-alloc-smaller
 loop-alloc-smaller g c =
     let i = c.loop-alloc.invariant.runs in let x = c.in-Some.bx in
-    let d : (e : Event) × Handles c.args.instance.now c.args.shared.now x c.loop-alloc.seat c.turn.new.seat c.loop-alloc.hand c.turn.new.hand e × Puts (made_by c.args.starts e) c.take.new.arm c.turn.new.arm = search rules in
+    let d : Turns c.args.instance.now c.args.shared.now c.args.starts x c.loop-alloc.seat c.turn.new.seat c.loop-alloc.hand c.turn.new.hand c.offer.new.at_hand.items c.turn.new.at_hand.items = search rules in
     let some = may_draw c.args.shared.now.budget c.loop-alloc.seat.view.allowance c.args.seat.now.view.allowance i.0 i.2 i.1.allowance c.requires.allowance in
-    let o = draws_one c.args.instance.now c.args.shared.now x c.loop-alloc.seat c.turn.new.seat c.loop-alloc.hand c.turn.new.hand d.0 d.1 some in omega arith
+    let o = draws_one c.args.instance.now c.args.shared.now x c.loop-alloc.seat c.turn.new.seat c.loop-alloc.hand c.turn.new.hand d.event d.handles some in omega arith
 
 pub loop-alloc-preserved : goal.loop-alloc-preserved
 loop-alloc-preserved g c =
     let i = c.loop-alloc.invariant.runs in let x = c.in-Some.bx in
-    let d : (e : Event) × Handles c.args.instance.now c.args.shared.now x c.loop-alloc.seat c.turn.new.seat c.loop-alloc.hand c.turn.new.hand e × Puts (made_by c.args.starts e) c.take.new.arm c.turn.new.arm = search rules in
-    let took : Takes (x ∷ []) c.loop-alloc.arm c.take.new.arm = search rules in
+    let d : Turns c.args.instance.now c.args.shared.now c.args.starts x c.loop-alloc.seat c.turn.new.seat c.loop-alloc.hand c.turn.new.hand c.offer.new.at_hand.items c.turn.new.at_hand.items = search rules in
+    let found : Moves c.loop-alloc.at_hand.items c.find.new.at_hand.items (x ∷ []) c.loop-alloc.arm c.find.new.arm = search rules in
+    let offered : Moves c.find.new.at_hand.items c.offer.new.at_hand.items [] c.find.new.arm c.offer.new.arm = search rules in
     let small : c.args.hand.now.loss ≤ no_loss = search rules in
     let of : x.frame ≡ frame_of c.args.instance.now = c.in-Some.ensures.frame ∙ c.loop-alloc.invariant.ring in
     let some = may_draw c.args.shared.now.budget c.loop-alloc.seat.view.allowance c.args.seat.now.view.allowance i.0 i.2 i.1.allowance c.requires.allowance in
     record {
       runs = (
-        i.0 ++ d.0 ∷ [],
-        worked_more c.args.instance.now c.args.shared.now c.args.seat.now c.loop-alloc.seat c.turn.new.seat c.args.hand.now c.loop-alloc.hand c.turn.new.hand i.0 i.1 x d.0 d.1 small of c.turn.ensures.seat some,
-        few_push c.args.shared.now.budget i.0 d.0 i.2 (new_tickets c.args.instance.now c.args.shared.now c.args.seat.now c.loop-alloc.seat c.turn.new.seat c.args.hand.now c.loop-alloc.hand c.turn.new.hand i.0 i.1 x d.0 d.1 small) d.1.look.in_budget,
-        traffic_more c.args.starts c.args.arm.now c.loop-alloc.arm c.take.new.arm c.turn.new.arm i.0 x i.3 took d.0 d.1.box d.2,
+        i.0 ++ d.event ∷ [],
+        worked_more c.args.instance.now c.args.shared.now c.args.seat.now c.loop-alloc.seat c.turn.new.seat c.args.hand.now c.loop-alloc.hand c.turn.new.hand i.0 i.1 x d.event d.handles small of c.turn.ensures.seat some,
+        few_push c.args.shared.now.budget i.0 d.event i.2 (new_tickets c.args.instance.now c.args.shared.now c.args.seat.now c.loop-alloc.seat c.turn.new.seat c.args.hand.now c.loop-alloc.hand c.turn.new.hand i.0 i.1 x d.event d.handles small) d.handles.look.in_budget,
+        midway_more c.args.starts c.args.arm.now c.loop-alloc.arm c.find.new.arm i.0 c.loop-alloc.at_hand.items i.3 c.offer.new.arm c.find.new.at_hand.items c.offer.new.at_hand.items x found offered d.event c.turn.new.at_hand.items d.handles.box d.waits,
       );
+      frames = search rules;
       left = search rules;
       room = search rules;
       leasts = c.turn.ensures.leasts;
       scratch = c.turn.ensures.scratch;
       ring = search rules;
-      stays = stays_twice c.args.arm.now c.loop-alloc.arm c.turn.new.arm c.loop-alloc.invariant.stays (stays_twice c.loop-alloc.arm c.take.new.arm c.turn.new.arm c.take.ensures.stays c.turn.ensures.stays);
+      stays = stays_twice c.args.arm.now c.loop-alloc.arm c.offer.new.arm c.loop-alloc.invariant.stays (stays_twice c.loop-alloc.arm c.find.new.arm c.offer.new.arm c.find.ensures.stays c.offer.ensures.stays);
     }
 
 pub returns-clause-works : goal.returns-clause-works
@@ -78,6 +82,6 @@ returns-clause-works g c =
       left = [];
       worked = i.1;
       left_is = c.loop-alloc.invariant.left ∙ sym (append-nil c.args.hand.now.left.items);
-      traffic = i.3;
-      rests = (refl, refl, (let t = c.loop-alloc-test.false in let m = c.misses.ensures in omega arith));
+      traffic = traffic_idle c.args.starts c.args.arm.now c.loop-alloc.arm c.push_all-2.new.arm i.0 c.loop-alloc.at_hand.items i.3 (search rules);
+      rests = (refl, refl, (let t = c.loop-alloc-test.false in let m = c.misses.ensures in let n = c.push_all-2.ensures.misses in omega arith));
     }

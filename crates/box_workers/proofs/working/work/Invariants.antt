@@ -1,15 +1,17 @@
-use Rattle.std.proofs.Common.{◌≡◌, ◌+◌, ◌-◌, ◌*◌, ◌≤◌, List, [], length}
+use Rattle.std.proofs.Common.{◌≡◌, ◌+◌, ◌-◌, ◌*◌, ◌≤◌, List, [], length, All}
 use Rattle.plan_box.specs.Frames.{frame_of}
+use Rattle.plan_box.specs.Ranges.{PlainBox}
 use Rattle.box_bound.specs.Leastings.{IsOf}
 use Rattle.box_levels.specs.Events.{Event}
 use Rattle.box_ring.specs.Arms.{frame, Stays}
-use Rattle.box_workers.specs.Works.{Worked, Traffic}
-use Rattle.box_workers.specs.inner.Rounds.{AreFew}
+use Rattle.box_workers.specs.Works.{Worked}
+use Rattle.box_workers.specs.inner.Rounds.{AreFew, Midway}
 use Rattle.box_workers.proofs.working.work.Given as goal
 
 abbrev pub invariant-loop-alloc : goal.invariant-loop-alloc
 invariant-loop-alloc g l = record {
-  runs : (es : List Event) × Worked l.instance l.shared l.fn.seat l.seat l.fn.hand l.hand es [] × AreFew l.shared.budget es × Traffic l.starts l.fn.arm l.arm es [];
+  runs : (es : List Event) × Worked l.instance l.shared l.fn.seat l.seat l.fn.hand l.hand es [] × AreFew l.shared.budget es × Midway l.starts l.fn.arm l.arm es l.at_hand.items;
+  frames : All (λ (x : PlainBox). x.frame ≡ frame l.arm) l.at_hand.items;
   left : l.hand.left.items ≡ l.fn.hand.left.items;
   room : 1 ≤ l.hand.left.spare;
   leasts : IsOf l.instance l.hand.leasts;
