@@ -1,5 +1,5 @@
 -- Each kind of step keeps the rule of a deque.
-use Rattle.std.proofs.Common.{◌≡◌, ◌≢◌, ℕ, zero, suc, ◌+◌, ◌<◌, true, true≢false, List, [], ◌∷◌, ◌++◌, set, sym, refl, ap, ◌∙◌, subst, arith}
+use Rattle.std.proofs.Common.{◌≡◌, ◌≢◌, ℕ, zero, suc, ◌+◌, ◌<◌, true, true≢false, List, [], ◌∷◌, ◌++◌, length, set, sym, refl, ap, ◌∙◌, subst, arith}
 use Rattle.std.specs.Prelude.{sum_by}
 use Rattle.std.proofs.lemmas.List.Sums.{sum_by-append, sum_by-cons}
 use mathlib.Core.Option.{some, some-ne-none, some-injective}
@@ -9,7 +9,7 @@ use Rattle.plan_box.specs.Ranges.{PlainBox}
 use Rattle.plan_box.specs.declared.frame.Frame.{Frame}
 use Rattle.box_ring.specs.declared.tally.Tally.{Tally}
 use Rattle.box_ring.specs.Tallies.{tally, no_frame, all_parts, no_tally, AreOfFrame, Fits, Balanced, IsWhole, Rests, putting, taking, FoundFew}
-use Rattle.box_ring.specs.inner.Rule.{blank_tally, ready_tally, PutThen, TakeThen, SeedThen, UnseedThen, TotalFact, owner_tally, thief_tally, both_tallies}
+use Rattle.box_ring.specs.inner.Rule.{blank_tally, ready_tally, PutThen, TakeThen, SeedThen, UnseedThen, TotalFact, NumberFact, owner_tally, thief_tally, both_tallies}
 use Rattle.shared_best.proofs.Views.{total_set, two_le, sum_alone, each_set, each_snoc, set_there, empty_of_length}
 
 pub framed-append : (f : Frame) (xs ys : List PlainBox) → AreOfFrame f xs → AreOfFrame f ys → AreOfFrame f (xs ++ ys)
@@ -103,6 +103,12 @@ finds_few most port v items views few b at = record {
   held = record { items = items; tallies = views; holder = port; few = few; balanced = b; here = at };
   whole = λ whole. (items, few, rests items views port v b at whole);
 }
+
+pub finds_number : (port : ℕ) (v : Tally) → Learns Balanced port v (NumberFact v)
+finds_number port v items views b at = (
+  finds_few (length items) port v items views (omega arith) b at,
+  record { items = items; tallies = views; holder = port; many = omega arith; balanced = b; here = at },
+)
 
 pub finds_none : (port : ℕ) (v : Tally) → Finds Balanced port v (FoundFew 0 v)
 finds_none port v views b at = finds_few 0 port v [] views (omega arith) b at

@@ -75,6 +75,15 @@ pub record HeldFew (most : ℕ) (v : Tally) : Type 0 where
   pub balanced : Balanced items tallies
   pub here : get_elem? tallies holder ≡ some v
 
+-- there was a state of the deque which keeps the rule, in which one of the tallies is this one, and with at least so many boxes in it
+pub record HeldMany (least : ℕ) (v : Tally) : Type 0 where
+  pub items : List PlainBox
+  pub tallies : List Tally
+  pub holder : ℕ
+  pub many : least ≤ length items
+  pub balanced : Balanced items tallies
+  pub here : get_elem? tallies holder ≡ some v
+
 -- the deque was found to hold at most so many boxes; who holds the whole pass knows that all which was put was taken, but for so many
 pub record FoundFew (most : ℕ) (v : Tally) : Type 0 where
   pub held : HeldFew most v

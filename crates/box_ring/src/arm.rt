@@ -41,9 +41,9 @@ impl Model for Arm {
 }
 
 impl Arm {
-    ghost use Rattle.std.specs.Prelude.{◌≡◌, ◌<◌, true, MatchOption, OnOk, IfErr, IfSome, IfNone, IsTrue, ⊤};
+    ghost use Rattle.std.specs.Prelude.{◌≡◌, ◌<◌, true, MatchOption, OnOk, IfErr, IfSome, IfNone, MatchBool, ⊤};
     ghost use Rattle.crossbeam_deque.specs.Handles.{worker_deque, worker_view};
-    ghost use Rattle.box_ring.specs.Tallies.{FoundFew, IsWhole, HasRest};
+    ghost use Rattle.box_ring.specs.Tallies.{FoundFew, HeldMany, IsWhole, HasRest};
     ghost use Rattle.box_ring.specs.Arms.{new_arm, frame, after_push, after_push_pop, after_refusal, after_pop, after_no_pop, after_steal, after_no_steal, Stays};
     ghost use Rattle.box_ring.specs.inner.Neighbours.{IsAlike, deque_of, tally_of};
 
@@ -110,10 +110,10 @@ impl Arm {
         }
     }
 
-    /// Whether the arm's own deque held no box at a step of this call.
+    /// Whether the arm's own deque held no box at a step of this call; else it held one at that step.
     pub fn is_empty(&mut self) -> bool
         ensures same { self.new ≡ self.old }
-        ensures found { IsTrue result → FoundFew 0 self.old.own }
+        ensures found { MatchBool result (FoundFew 0 self.old.own) (HeldMany 1 self.old.own) }
     {
         is_empty(&mut self.own)
     }

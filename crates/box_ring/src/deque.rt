@@ -1,8 +1,8 @@
 //! One deque of boxes: its owner pushes and pops at the back, and one thief takes at the front.
-ghost use Rattle.std.specs.Prelude.{◌≡◌, ◌<◌, [], ◌∷◌, MatchOption, MatchResult, true, IfOk, IsTrue};
+ghost use Rattle.std.specs.Prelude.{◌≡◌, ◌<◌, [], ◌∷◌, MatchOption, MatchBool, MatchResult, true, IfOk};
 ghost use Rattle.crossbeam_deque.specs.Handles.{view, IsPassOf, SamePass, SameWorker, worker_deque, stealer_deque, worker_view};
 ghost use Rattle.plan_box.specs.Frames.{IsFrame};
-ghost use Rattle.box_ring.specs.Tallies.{Balanced, FoundFew, HasRest, all_parts, no_tally, putting};
+ghost use Rattle.box_ring.specs.Tallies.{Balanced, FoundFew, HeldMany, HasRest, all_parts, no_tally, putting};
 ghost use Rattle.box_ring.specs.inner.Rule.{PutThen, TakeThen, SeedThen, UnseedThen, TotalFact, NumberFact, owner_tally, thief_tally, both_tallies, blank_tally, ready_tally};
 
 use crate::tally::Tally;
@@ -144,7 +144,7 @@ pub(crate) fn pop(deque: &mut Boxes) -> Option<PlanBox>
 pub(crate) fn is_empty(deque: &mut Boxes) -> bool
     ensures same { SameWorker deque.old deque.new }
     ensures view { worker_view deque.new ≡ worker_view deque.old }
-    ensures found { IsTrue result → FoundFew 0 (worker_view deque.old) }
+    ensures found { MatchBool result (FoundFew 0 (worker_view deque.old)) (HeldMany 1 (worker_view deque.old)) }
 {
     deque.len_as::<Number>() == 0
 }

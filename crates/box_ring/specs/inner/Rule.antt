@@ -3,7 +3,7 @@ use Rattle.std.specs.Prelude.{◌≡◌, ◌+◌, ◌-◌, true, false, List, []
 use Rattle.plan_box.specs.Ranges.{PlainBox}
 use Rattle.plan_box.specs.declared.frame.Frame.{Frame}
 use Rattle.box_ring.specs.declared.tally.Tally.{Tally}
-use Rattle.box_ring.specs.Tallies.{tally, no_frame, all_parts, putting, taking, AreOfFrame, IsWhole, HasRest, Rests, FoundFew}
+use Rattle.box_ring.specs.Tallies.{tally, no_frame, all_parts, putting, taking, AreOfFrame, IsWhole, HasRest, Rests, FoundFew, HeldMany}
 
 -- a new deque's whole pass, before the frame is known
 abbrev pub blank_tally : Tally
@@ -42,7 +42,7 @@ TotalFact v xs = IsWhole v → Rests v xs
 
 -- the deque was found to hold so many boxes
 abbrev pub NumberFact : Tally → List PlainBox → Type 0
-NumberFact v xs = FoundFew (length xs) v
+NumberFact v xs = FoundFew (length xs) v × HeldMany (length xs) v
 
 -- what the owner keeps when the pass is split
 abbrev pub owner_tally : Tally → Tally
