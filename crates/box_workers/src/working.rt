@@ -1,5 +1,5 @@
 //! The work of one worker beside others.
-ghost use Rattle.std.specs.Prelude.{◌≡◌, ℕ, ◌+◌, ◌-◌, ◌≤◌, ◌<◌, ◌++◌, ◌∷◌, [], All, length, IfOk, OnOk, IfSome, IfNone, MatchBool, option_to_list};
+ghost use Rattle.std.specs.Prelude.{◌≡◌, ℕ, ◌+◌, ◌-◌, ◌≤◌, ◌<◌, ◌++◌, ◌∷◌, [], All, length, IfOk, OnOk, IfSome, MatchBool, MatchOption, option_to_list};
 ghost use Rattle.std.specs.VecDeque.{deque_len, deque_capacity};
 ghost use Rattle.plan_box.specs.Frames.{frame_of};
 ghost use Rattle.plan_box.specs.Ranges.{PlainBox};
@@ -41,7 +41,7 @@ fn find<R: Wait>(rt: &R, arm: &mut Arm, at_hand: &mut VecDeque<PlanBox>) -> Opti
     ensures stays { Stays arm.old arm.new }
     ensures moves { Moves at_hand.old.items at_hand.new.items (option_to_list result) arm.old arm.new }
     ensures frames { All (λ (x : PlainBox). x.frame ≡ frame arm.new) at_hand.new.items }
-    ensures misses { arm.old.misses < 100000 → IfNone result (arm.new.misses ≡ arm.old.misses + 1) }
+    ensures misses { arm.old.misses < 100000 → MatchOption result (arm.new.misses ≡ arm.old.misses + 1) (λ _. arm.new.misses ≡ 0) }
     ensures frame { IfSome result (λ x. x.frame ≡ frame arm.old) }
 {
     if let Some(bx) = at_hand.pop_back() {
