@@ -1,46 +1,67 @@
 #!/usr/bin/env bash
-# Prints how many boxes the search handles in a second by the clock with one, two, four and eight workers, behind the first plan and without
-# the certificate, on drawn instances of 50 and 200 items: the time of a search less that of one worker with a budget of one box (several
-# workers would wait for a second box there, and so take longer than their first plan). And, as what the machine itself can do: how many
-# times as many boxes as one search so many searches with one worker each handle side by side. Each time is the least of ROUNDS (5) runs,
-# and the runs take turns, since a machine that others use is not quiet for long. BUDGET (3,200,000) and ROUNDS may be given. Nothing else
-# should run beside it. The program is proved and built first, which takes some minutes where crates changed.
+# Prints how many boxes the search handles in a second by the clock with one, two, four and eight workers, with the joining of what they
+# noted and without the certificate, on five drawn instances of 50 items and five of 200. The searches begin with the draft, which takes
+# a few milliseconds, so that the whole run is the search. Several workers handle other boxes than one does, and on one instance these
+# can cost half as much again or less; so the times of the five instances are added up, and one line tells how long four workers take
+# where they have one processor: the same boxes without a second processor. Another tells how long four searches with one worker each
+# take side by side: what the machine itself can do. The time of an instance is the least and the middle one of ROUNDS (3) runs, in an
+# order that is drawn anew in each round, since a machine that others use is not quiet for long. BUDGET (3,200,000) and ROUNDS may be
+# given. Nothing else should run beside it. The program is proved and built first, which takes some minutes where crates changed.
 set -euo pipefail
 top=$(cd "$(dirname "$(readlink -f "$0")")/.." && pwd)
 budget=${1:-3200000}
-rounds=${2:-5}
+rounds=${2:-3}
 work=$(mktemp -d)
 trap 'rm -rf "$work"' EXIT
 (cd "$top/crates/box_speed" && rt run < stdin) > "$work/built" 2>&1 || { tail -20 "$work/built"; exit 1; }
 program=$top/crates/box_speed/out/box_speed
-# the time of so many searches at once, of this budget and by so many workers each
+# the time of this instance's search by so many workers, of so many such searches at once, and with the words in front of each command
 spent() {
+  local instance=$1 workers=$2 searches=$3
+  shift 3
   TIMEFORMAT=%R
   { time {
-    for ((run = 0; run < $1; run++)); do
-      echo "search $instance $2 $3" | "$program" > "$work/told$run" &
+    for ((run = 0; run < searches; run++)); do
+      echo "drafted $instance $budget $workers" | "$@" "$program" > "$work/told$run" &
     done
     wait
   }; } 2>&1
 }
+time_of() {
+  case $2 in
+    side) spent "$1" 1 4 ;;
+    alone) spent "$1" 4 1 taskset -c 0 ;;
+    *) spent "$1" "$2" 1 ;;
+  esac
+}
 echo "$(nproc) processors"
-for instance in '7 50 20' '7 200 60'; do
-  for ((round = 0; round < rounds; round++)); do
-    for workers in 1 2 4 8; do
-      echo "1 first $(spent 1 1 1)"
-      echo "$workers all $(spent 1 "$budget" "$workers")"
-      echo "$workers beside_first $(spent "$workers" 1 1)"
-      echo "$workers beside $(spent "$workers" "$budget" 1)"
+for ((round = 0; round < rounds; round++)); do
+  for start in 1 2 3 7 12; do
+    for drawn in '50 20' '200 60'; do
+      for kind in 1 2 4 8 alone side; do echo "$start $drawn,$kind"; done
     done
-  done | awk -v instance="$instance" -v budget="$budget" '
-    { key = $1 " " $2; if (!(key in least) || $3 < least[key]) least[key] = $3 }
-    END {
-      one = least["1 all"] - least["1 first"]
+  done | shuf | while IFS=, read -r instance kind; do
+    echo "$instance,$kind,$(time_of "$instance" "$kind" < /dev/null)"
+  done
+done | sort -t, -k1,2 -k3,3n | awk -F'[ ,]' -v budget="$budget" '
+  { run = $1 " " $2 "," $4; if (!(run in runs)) { size[run] = $2; kind[run] = $4 } took[run, ++runs[run]] = $5 }
+  END {
+    for (run in runs) {
+      key = size[run] "," kind[run]
+      least[key] += took[run, 1]
+      middle[key] += took[run, int((runs[run] + 1) / 2)]
+    }
+    split("50 200", sizes, " ")
+    for (number = 1; number <= 2; number++) {
+      items = sizes[number]
+      one = items ",1"; four = items ",4"
       for (workers = 1; workers <= 8; workers *= 2) {
-        took = least[workers " all"] - least["1 first"]
-        beside = least[workers " beside"] - least[workers " beside_first"]
-        printf "%s: %d workers, %.2f s with one box, %.2f s with %d: %d boxes in a second, %.2f times one worker; ", instance, workers, least["1 first"], least[workers " all"], budget, budget / took, one / took
-        printf "so many searches side by side: %.2f times\n", workers * one / beside
+        key = items "," workers
+        printf "%d items: %d workers, least %.2f s, middle %.2f s: %d boxes in a second, %.2f and %.2f times one worker\n", items, workers, least[key], middle[key], 5 * budget / middle[key], least[one] / least[key], middle[one] / middle[key]
       }
-    }'
-done
+      key = items ",alone"
+      printf "%d items: four workers on one processor, least %.2f s, middle %.2f s: on four %.2f and %.2f times as fast\n", items, least[key], middle[key], least[key] / least[four], middle[key] / middle[four]
+      key = items ",side"
+      printf "%d items: four searches side by side, least %.2f s, middle %.2f s: %.2f and %.2f times the boxes of one\n", items, least[key], middle[key], 4 * least[one] / least[key], 4 * middle[one] / middle[key]
+    }
+  }'

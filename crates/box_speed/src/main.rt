@@ -3,10 +3,11 @@
 //!
 //!     WORD START ITEMS DEFECTS BUDGET
 //!     search START ITEMS DEFECTS BUDGET WORKERS
+//!     drafted START ITEMS DEFECTS BUDGET WORKERS
 //!
 //! The instance is drawn from the start, with so many items and defects, and at most BUDGET boxes are handled. The word `speed` asks for a search
-//! that probes nothing; `first` and `broken` for one from the first plan on, which splits boxes by `choose` and by `choose_at`; and `search` for
-//! that of the product, by one to eight workers.
+//! that probes nothing; `first` and `broken` for one from the first plan on, which splits boxes by `choose` and by `choose_at`; `search` for
+//! that of the product, by one to eight workers; and `drafted` for the same from the draft on, so that hardly any time goes by before it.
 #![tactic(auto)]
 
 mod count;
@@ -14,7 +15,7 @@ mod product;
 mod searching;
 
 use crate::count::Count;
-use crate::product::search_by;
+use crate::product::{Beginning, search_by};
 use crate::searching::{Choice, search};
 use anyhow::{bail, ensure};
 use defect_map::DefectMap;
@@ -60,10 +61,11 @@ fn count_by_choice(alloc: Global, choice: Choice, numbers: &[u32]) -> anyhow::Re
     search(alloc, &instance, &map, choice, *budget)
 }
 
-/// How the search of the product goes, from these and the number of workers on.
+/// How the search of the product goes, with this beginning, from these numbers and that of the workers on.
 fn count_by_workers<R: Threads + Wait + Sync>(
     rt: &R,
     alloc: Global,
+    beginning: Beginning,
     numbers: &[u32],
 ) -> anyhow::Result<Count> {
     let [start, items, defects, budget, workers] = numbers else {
@@ -76,17 +78,18 @@ fn count_by_workers<R: Threads + Wait + Sync>(
     );
     let instance = drawn(alloc, *start, *items, *defects)?;
     let map = DefectMap::new(alloc, &instance)?;
-    search_by(rt, alloc, &instance, &map, *workers, *budget)
+    search_by(rt, alloc, &instance, &map, beginning, *workers, *budget)
 }
 
 /// How the search goes that a line asks for.
 fn count_of<R: Threads + Wait + Sync>(rt: &R, alloc: Global, line: &str) -> anyhow::Result<Count> {
     let (word, written) = line.split_once(' ').unwrap_or((line, ""));
     let numbers = numbers_of(alloc, written)?;
-    if word == "search" {
-        return count_by_workers(rt, alloc, numbers.as_slice());
+    match word {
+        "search" => count_by_workers(rt, alloc, Beginning::FirstPlan, numbers.as_slice()),
+        "drafted" => count_by_workers(rt, alloc, Beginning::Draft, numbers.as_slice()),
+        _ => count_by_choice(alloc, choice_of(word)?, numbers.as_slice()),
     }
-    count_by_choice(alloc, choice_of(word)?, numbers.as_slice())
 }
 
 fn main(rt: HostRuntime) -> anyhow::Result<()> {
