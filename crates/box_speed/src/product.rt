@@ -1,5 +1,6 @@
 //! The search of the product, with one worker or several.
-ghost use Rattle.std.specs.Prelude.{◌≡◌, ◌≤◌, IfOk};
+ghost use Rattle.std.specs.Prelude.{◌≡◌, ℕ, ◌≤◌, IfOk, IfNone};
+ghost use Rattle.plan_draft.specs.Drafts.{HasNoDraft};
 ghost use Rattle.box_workers.specs.Runs.{IsFirst};
 
 use crate::count::Count;
@@ -24,7 +25,7 @@ pub enum Beginning {
     Draft,
 }
 
-/// The plan that a search begins with, if there is one.
+/// The plan that a search begins with. There is none only where there is no draft.
 fn beginning_of(
     alloc: Global,
     instance: &Instance,
@@ -32,7 +33,8 @@ fn beginning_of(
     beginning: Beginning,
 ) -> Result<Option<Trace>, Memory>
     requires { map.now ≡ instance.now.defects }
-    ensures { IfOk result (IsFirst instance.now) }
+    ensures first { IfOk result (IsFirst instance.now) }
+    ensures none { IfOk result (λ first. IfNone first ((number : ℕ) × HasNoDraft instance.now number)) }
 {
     match beginning {
         Beginning::FirstPlan => first_plan(alloc, instance, map),
