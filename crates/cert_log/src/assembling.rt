@@ -17,8 +17,8 @@ use crate::places::{Entry, entry_of, places};
 use glass_base::{Instance, Memory, Run, append};
 use std::alloc::Global;
 
-/// The loss of the best plan that is known.
-fn best_loss(history: &History) -> Option<u64>
+/// The loss of the best plan that is known, in mm².
+pub fn best_loss(history: &History) -> Option<u64>
     ensures { result ≡ loss_of history.now.best }
 {
     if history.best < u64::MAX {

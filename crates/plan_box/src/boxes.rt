@@ -159,6 +159,17 @@ impl PlanBox {
         self.id
     }
 
+    /// This box with another identity. It takes no memory.
+    pub fn with_id(self, id: u64) -> PlanBox
+        ensures { result ≡ record self { id = id } }
+    {
+        PlanBox {
+            id,
+            frame: self.frame,
+            stored: self.stored,
+        }
+    }
+
     /// The frame, by which the full ranges and the number of items go.
     pub fn frame(&self) -> Frame
         ensures value { result ≡ self.now.frame }

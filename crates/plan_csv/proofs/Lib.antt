@@ -13,7 +13,7 @@ pub mod ReadAgain
 mod FieldsInRange
 mod RowsGrown
 mod RowsAccepted
-mod TreesInRange
+pub mod TreesInRange
 mod AllowedRows
 mod CheckFacts
 mod GrownPieces

@@ -1,6 +1,6 @@
 //! Laws of the definitions on solution texts. The functions do nothing: their contracts are the laws.
 
-ghost use Rattle.std.specs.Prelude.{◌≡◌, ◌≤◌, ℕ, List, All, Ok};
+ghost use Rattle.std.specs.Prelude.{◌≡◌, ◌≤◌, ℕ, List, All, Ok, length};
 ghost use Rattle.glass_base.specs.Problem.{Problem, IsProblem};
 ghost use Rattle.cut_model.specs.declared.plan.Plan.{Plan};
 ghost use Rattle.cut_model.specs.Families.{families_of, rows_of};
@@ -21,7 +21,7 @@ pub fn plans_that_add_up_are_within()
     ensures { (b : Problem) → (plan : Plan) → Fits (tree plan) → All (λ f. AddsUp f f.sort) (families_of b (tree plan)) → All IsWithin (rows_of b (tree plan)) }
 {}
 
-/// The tree that a text says fits, and has at most 1,000,000,000 rows.
+/// The tree that a text says fits, and has at most 1,000,000,000 rows, and no more than the text has bytes.
 pub fn plans_that_are_read_fit()
-    ensures { (b : Problem) → (bytes : List ℕ) → (plan : Forest) → plan_said b bytes ≡ Ok plan → Fits plan × (count plan ≤ 1000000000) }
+    ensures { (b : Problem) → (bytes : List ℕ) → (plan : Forest) → plan_said b bytes ≡ Ok plan → Fits plan × (count plan ≤ 1000000000) × (count plan ≤ length bytes) }
 {}

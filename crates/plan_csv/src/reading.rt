@@ -113,6 +113,7 @@ pub fn read_plan(alloc: Global, instance: &Instance, bytes: &[u8]) -> Result<Pla
     ensures plan { Reads result (plan_said instance.now bytes.now) }
     ensures fits { IfOk result (λ plan. Fits (tree plan)) }
     ensures few { IfOk result (λ plan. count (tree plan) ≤ 1000000000) }
+    ensures fewer_than_bytes { IfOk result (λ plan. count (tree plan) ≤ length bytes.now) }
 {
     let nodes = read_nodes(alloc, instance, bytes)?;
     Ok(plan_of(alloc, &nodes)?)

@@ -1,5 +1,5 @@
 -- The canonical plan of a whole trace is lawful, fits, and loses what the trace's length has beside the items.
-use Rattle.std.proofs.Common.{◌≤◌, List, [], ◌∷◌, map, refl, subst, arith, true, All, Contains}
+use Rattle.std.proofs.Common.{◌≤◌, ◌*◌, List, [], ◌∷◌, length, map, refl, subst, arith, true, All, Contains}
 use Rattle.std.proofs.lemmas.List.Elements.{All-map, All-weaker, All-contains}
 use Rattle.glass_base.specs.declared.item.Item.{Item}
 use Rattle.glass_base.specs.Items.{IsItemInRange}
@@ -68,11 +68,11 @@ lawful_fits b rules plan lawful few = record {
 pub canonical_good : CanonicalIsGood
 canonical_good b rules ss h =
     let lawful = canonical_lawful b rules ss h in
-    let few : count (canonical b ss) ≤ 9600 = omega (arith, canonical_count b ss, spots_count b [] no_cut ss, h.each_item, rules.few_items) in
+    let few : count (canonical b ss) ≤ 12 * length b.items = omega (arith, canonical_count b ss, spots_count b [] no_cut ss, h.each_item) in
     record {
       lawful = lawful;
-      fits = lawful_fits b rules (canonical b ss) lawful (omega (arith, few));
-      few = omega (arith, few);
+      fits = lawful_fits b rules (canonical b ss) lawful (omega (arith, few, rules.few_items));
+      few = few;
     }
 
 -- it loses what the trace's length has beside the items

@@ -19,11 +19,11 @@ pub record IsComplete (b : Problem) (steps : List Step) : Type 0 where
   pub each_item : length steps ≡ length b.items
   pub meets : Meets b steps
 
--- the canonical plan of a complete trace is lawful, fits, and has at most 1,000,000,000 rows
+-- the canonical plan of a complete trace is lawful, fits, and has at most twelve rows for each item
 pub record IsGoodPlan (b : Problem) (plan : Forest) : Type 0 where
   pub lawful : IsLawful b plan
   pub fits : Fits plan
-  pub few : count plan ≤ 1000000000
+  pub few : count plan ≤ 12 * length b.items
 
 abbrev pub CanonicalIsGood : Type 0
 CanonicalIsGood = (b : Problem) → IsProblem b → (steps : List Step) → IsComplete b steps → IsGoodPlan b (canonical b steps)

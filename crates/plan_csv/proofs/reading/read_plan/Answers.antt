@@ -17,3 +17,9 @@ returns-clause-few c =
     let said : plan_said c.args.instance.now c.args.bytes.now ≡ Ok (tree c.in_ok-plan_of.field-0) =
     plan_is c.args.instance.now c.args.bytes.now c.in_ok-nodes.nodes.rows.items (tree c.in_ok-plan_of.field-0) c.in_ok-nodes.ensures.said.said_is c.in_ok-plan_of.ensures in
     (read_fits c.args.instance.now c.args.bytes.now (tree c.in_ok-plan_of.field-0) said).1
+
+pub returns-clause-fewer_than_bytes : goal.returns-clause-fewer_than_bytes
+returns-clause-fewer_than_bytes c =
+    let said : plan_said c.args.instance.now c.args.bytes.now ≡ Ok (tree c.in_ok-plan_of.field-0) =
+    plan_is c.args.instance.now c.args.bytes.now c.in_ok-nodes.nodes.rows.items (tree c.in_ok-plan_of.field-0) c.in_ok-nodes.ensures.said.said_is c.in_ok-plan_of.ensures in
+    (read_fits c.args.instance.now c.args.bytes.now (tree c.in_ok-plan_of.field-0) said).2
