@@ -1,0 +1,12 @@
+pub mod Makes
+pub mod Making
+pub mod Cuttables
+pub mod Spelling
+pub mod OneText
+pub mod SoFar
+pub mod Writables
+pub mod Lying
+pub mod Putting
+pub mod Ending
+pub mod Digits
+pub mod Balances

@@ -1,0 +1,9 @@
+pub mod Pieces
+pub mod Table
+pub mod Replays
+pub mod Sheets
+pub mod Areas
+pub mod Texts
+pub mod Readings
+pub mod ReadAgain
+pub mod inner
