@@ -1,0 +1,4 @@
+pub mod Frozen
+pub mod Rests
+pub mod Claims
+pub mod inner

@@ -1,0 +1,2 @@
+pub mod Wasted
+pub mod Widths
