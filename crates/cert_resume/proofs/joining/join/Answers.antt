@@ -1,0 +1,41 @@
+use Rattle.std.proofs.Common.{◌≡◌, ◌+◌, List, ℕ, Option, refl, ap, ◌∙◌, sym, subst, fold, length}
+use Rattle.std.specs.Prelude.{All, sum_by}
+use Rattle.cert_log.specs.declared.certificate.Certificate.{Certificate}
+use Rattle.cert_log.specs.declared.certificate.Node.{Node}
+use Rattle.cert_log.specs.Good.{IsVersion}
+use Rattle.cert_log.specs.Trees.{FitsVersion}
+use Rattle.cert_resume.specs.Joins.{IsJoined, bounds_of, filled, lesser_of, nodes_in}
+use Rattle.cert_resume.proofs.Filling.{fills_count, fills_version}
+use Rattle.cert_resume.proofs.Grown.{keeps_right}
+use Rattle.cert_resume.proofs.joining.join.Goals as goal
+
+-- what is made of these nodes is what the certificate and the parts are joined to
+joined : (c : Certificate) (parts : List Certificate) (loss : Option ℕ) (j : Certificate) → IsVersion 2 c → All (IsVersion 2) parts → j.version ≡ 2 → j.nodes.items ≡ filled c.nodes.items (nodes_in parts)
+    → j.loss ≡ loss → j.left ≡ sum_by (λ (p : Certificate). p.left) parts → j.bound ≡ fold lesser_of loss (bounds_of parts) → IsJoined c parts loss j
+joined c parts loss j version versions is nodes loss_is left bound = record {
+  version = (is, subst (λ (ns : List Node). All (FitsVersion 2) ns) (sym nodes) (fills_version c parts version versions));
+  nodes_are = nodes;
+  loss_is = loss_is;
+  left_is = left;
+  bound_is = bound;
+}
+
+pub returns-clause-joined : goal.returns-clause-joined
+returns-clause-joined c =
+    joined c.args.cert.now c.args.parts.items c.args.loss _ c.requires.version c.requires.versions refl
+    (c.in_ok-nodes.ensures ∙ rw (c.as_slice.ensures, c.as_slice-2.ensures) refl) refl
+    (c.all_left.ensures ∙ ap (λ (ps : List Certificate). sum_by (λ (p : Certificate). p.left) ps) c.as_slice-4.ensures)
+    (c.least_bound.ensures ∙ ap (λ (ps : List Certificate). fold lesser_of c.args.loss (bounds_of ps)) c.as_slice-3.ensures)
+
+pub returns-clause-right : goal.returns-clause-right
+returns-clause-right c =
+    keeps_right c.args.cert.now c.args.parts.items c.args.loss _
+    (joined c.args.cert.now c.args.parts.items c.args.loss _ c.requires.version c.requires.versions refl
+    (c.in_ok-nodes.ensures ∙ rw (c.as_slice.ensures, c.as_slice-2.ensures) refl) refl
+    (c.all_left.ensures ∙ ap (λ (ps : List Certificate). sum_by (λ (p : Certificate). p.left) ps) c.as_slice-4.ensures)
+    (c.least_bound.ensures ∙ ap (λ (ps : List Certificate). fold lesser_of c.args.loss (bounds_of ps)) c.as_slice-3.ensures))
+
+pub returns-clause-nodes : goal.returns-clause-nodes
+returns-clause-nodes c =
+    let nodes : c.in_ok-nodes.nodes.items ≡ filled c.args.cert.now.nodes.items (nodes_in c.args.parts.items) = c.in_ok-nodes.ensures ∙ rw (c.as_slice.ensures, c.as_slice-2.ensures) refl in
+    ap (λ (ns : List Node). length ns + length c.args.parts.items) nodes ∙ fills_count c.args.cert.now.nodes.items c.args.parts.items c.requires.parts

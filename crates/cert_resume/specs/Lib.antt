@@ -1,0 +1,3 @@
+pub mod OpenBoxes
+pub mod Joins
+pub mod inner
