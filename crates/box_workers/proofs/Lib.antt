@@ -15,3 +15,4 @@ pub mod Dealt
 pub mod Rings
 pub mod Stages
 pub mod Outcome
+pub mod Improved

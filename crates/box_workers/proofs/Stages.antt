@@ -1,5 +1,5 @@
 -- The stages of a search: before it, after several workers, after the caller.
-use Rattle.std.proofs.Common.{◌≡◌, ℕ, ◌≤◌, inl, inr, List, [], ◌∷◌, ◌++◌, length, append-nil, refl, sym, ap, ◌∙◌, arith, All}
+use Rattle.std.proofs.Common.{◌≡◌, ℕ, ◌≤◌, inl, inr, List, [], ◌∷◌, ◌++◌, length, append-nil, reverse, refl, sym, ap, ◌∙◌, arith, All}
 use Rattle.std.specs.Prelude.{sum_by}
 use Rattle.std.proofs.lemmas.List.Elements.{All-nil, All-cons, All-same}
 use Rattle.std.proofs.lemmas.List.Sums.{sum_by-append}
@@ -16,7 +16,7 @@ use Rattle.box_workers.specs.inner.Hands.{IsFresh}
 use Rattle.box_workers.specs.inner.Members.{IsUnused}
 use Rattle.box_workers.specs.inner.Rounds.{IsSpent, HasEnded}
 use Rattle.box_workers.specs.inner.Teamwork.{IsStage, HasBegun}
-use Rattle.box_workers.proofs.Lists.{nil_back}
+use Rattle.box_workers.proofs.Lists.{nil_back, sum_reverse}
 use Rattle.box_workers.proofs.Progress.{all_sum}
 use Rattle.box_workers.proofs.Teamwork.{teamwork_none, teamwork_more}
 
@@ -24,13 +24,13 @@ pub newcomer_unused : (v : View) (first : ℕ) → v ≡ newcomer first → IsUn
 newcomer_unused v first e = record { tickets = ap (λ (u : View). u.tickets) e; looks = ap (λ (u : View). u.looks) e; announced = ap (λ (u : View). u.announced) e }
 
 -- nothing was done
-stage_none : (b : Problem) (w : Words) (starts : ℕ) (boxes : List PlainBox) (v : View) (k : Hand) → IsUnused v → IsFresh b k → k.left.items ≡ [] → IsStage b w starts boxes v k [] [] boxes
+stage_none : (b : Problem) (w : Words) (starts : ℕ) (boxes : List PlainBox) (v : View) (k : Hand) → IsUnused v → IsFresh b k → k.left.items ≡ [] → IsStage b w starts boxes v k [] [] (reverse boxes)
 stage_none b w starts boxes v k unused fresh left = record {
   teamwork = teamwork_none b w v k unused fresh left;
-  weighs = λ weight. (let a = all_sum weight [] (left_boxes k.left.items) in let e = ap (λ (ls : List Left). sum_by weight (left_boxes ls)) left in omega arith);
+  weighs = λ weight. (let a = all_sum weight [] (left_boxes k.left.items) in let e = ap (λ (ls : List Left). sum_by weight (left_boxes ls)) left in let turned = sum_reverse weight boxes in omega arith);
 }
 
-pub begun_none : (b : Problem) (w : Words) (starts : ℕ) (boxes : List PlainBox) (workers : ℕ) (s : Seated) (k : Hand) → s.view ≡ newcomer w.first → IsFresh b k → k.left.items ≡ [] → w.budget ≤ 10000000 → HasBegun b w starts boxes workers s s k k boxes
+pub begun_none : (b : Problem) (w : Words) (starts : ℕ) (boxes : List PlainBox) (workers : ℕ) (s : Seated) (k : Hand) → s.view ≡ newcomer w.first → IsFresh b k → k.left.items ≡ [] → w.budget ≤ 10000000 → HasBegun b w starts boxes workers s s k k (reverse boxes)
 begun_none b w starts boxes workers s k new fresh left budget = record {
   events = [];
   spent = [];

@@ -1,6 +1,6 @@
 -- One more box was handled by a worker.
 use Rattle.std.proofs.Common.{◌≡◌, ℕ, ◌+◌, ◌<◌, ◌≤◌, ◌⊎◌, inl, inr, Bool, true, false, cond, nat_lt, List, [], ◌∷◌, ◌++◌, length, length-append, append-nil, append_assoc, map, min, refl, sym, ap, ◌∙◌, subst, arith, All}
-use Rattle.std.specs.Prelude.{sum_by, Option}
+use Rattle.std.specs.Prelude.{OnErr, sum_by, Option, Result, Ok, Err}
 use Rattle.std.specs.List.{Contains}
 use Rattle.std.proofs.lemmas.List.{length-map, map-append}
 use Rattle.std.proofs.lemmas.List.Elements.{Contains-append_cases}
@@ -25,9 +25,9 @@ use Rattle.shared_best.specs.Words.{looked, lowered, drawn, none_known, IsWhole}
 use Rattle.box_workers.specs.declared.hand.Hand.{Hand}
 use Rattle.box_workers.specs.Handling.{IsIdle, IsProbed, IsAct, told, IsPlanAfter, Handles, Spends}
 use Rattle.box_workers.specs.Runs.{least_loss, IsHandled, AreHandled, AreSeen, Reached, AreReached}
-use Rattle.box_workers.specs.Works.{HasPlan, IsBetter, IsBetween, Worked}
+use Rattle.box_workers.specs.Works.{BrokeOff, HasPlan, IsBetter, IsBetween, Worked, left_open}
 use Rattle.box_workers.specs.inner.Hands.{IsLike}
-use Rattle.box_workers.specs.inner.Rounds.{AreFew, HasRun, HasEnded, Turns}
+use Rattle.box_workers.specs.inner.Rounds.{AreFew, BreaksOff, HasRun, HasEnded, Stops, Turns}
 use Rattle.box_workers.proofs.Progress.{told_keeps, last_push, least_push, least_low, few_push, rising_push, all_sum}
 
 handled_push : (b : Problem) (w : Words) (loss : ℕ) (es : List Event) (e : Event) → AreHandled b w loss es → IsHandled b w (least_loss loss es) e → AreHandled b w loss (es ++ e ∷ [])
@@ -287,3 +287,67 @@ module _ (b : Problem) (w : Words) (starts : ℕ) (boxes : List PlainBox) (s t u
     run = subst (λ (xs : List PlainBox). HasRun b w starts boxes s u k m xs es (p.ticket ∷ [])) (sym is) (ran_out p);
     is_spent = inr (p.ticket, refl, p.spent);
   }
+
+-- what holds anyway holds of a refusal
+pub when_err : {T E P : Type 0} (r : Result T E) → P → OnErr r P
+when_err (Ok x) p = tt
+when_err (Err e) p = p
+
+-- a worker whose memory runs out
+module _ (b : Problem) (w : Words) (s t : Seated) (k l : Hand) (es : List Event) (r : Worked b w s t k l es []) where
+  -- nothing more was done
+  worked_same : (m : Hand) → IsLike l m → Worked b w s t k m es []
+  worked_same m like = record {
+    seat = r.seat;
+    tickets = r.tickets;
+    rising = r.rising;
+    allowance = r.allowance;
+    looks = r.looks;
+    seen = r.seen;
+    between = r.between;
+    log = like.log ∙ r.log;
+    handled = r.handled;
+    worker = like.worker ∙ r.worker;
+    loss = like.loss ∙ r.loss;
+    better = elim r.better [
+      | inl more ↦ inl ((let z = more.0 in let n = like.loss in omega arith), subst (λ (q : Option Trace). HasPlan b m.loss q) (sym like.plan) (subst (λ (i : ℕ). HasPlan b i l.plan) (sym like.loss) more.1), (let z = more.2 in let n = like.loss in omega arith))
+      | inr same ↦ inr (like.loss ∙ same.0, like.plan ∙ same.1, same.2)
+    ];
+    exact = r.exact;
+  }
+
+  module _ (left : l.left.items ≡ k.left.items) where
+    -- it broke off between two boxes
+    pub lost_between : BrokeOff b w s t k l
+    lost_between = record { events = es; spent = []; left = []; worked = r; left_is = left ∙ sym (append-nil k.left.items); in_vain = inl (refl, refl) }
+
+    -- it broke off at a box
+    pub lost_at : (x : PlainBox) (u : Seated) (m : Hand) → BreaksOff b w x t u l m → k.loss ≤ no_loss → x.frame ≡ frame_of b → IsSeatOf w u → 1 ≤ t.view.allowance → BrokeOff b w s u k m
+    lost_at x u m (inl idle) small of seat may =
+        subst (λ (v : Seated). BrokeOff b w s v k m) (sym idle.0) (record {
+          events = es;
+          spent = [];
+          left = [];
+          worked = worked_same m (like_idle l m idle.1);
+          left_is = ap (λ (ls : Listed Left). ls.items) idle.1.left ∙ left ∙ sym (append-nil k.left.items);
+          in_vain = inl (refl, refl);
+        })
+    lost_at x u m (inr h) small of seat may = record {
+      events = es ++ h.0 ∷ [];
+      spent = [];
+      left = [];
+      worked = worked_more b w s t u k l m es r x h.0 h.1 small of seat may;
+      left_is = ap (λ (ls : Listed Left). ls.items) h.1.left ∙ left ∙ sym (append-nil k.left.items);
+      in_vain = inl (refl, refl);
+    }
+
+    -- it broke off where the budget was spent
+    pub lost_spent : (x : PlainBox) (u : Seated) (m : Hand) → Stops b w x t u l m → IsSeatOf w u → 1 ≤ t.view.allowance → BrokeOff b w s u k m
+    lost_spent x u m stops seat may = record {
+      events = es;
+      spent = stops.ticket ∷ [];
+      left = x ∷ [];
+      worked = worked_spent b w s t u k l m es r stops.ticket stops.seat stops.leaves.like seat may;
+      left_is = stops.leaves.left ∙ ap (λ (ls : List Left). ls ++ left_open b (x ∷ [])) left;
+      in_vain = inr (stops.ticket, x, refl, refl, stops.spent);
+    }

@@ -61,10 +61,23 @@ pub record Traffic (starts : ℕ) (old new : ArmState) (es : List Event) (left :
   pub puts : (weight : PlainBox → ℕ) → put weight new ≡ put weight old + sum_by (λ (e : Event). sum_by weight (made_by starts e)) es
   pub takes : (weight : PlainBox → ℕ) → taken weight new ≡ taken weight old + sum_by weight (all_boxes es left)
 
+-- a ticket reached the budget, and the box that it was drawn for is left
+abbrev pub IsInVain : ℕ → List ℕ → List PlainBox → Type 0
+IsInVain budget spent left = (ticket : ℕ) × (x : PlainBox) × (spent ≡ ticket ∷ []) × (left ≡ x ∷ []) × (budget ≤ ticket)
+
 -- why a worker rests: it found no box so many times in a row; or its last ticket reached the budget, and the box that it was drawn for is left
 abbrev pub RestsFor : ℕ → List ℕ → List PlainBox → ℕ → Rest → Type 0
 RestsFor budget spent left misses Rest.Idle = (spent ≡ []) × (left ≡ []) × (100000 ≤ misses)
-RestsFor budget spent left misses Rest.Spent = (ticket : ℕ) × (x : PlainBox) × (spent ≡ ticket ∷ []) × (left ≡ x ∷ []) × (budget ≤ ticket)
+RestsFor budget spent left misses Rest.Spent = IsInVain budget spent left
+
+-- all that a worker did until memory ran out: it may have drawn a ticket in vain, and left open the box that it was drawn for
+pub record BrokeOff (b : Problem) (w : Words) (s t : Seated) (old new : Hand) : Type 0 where
+  pub events : List Event
+  pub spent : List ℕ
+  pub left : List PlainBox
+  pub worked : Worked b w s t old new events spent
+  pub left_is : new.left.items ≡ old.left.items ++ left_open b left
+  pub in_vain : ((spent ≡ []) × (left ≡ [])) ⊎ IsInVain w.budget spent left
 
 -- all that a worker did until it rested
 pub record Works (b : Problem) (w : Words) (starts : ℕ) (s t : Seated) (old new : Hand) (before after : ArmState) (rest : Rest) : Type 0 where

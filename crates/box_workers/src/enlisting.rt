@@ -1,11 +1,12 @@
 //! The workers before they work.
 ghost use Rattle.std.specs.Prelude.{◌≡◌, ◌+◌, ◌≤◌, All, length, reverse, IfOk, OnOk};
+ghost use Rattle.std.specs.List.{range_with_len};
 ghost use Rattle.plan_box.specs.Frames.{frame_of};
 ghost use Rattle.box_ring.specs.Arms.{AllOfFrame, AllFresh};
 ghost use Rattle.shared_best.specs.Seats.{IsSeatOf};
 ghost use Rattle.shared_best.specs.Words.{share};
 ghost use Rattle.box_workers.specs.inner.Enlisting.{enough_for};
-ghost use Rattle.box_workers.specs.inner.Members.{IsNew, IsReady, IsUnused, arms_of, share_of};
+ghost use Rattle.box_workers.specs.inner.Members.{IsNew, IsReady, IsUnused, arms_of, numbers_of, share_of};
 
 use crate::hand::Hand;
 use crate::member::Member;
@@ -35,6 +36,7 @@ pub(crate) fn enlist(
     ensures allowance { OnOk result (10000001 ≤ seat.new.view.allowance) }
     ensures share { IfOk result (λ ms. share seat.new.view + share_of ms.items ≡ share seat.old.view) }
     ensures arms { IfOk result (λ ms. arms_of ms.items ≡ reverse arms.items) }
+    ensures numbers { IfOk result (λ ms. numbers_of ms.items ≡ reverse (range_with_len 0 (length arms.items))) }
     ensures new { IfOk result (λ ms. All (IsNew instance.now) ms.items) }
     ensures ready { IfOk result (λ ms. All (IsReady instance.now shared.now) ms.items) }
 {

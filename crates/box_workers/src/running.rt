@@ -10,6 +10,8 @@ ghost use Rattle.box_workers.specs.inner.Rounds.{Turns, HasEnded};
 use crate::gate::Gate;
 use crate::hand::Hand;
 use crate::handling::{Done, handle};
+use crate::poster::Poster;
+use crate::posting::post_better;
 use defect_map::DefectMap;
 use glass_base::{Instance, Memory, Run};
 use plan_box::PlanBox;
@@ -25,8 +27,9 @@ fn put_halves(waiting: &mut Run<PlanBox>, lower: PlanBox, upper: PlanBox)
     waiting.put(lower);
 }
 
-/// Handles a box, and puts its halves to the boxes that wait. Where the budget is spent the box waits on; that is told by `false`.
-fn turn<G: Gate>(
+/// Handles a box, and puts its halves to the boxes that wait; where the hand's plan became better the poster is told. Where the budget is
+/// spent the box waits on; that is told by `false`.
+fn turn<G: Gate, Q: Poster>(
     alloc: Global,
     instance: &Instance,
     map: &DefectMap,
@@ -37,6 +40,7 @@ fn turn<G: Gate>(
     waiting: &mut Run<PlanBox>,
     bx: PlanBox,
     gate: &G,
+    poster: &mut Q,
 ) -> Result<bool, Memory>
     requires map { map.now ≡ instance.now.defects }
     requires frame { bx.frame ≡ frame_of instance.now }
@@ -54,10 +58,15 @@ fn turn<G: Gate>(
 {
     waiting.reserve(2)?;
     gate.pass(hand.worker, bx.id());
+    let before = hand.loss;
     match handle(alloc, instance, map, shared, seat, hand, starts, bx) {
-        Ok(Done::Closed) => Ok(true),
+        Ok(Done::Closed) => {
+            post_better(hand, before, poster)?;
+            Ok(true)
+        }
         Ok(Done::Split(lower, upper)) => {
             put_halves(waiting, lower, upper);
+            post_better(hand, before, poster)?;
             Ok(true)
         }
         Ok(Done::Spent(bx)) => {
@@ -69,7 +78,7 @@ fn turn<G: Gate>(
 }
 
 /// Handles boxes until none waits or the budget is spent.
-pub(crate) fn run<G: Gate>(
+pub(crate) fn run<G: Gate, Q: Poster>(
     alloc: Global,
     instance: &Instance,
     map: &DefectMap,
@@ -79,6 +88,7 @@ pub(crate) fn run<G: Gate>(
     starts: u64,
     waiting: &mut Run<PlanBox>,
     gate: &G,
+    poster: &mut Q,
 ) -> Result<(), Memory>
     requires map { map.now ≡ instance.now.defects }
     requires frames { All (λ (x : PlainBox). x.frame ≡ frame_of instance.now) waiting.old.items }
@@ -93,7 +103,7 @@ pub(crate) fn run<G: Gate>(
     let _best = hand.loss;
     while let Some(bx) = waiting.pop() {
         if !turn(
-            alloc, instance, map, shared, seat, hand, starts, waiting, bx, gate,
+            alloc, instance, map, shared, seat, hand, starts, waiting, bx, gate, poster,
         )? {
             return Ok(());
         }

@@ -12,6 +12,7 @@ ghost use Rattle.box_workers.specs.inner.Teamwork.{HaveBounds};
 
 use crate::gate::Gate;
 use crate::hand::Hand;
+use crate::poster::{NoPoster, Poster};
 use crate::running::run;
 use crate::spreading::spread;
 use box_bound::{Leasts, bound_at};
@@ -86,6 +87,77 @@ fn better(
     }
 }
 
+/// The search, in which each worker tells a copy of this poster of its plans, and so does the caller.
+pub(crate) fn search_with<R: Threads + Wait + Sync, G: Gate + Sync, Q: Poster + Copy + Drop + Sync>(
+    rt: &R,
+    alloc: Global,
+    instance: &Instance,
+    map: &DefectMap,
+    start: Run<PlanBox>,
+    first: Option<Trace>,
+    workers: u32,
+    shared: &SharedBest,
+    seat: &mut Seat,
+    gate: &G,
+    poster: &Q,
+) -> Result<History, Memory>
+    requires map { map.now ≡ instance.now.defects }
+    requires starts { (1 ≤ length start.items) × (length start.items ≤ 160000000) }
+    requires ids { numbered 0 start.items }
+    requires frames { All (λ (x : PlainBox). x.frame ≡ frame_of instance.now) start.items }
+    requires first { IsFirst instance.now first }
+    requires workers { (1 ≤ workers) × (workers ≤ 8) }
+    requires loss { shared.now.first ≡ first_loss instance.now first }
+    requires budget { (1 ≤ shared.now.budget) × (shared.now.budget ≤ 10000000) }
+    requires seat { IsSeatOf shared.now seat.old }
+    requires newcomer { seat.old.view ≡ newcomer shared.now.first }
+    ensures lawful { IfOk result (λ h. IsLawful instance.now (course_of start.items shared.now) h) }
+    ensures seat { OnOk result (IsSeatOf shared.now seat.new × IsWhole seat.new.view) }
+    ensures shows { IfOk result (λ h. Shows instance.now shared.now start.items workers seat.new.view h) }
+{
+    // Read for its rules.
+    let _params = instance.params();
+    let mut own = *poster;
+    let starts = start.len() as u64;
+    let mut hand = Hand::new(alloc, instance, 0)?;
+    let mut waiting = spread(
+        rt, alloc, instance, map, start, workers, shared, seat, &mut hand, gate, poster,
+    )?;
+    run(
+        alloc,
+        instance,
+        map,
+        shared,
+        seat,
+        &mut hand,
+        starts,
+        &mut waiting,
+        gate,
+        &mut own,
+    )?;
+    settle(shared, seat);
+    let Hand {
+        worker: _,
+        log,
+        left,
+        plan,
+        loss,
+        scratch: _,
+        spare: _,
+        leasts,
+        spares: _,
+    } = hand;
+    let left = leave(instance, leasts, left, waiting)?;
+    let (plan, best) = better(instance, plan, loss, first);
+    Ok(History {
+        starts,
+        log,
+        left,
+        plan,
+        best,
+    })
+}
+
 /// Handles boxes, from the start boxes on, until none is left or the budget is spent; the boxes that then wait are left open.
 ///
 /// The start boxes are of this instance and numbered from 0 on, and `first` is a complete trace, if a plan is known; the words have its
@@ -121,43 +193,7 @@ pub fn search<R: Threads + Wait + Sync, G: Gate + Sync>(
     ensures seat { OnOk result (IsSeatOf shared.now seat.new × IsWhole seat.new.view) }
     ensures shows { IfOk result (λ h. Shows instance.now shared.now start.items workers seat.new.view h) }
 {
-    // Read for its rules.
-    let _params = instance.params();
-    let starts = start.len() as u64;
-    let mut hand = Hand::new(alloc, instance, 0)?;
-    let mut waiting = spread(
-        rt, alloc, instance, map, start, workers, shared, seat, &mut hand, gate,
-    )?;
-    run(
-        alloc,
-        instance,
-        map,
-        shared,
-        seat,
-        &mut hand,
-        starts,
-        &mut waiting,
-        gate,
-    )?;
-    settle(shared, seat);
-    let Hand {
-        worker: _,
-        log,
-        left,
-        plan,
-        loss,
-        scratch: _,
-        spare: _,
-        leasts,
-        spares: _,
-    } = hand;
-    let left = leave(instance, leasts, left, waiting)?;
-    let (plan, best) = better(instance, plan, loss, first);
-    Ok(History {
-        starts,
-        log,
-        left,
-        plan,
-        best,
-    })
+    search_with(
+        rt, alloc, instance, map, start, first, workers, shared, seat, gate, &NoPoster,
+    )
 }

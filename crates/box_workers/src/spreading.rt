@@ -21,6 +21,7 @@ use crate::enlisting::enlist;
 use crate::gate::Gate;
 use crate::hand::Hand;
 use crate::member::Member;
+use crate::poster::Poster;
 use crate::teaming::work_all;
 use box_ring::{gather, ring};
 use defect_map::DefectMap;
@@ -84,7 +85,7 @@ fn wind_up(
 
 /// Several workers handle boxes, from the start boxes on, until each of them rests. What they did is put into this seat and this hand,
 /// and the boxes that are left come back.
-fn work_together<R: Threads + Wait + Sync, G: Gate + Sync>(
+fn work_together<R: Threads + Wait + Sync, G: Gate + Sync, Q: Poster + Copy + Drop + Sync>(
     rt: &R,
     alloc: Global,
     instance: &Instance,
@@ -95,6 +96,7 @@ fn work_together<R: Threads + Wait + Sync, G: Gate + Sync>(
     seat: &mut Seat,
     hand: &mut Hand,
     gate: &G,
+    poster: &Q,
 ) -> Result<Run<PlanBox>, Memory>
     requires map { map.now ≡ instance.now.defects }
     requires starts { length start.items ≤ 160000000 }
@@ -111,13 +113,15 @@ fn work_together<R: Threads + Wait + Sync, G: Gate + Sync>(
 {
     let starts = start.len() as u64;
     let members = set_up(alloc, instance, start, workers, shared, seat)?;
-    let members = work_all(rt, alloc, instance, map, shared, starts, gate, members);
+    let members = work_all(
+        rt, alloc, instance, map, shared, starts, gate, poster, members,
+    );
     wind_up(alloc, shared, seat, hand, members)
 }
 
 /// The boxes that are left for the caller, who holds this seat and this hand: all start boxes, where there is to be no other worker; else
 /// those that are left once several workers have handled boxes. What they did is then in the seat and the hand.
-pub(crate) fn spread<R: Threads + Wait + Sync, G: Gate + Sync>(
+pub(crate) fn spread<R: Threads + Wait + Sync, G: Gate + Sync, Q: Poster + Copy + Drop + Sync>(
     rt: &R,
     alloc: Global,
     instance: &Instance,
@@ -128,6 +132,7 @@ pub(crate) fn spread<R: Threads + Wait + Sync, G: Gate + Sync>(
     seat: &mut Seat,
     hand: &mut Hand,
     gate: &G,
+    poster: &Q,
 ) -> Result<Run<PlanBox>, Memory>
     requires map { map.now ≡ instance.now.defects }
     requires starts { length start.items ≤ 160000000 }
@@ -143,9 +148,12 @@ pub(crate) fn spread<R: Threads + Wait + Sync, G: Gate + Sync>(
     ensures begun { IfOk result (λ boxes. HasBegun instance.now shared.now (length start.items) start.items workers seat.old seat.new hand.old hand.new boxes.items) }
 {
     if workers == 1 {
-        return Ok(start);
+        // The box that waits last is handled first: so the start boxes are handled in their order.
+        let mut waiting = start;
+        waiting.reverse();
+        return Ok(waiting);
     }
     work_together(
-        rt, alloc, instance, map, start, workers, shared, seat, hand, gate,
+        rt, alloc, instance, map, start, workers, shared, seat, hand, gate, poster,
     )
 }

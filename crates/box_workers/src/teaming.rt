@@ -5,6 +5,7 @@ ghost use Rattle.box_workers.specs.inner.Members.{IsReady, HasDone, EachDone};
 
 use crate::gate::Gate;
 use crate::member::Member;
+use crate::poster::Poster;
 use crate::working::work;
 use defect_map::DefectMap;
 use glass_base::Instance;
@@ -14,8 +15,8 @@ use std::sync::Wait;
 use std::thread;
 use std::thread::Threads;
 
-/// One worker works until it rests, and notes why.
-fn work_member<R: Wait, G: Gate>(
+/// One worker works until it rests, and notes why. It tells a poster of its own of its plans.
+fn work_member<R: Wait, G: Gate, Q: Poster + Drop>(
     rt: &R,
     alloc: Global,
     instance: &Instance,
@@ -23,6 +24,7 @@ fn work_member<R: Wait, G: Gate>(
     shared: &SharedBest,
     starts: u64,
     gate: &G,
+    poster: Q,
     member: &mut Member,
 )
     requires map { map.now ≡ instance.now.defects }
@@ -30,6 +32,7 @@ fn work_member<R: Wait, G: Gate>(
     requires ready { IsReady instance.now shared.now member.old }
     ensures { HasDone instance.now shared.now starts member.old member.new }
 {
+    let mut poster = poster;
     let rest = work(
         rt,
         alloc,
@@ -41,12 +44,13 @@ fn work_member<R: Wait, G: Gate>(
         starts,
         &mut member.arm,
         gate,
+        &mut poster,
     );
     member.rest = rest.ok();
 }
 
 /// All workers work at once, each in a thread of its own where one can be made.
-fn work_members<R: Threads + Wait + Sync, G: Gate + Sync>(
+fn work_members<R: Threads + Wait + Sync, G: Gate + Sync, Q: Poster + Copy + Drop + Sync>(
     rt: &R,
     alloc: Global,
     instance: &Instance,
@@ -54,6 +58,7 @@ fn work_members<R: Threads + Wait + Sync, G: Gate + Sync>(
     shared: &SharedBest,
     starts: u64,
     gate: &G,
+    poster: &Q,
     members: &mut [Member],
 )
     requires map { map.now ≡ instance.now.defects }
@@ -70,12 +75,16 @@ fn work_members<R: Threads + Wait + Sync, G: Gate + Sync>(
         rt,
         members,
         threads,
-        &|_, member| { work_member(rt, alloc, instance, map, shared, starts, gate, member) },
+        &|_, member| {
+            work_member(
+                rt, alloc, instance, map, shared, starts, gate, *poster, member,
+            )
+        },
     );
 }
 
 /// All workers of a list work at once, each in a thread of its own where one can be made.
-pub(crate) fn work_all<R: Threads + Wait + Sync, G: Gate + Sync>(
+pub(crate) fn work_all<R: Threads + Wait + Sync, G: Gate + Sync, Q: Poster + Copy + Drop + Sync>(
     rt: &R,
     alloc: Global,
     instance: &Instance,
@@ -83,6 +92,7 @@ pub(crate) fn work_all<R: Threads + Wait + Sync, G: Gate + Sync>(
     shared: &SharedBest,
     starts: u64,
     gate: &G,
+    poster: &Q,
     members: Vec<Member>,
 ) -> Vec<Member>
     requires map { map.now ≡ instance.now.defects }
@@ -99,6 +109,7 @@ pub(crate) fn work_all<R: Threads + Wait + Sync, G: Gate + Sync>(
         shared,
         starts,
         gate,
+        poster,
         members.as_mut_slice(),
     );
     members

@@ -1,17 +1,19 @@
 //! The work of one worker beside others.
-ghost use Rattle.std.specs.Prelude.{◌≡◌, ℕ, ◌+◌, ◌-◌, ◌≤◌, ◌<◌, ◌++◌, ◌∷◌, [], All, length, IfOk, OnOk, IfSome, MatchBool, MatchOption, option_to_list};
+ghost use Rattle.std.specs.Prelude.{◌≡◌, ℕ, ◌+◌, ◌-◌, ◌≤◌, ◌<◌, ◌++◌, ◌∷◌, [], All, length, IfOk, OnErr, OnOk, IfSome, MatchBool, MatchOption, option_to_list};
 ghost use Rattle.std.specs.VecDeque.{deque_len, deque_capacity};
 ghost use Rattle.plan_box.specs.Frames.{frame_of};
 ghost use Rattle.plan_box.specs.Ranges.{PlainBox};
 ghost use Rattle.box_bound.specs.Leastings.{IsOf};
 ghost use Rattle.box_ring.specs.Arms.{frame, Stays};
 ghost use Rattle.shared_best.specs.Seats.{IsSeatOf};
-ghost use Rattle.box_workers.specs.Works.{Works};
-ghost use Rattle.box_workers.specs.inner.Rounds.{Moves, Turns, Leaves, Stops};
+ghost use Rattle.box_workers.specs.Works.{BrokeOff, Works};
+ghost use Rattle.box_workers.specs.inner.Rounds.{BreaksOff, Leaves, Moves, Stops, Turns};
 
 use crate::gate::Gate;
 use crate::hand::Hand;
 use crate::handling::{Done, handle};
+use crate::poster::Poster;
+use crate::posting::post_better;
 use box_bound::bound_at;
 use box_ring::Arm;
 use cert_log::Left;
@@ -121,8 +123,9 @@ fn leave_open(instance: &Instance, hand: &mut Hand, bx: PlanBox)
     hand.left.put(Left { bx, bound });
 }
 
-/// Handles a box, and puts its halves to the boxes at hand. Where the budget is spent the box is left open; that is told by `false`.
-fn turn<G: Gate>(
+/// Handles a box, and puts its halves to the boxes at hand; where the hand's plan became better the poster is told. Where the budget is
+/// spent the box is left open; that is told by `false`.
+fn turn<G: Gate, Q: Poster>(
     alloc: Global,
     instance: &Instance,
     map: &DefectMap,
@@ -133,6 +136,7 @@ fn turn<G: Gate>(
     at_hand: &mut VecDeque<PlanBox>,
     bx: PlanBox,
     gate: &G,
+    poster: &mut Q,
 ) -> Result<bool, Memory>
     requires map { map.now ≡ instance.now.defects }
     requires frame { bx.frame ≡ frame_of instance.now }
@@ -148,13 +152,19 @@ fn turn<G: Gate>(
     ensures leasts { IsOf instance.now hand.new.leasts }
     ensures frames { OnOk result (All (λ (x : PlainBox). x.frame ≡ frame_of instance.now) at_hand.new.items) }
     ensures turns { IfOk result (λ more. MatchBool more (Turns instance.now shared.now starts bx seat.old seat.new hand.old hand.new at_hand.old.items at_hand.new.items) (Stops instance.now shared.now bx seat.old seat.new hand.old hand.new × (at_hand.new.items ≡ at_hand.old.items))) }
+    ensures lost { OnErr result (BreaksOff instance.now shared.now bx seat.old seat.new hand.old hand.new) }
 {
     at_hand.reserve(2)?;
     gate.pass(hand.worker, bx.id());
+    let before = hand.loss;
     match handle(alloc, instance, map, shared, seat, hand, starts, bx) {
-        Ok(Done::Closed) => Ok(true),
+        Ok(Done::Closed) => {
+            post_better(hand, before, poster)?;
+            Ok(true)
+        }
         Ok(Done::Split(lower, upper)) => {
             put_halves(at_hand, lower, upper);
+            post_better(hand, before, poster)?;
             Ok(true)
         }
         Ok(Done::Spent(bx)) => {
@@ -172,15 +182,17 @@ fn turn<G: Gate>(
 /// Boxes that it will pop again itself are kept at hand: those are pushed and popped at once when their turn comes. Only where its deque
 /// is found empty the oldest of them is pushed, so that another worker can steal it, and at the end all that are left.
 ///
+/// The poster is told of each plan that is better than the hand's before, once its box is handled.
+///
 /// It rests, `Spent`, where a ticket that it drew reached the budget: then the box that it was drawn for is left open in the hand. It
 /// rests, `Idle`, where the arm has missed 100,000 times in a row.
 ///
 /// The ring must be for boxes of this instance, the arm must not have missed yet, and the seat must be free to draw more tickets than the
 /// budget has. `starts` is the number of start boxes, as for `handle`.
 ///
-/// Only want of memory is refused: seat, hand and arm are then as the turns before left them, but the boxes at hand may be lost. It may
-/// wait for another thread, which is at the same deque.
-pub fn work<R: Wait, G: Gate>(
+/// Only want of memory is refused: seat, hand and arm are then as the turns up to then left them, but the boxes at hand may be lost. It may
+/// wait for another thread, which is at the same deque, and for what the poster waits for.
+pub fn work<R: Wait, G: Gate, Q: Poster>(
     rt: &R,
     alloc: Global,
     instance: &Instance,
@@ -191,6 +203,7 @@ pub fn work<R: Wait, G: Gate>(
     starts: u64,
     arm: &mut Arm,
     gate: &G,
+    poster: &mut Q,
 ) -> Result<Rest, Memory>
     requires map { map.now ≡ instance.now.defects }
     requires ring { frame arm.old ≡ frame_of instance.now }
@@ -204,6 +217,7 @@ pub fn work<R: Wait, G: Gate>(
     ensures scratch { length hand.new.scratch.steps.items ≡ length instance.now.items }
     ensures leasts { IsOf instance.now hand.new.leasts }
     ensures stays { Stays arm.old arm.new }
+    ensures lost { OnErr result (BrokeOff instance.now shared.now seat.old seat.new hand.old hand.new) }
     ensures works { IfOk result (λ rest. Works instance.now shared.now starts seat.old seat.new hand.old hand.new arm.old arm.new rest) }
 {
     // Read for its range.
@@ -226,6 +240,7 @@ pub fn work<R: Wait, G: Gate>(
                     &mut at_hand,
                     bx,
                     gate,
+                    poster,
                 )? {
                     push_all(arm, at_hand)?;
                     return Ok(Rest::Spent);

@@ -37,6 +37,10 @@ pub record IsReady (b : Problem) (w : Words) (m : Member) : Type 0 where
 abbrev pub arms_of : List Member → List ArmState
 arms_of ms = map (λ (m : Member). m.arm) ms
 
+-- their numbers
+abbrev pub numbers_of : List Member → List ℕ
+numbers_of ms = map (λ (m : Member). m.hand.worker) ms
+
 -- how many tickets workers have drawn or may draw
 abbrev pub share_of : List Member → ℕ
 share_of ms = sum_by (λ (m : Member). share m.seat.view) ms

@@ -10,7 +10,7 @@ use Rattle.box_ring.specs.Arms.{ArmState, put, taken}
 use Rattle.shared_best.specs.Seats.{Words, Seated}
 use Rattle.shared_best.specs.Words.{drawn}
 use Rattle.box_workers.specs.declared.hand.Hand.{Hand}
-use Rattle.box_workers.specs.Handling.{Handles}
+use Rattle.box_workers.specs.Handling.{Handles, IsIdle}
 use Rattle.box_workers.specs.Works.{Worked, left_open}
 use Rattle.box_workers.specs.inner.Hands.{IsLike}
 
@@ -56,6 +56,10 @@ pub record Stops (b : Problem) (w : Words) (x : PlainBox) (s t : Seated) (old ne
   pub spent : w.budget ≤ ticket
   pub seat : t.view ≡ drawn s.view ticket
   pub leaves : Leaves b x old new
+
+-- memory ran out: nothing was done with a box, or it was handled
+abbrev pub BreaksOff : Problem → Words → PlainBox → Seated → Seated → Hand → Hand → Type 0
+BreaksOff b w x s t old new = ((t ≡ s) × IsIdle old new) ⊎ ((e : Event) × Handles b w x s t old new e)
 
 -- of the boxes at hand an arm put those that are at hand no more, and it took these
 pub record Moves (before after : List PlainBox) (took : List PlainBox) (old new : ArmState) : Type 0 where

@@ -76,4 +76,4 @@ pub record HasBegun (b : Problem) (w : Words) (starts : ℕ) (boxes : List Plain
   pub stage : IsStage b w starts boxes t.view new events spent waiting
   pub share_is : share t.view ≡ share s.view
   pub allowance : w.budget < t.view.allowance
-  pub one : workers ≡ 1 → (events ≡ []) × (spent ≡ []) × (t ≡ s) × (new ≡ old) × (waiting ≡ boxes)
+  pub one : workers ≡ 1 → (events ≡ []) × (spent ≡ []) × (t ≡ s) × (new ≡ old) × (waiting ≡ reverse boxes)

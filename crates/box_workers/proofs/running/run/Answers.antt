@@ -1,4 +1,4 @@
-use Rattle.std.proofs.Common.{rules, ◌≡◌, ◌∷◌, ◌++◌, [], ◌≤◌, List, subst, arith}
+use Rattle.std.proofs.Common.{rules, ◌≡◌, ◌∷◌, ◌++◌, [], ◌≤◌, List, ℕ, inl, refl, add-zero, subst, arith}
 use Rattle.std.specs.Prelude.{Some}
 use Rattle.std.proofs.lemmas.List.Elements.{All-pop}
 use Rattle.plan_box.specs.Frames.{frame_of}
@@ -6,8 +6,36 @@ use Rattle.plan_box.specs.Ranges.{PlainBox}
 use Rattle.cert_log.specs.Lawful.{no_loss}
 use Rattle.box_workers.specs.Handling.{Spends}
 use Rattle.box_workers.specs.inner.Rounds.{HasRun, Turns}
-use Rattle.box_workers.proofs.Worked.{draws_one, may_draw, turned, ended}
+use Rattle.box_workers.proofs.Worked.{draws_one, may_draw, turned, ended, worked_none}
 use Rattle.box_workers.proofs.running.run.Goals as goal
+
+pub loop-bx-init : goal.loop-bx-init
+loop-bx-init g c = record {
+  runs = (
+    [],
+    record {
+      worked = worked_none c.args.instance.now c.args.shared.now c.args.seat.now c.args.hand.now _ c.requires.seat (record { worker = refl; log = refl; plan = refl; loss = refl });
+      left = refl;
+      few = inl refl;
+      scratch = c.requires.scratch;
+      leasts = c.requires.leasts;
+      weighs = λ (weight : PlainBox → ℕ). add-zero _;
+      frames = c.requires.frames;
+    },
+  );
+}
+
+pub turn-requires-clause-frame : goal.turn-requires-clause-frame
+turn-requires-clause-frame g c =
+    let i = c.loop-bx.invariant.runs in
+    let last : c.loop-bx.waiting.items ≡ c.pop.new.self.items ++ c.in-Some.bx ∷ [] = search rules in
+    (All-pop (λ (x : PlainBox). x.frame ≡ frame_of c.args.instance.now) c.loop-bx.waiting.items c.pop.new.self.items (Some c.in-Some.bx) last i.1.frames).1
+
+pub turn-requires-clause-frames : goal.turn-requires-clause-frames
+turn-requires-clause-frames g c =
+    let i = c.loop-bx.invariant.runs in
+    let last : c.loop-bx.waiting.items ≡ c.pop.new.self.items ++ c.in-Some.bx ∷ [] = search rules in
+    (All-pop (λ (x : PlainBox). x.frame ≡ frame_of c.args.instance.now) c.loop-bx.waiting.items c.pop.new.self.items (Some c.in-Some.bx) last i.1.frames).0
 
 pub loop-bx-preserved : goal.loop-bx-preserved
 loop-bx-preserved g c =

@@ -1,6 +1,17 @@
+use Rattle.std.proofs.Common.{◌≡◌, All, subst, sym}
+use Rattle.plan_box.specs.Frames.{frame_of}
+use Rattle.plan_box.specs.Ranges.{PlainBox}
+use Rattle.box_workers.specs.inner.Teamwork.{HasBegun}
+use Rattle.box_workers.proofs.Lists.{all_reverse}
 use Rattle.box_workers.proofs.Stages.{begun_none}
 use Rattle.box_workers.proofs.spreading.spread.Goals as goal
 
+pub returns-then-workers-eq1-clause-frames : goal.returns-then-workers-eq1-clause-frames
+returns-then-workers-eq1-clause-frames g c =
+    let Fits : PlainBox → Type 0 = λ x. x.frame ≡ frame_of c.args.instance.now in
+    subst (All Fits) (sym c.reverse.ensures.items) (all_reverse Fits c.args.start.items c.requires.frames)
+
 pub returns-then-workers-eq1-clause-begun : goal.returns-then-workers-eq1-clause-begun
 returns-then-workers-eq1-clause-begun g c =
-    begun_none c.args.instance.now c.args.shared.now _ c.args.start.items c.args.workers c.args.seat.now c.args.hand.now c.requires.newcomer c.requires.hand.0 c.requires.hand.1 c.requires.budget
+    let begun = begun_none c.args.instance.now c.args.shared.now _ c.args.start.items c.args.workers c.args.seat.now c.args.hand.now c.requires.newcomer c.requires.hand.0 c.requires.hand.1 c.requires.budget in
+    subst (HasBegun c.args.instance.now c.args.shared.now _ c.args.start.items c.args.workers c.args.seat.now c.args.seat.now c.args.hand.now c.args.hand.now) (sym c.reverse.ensures.items) begun

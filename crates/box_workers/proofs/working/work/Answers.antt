@@ -5,11 +5,32 @@ use Rattle.cert_log.specs.declared.history.Left.{Left}
 use Rattle.cert_log.specs.Lawful.{no_loss}
 use Rattle.box_ring.proofs.Rows.{stays_none, stays_twice}
 use Rattle.box_workers.specs.Works.{left_open}
-use Rattle.box_workers.specs.inner.Rounds.{Moves, Midway, Turns, Stops}
+use Rattle.box_workers.specs.inner.Rounds.{BreaksOff, Midway, Moves, Stops, Turns}
 use Rattle.box_workers.proofs.Progress.{few_push}
-use Rattle.box_workers.proofs.Worked.{worked_none, worked_more, worked_spent, new_tickets, draws_one, may_draw}
+use Rattle.box_workers.proofs.Worked.{lost_at, lost_between, lost_spent, worked_none, when_err, worked_more, worked_spent, new_tickets, draws_one, may_draw}
 use Rattle.box_workers.proofs.Traffic.{midway_none, midway_more, traffic_idle, traffic_left, rests_spent}
 use Rattle.box_workers.proofs.working.work.Goals as goal
+
+pub returns-in_err-reserve-clause-lost : goal.returns-in_err-reserve-clause-lost
+returns-in_err-reserve-clause-lost g c =
+    when_err _ (lost_between c.args.instance.now c.args.shared.now c.args.seat.now c.args.seat.now c.args.hand.now _ []
+    (worked_none c.args.instance.now c.args.shared.now c.args.seat.now c.args.hand.now _ c.requires.seat (record { worker = refl; log = refl; plan = refl; loss = refl })) c.reserve.ensures.items)
+
+pub returns-in_err-turn-in-Some-clause-lost : goal.returns-in_err-turn-in-Some-clause-lost
+returns-in_err-turn-in-Some-clause-lost g c =
+    let i = c.loop-alloc.invariant.runs in let x = c.in-Some.bx in
+    let off : BreaksOff c.args.instance.now c.args.shared.now x c.loop-alloc.seat c.turn.new.seat c.loop-alloc.hand c.turn.new.hand = search rules in
+    let small : c.args.hand.now.loss ≤ no_loss = search rules in
+    let of : x.frame ≡ frame_of c.args.instance.now = c.in-Some.ensures.frame ∙ c.loop-alloc.invariant.ring in
+    let some = may_draw c.args.shared.now.budget c.loop-alloc.seat.view.allowance c.args.seat.now.view.allowance i.0 i.2 i.1.allowance c.requires.allowance in
+    when_err _ (lost_at c.args.instance.now c.args.shared.now c.args.seat.now c.loop-alloc.seat c.args.hand.now c.loop-alloc.hand i.0 i.1 c.loop-alloc.invariant.left x c.turn.new.seat c.turn.new.hand off small of c.turn.ensures.seat some)
+
+pub returns-in_err-push_all-in-Some-clause-lost : goal.returns-in_err-push_all-in-Some-clause-lost
+returns-in_err-push_all-in-Some-clause-lost g c =
+    let i = c.loop-alloc.invariant.runs in let x = c.in-Some.bx in
+    let stops : Stops c.args.instance.now c.args.shared.now x c.loop-alloc.seat c.turn.new.seat c.loop-alloc.hand c.turn.new.hand × (c.turn.new.at_hand.items ≡ c.offer.new.at_hand.items) = search rules in
+    let some = may_draw c.args.shared.now.budget c.loop-alloc.seat.view.allowance c.args.seat.now.view.allowance i.0 i.2 i.1.allowance c.requires.allowance in
+    when_err _ (lost_spent c.args.instance.now c.args.shared.now c.args.seat.now c.loop-alloc.seat c.args.hand.now c.loop-alloc.hand i.0 i.1 c.loop-alloc.invariant.left x c.turn.new.seat c.turn.new.hand stops.0 c.turn.ensures.seat some)
 
 pub loop-alloc-init : goal.loop-alloc-init
 loop-alloc-init g c = record {

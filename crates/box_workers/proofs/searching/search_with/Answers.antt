@@ -7,7 +7,7 @@ use Rattle.box_workers.specs.inner.Hands.{IsFresh}
 use Rattle.box_workers.specs.inner.Rounds.{HasEnded}
 use Rattle.box_workers.specs.inner.Teamwork.{HaveBounds, HasBegun}
 use Rattle.box_workers.proofs.Outcome.{small_announced, lawful, shows}
-use Rattle.box_workers.proofs.searching.search.Goals as goal
+use Rattle.box_workers.proofs.searching.search_with.Goals as goal
 
 pub settle-requires-clause-small : goal.settle-requires-clause-small
 settle-requires-clause-small g c =

@@ -1,0 +1,4 @@
+pub mod Those
+pub mod Improving
+mod Completing
+mod Gathering

@@ -1,0 +1,4 @@
+pub mod Improvements
+pub mod Kept
+pub mod Offers
+pub mod Settles

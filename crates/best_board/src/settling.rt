@@ -1,0 +1,149 @@
+//! The improvements of a search, from its first plan to its last one.
+ghost use Rattle.std.specs.Prelude.{◌≡◌, ◌↔◌, ◌<◌, ◌++◌, ◌∷◌, [], IfOk, IfSome, IsTrue, OnOk, List, option_map};
+ghost use Rattle.plan_trace.specs.Claims.{IsComplete};
+ghost use Rattle.cert_log.specs.Lawful.{trace_loss as trace_loss_of};
+ghost use Rattle.best_board.specs.Improvements.{AreImprovements, Found, IsImprovement, found, found_in, last_loss};
+ghost use Rattle.best_board.specs.Settles.{AreThose, IsBetween, IsNoWorse, Settles, begins, ends};
+
+use crate::copying::copy_trace;
+use crate::entries::{Entries, is_complete};
+use crate::entry::Entry;
+use cert_log::trace_loss;
+use cut_model::Trace;
+use defect_map::DefectMap;
+use glass_base::{Instance, Memory, Run, append};
+use std::alloc::Global;
+
+/// Whether a loss lies between two, the upper one of which may be missing.
+fn is_within(loss: u64, most: Option<u64>, least: u64) -> bool
+    ensures { IsTrue result ↔ ((least < loss) × IfSome most (λ limit. loss < limit)) }
+{
+    match most {
+        None => least < loss,
+        Some(most) => least < loss && loss < most,
+    }
+}
+
+/// Whether an entry is a plan of this instance, and has its loss.
+fn is_improvement(instance: &Instance, map: &DefectMap, entry: &Entry) -> bool
+    requires map { map.now ≡ instance.now.defects }
+    ensures { IsTrue result ↔ IsImprovement instance.now (found entry.now) }
+{
+    is_complete(instance, map, &entry.trace) && entry.loss == trace_loss(instance, &entry.trace)
+}
+
+/// Whether an entry is a plan of this instance whose loss lies between two.
+fn is_between(
+    instance: &Instance,
+    map: &DefectMap,
+    most: Option<u64>,
+    least: u64,
+    entry: &Entry,
+) -> bool
+    requires map { map.now ≡ instance.now.defects }
+    ensures { IsTrue result ↔ IsBetween instance.now most least (found entry.now) }
+{
+    is_within(entry.loss, most, least) && is_improvement(instance, map, entry)
+}
+
+/// Appends a plan with this loss.
+fn put_plan(alloc: Global, loss: u64, trace: &Trace, list: &mut Run<Entry>) -> Result<(), Memory>
+    ensures { OnOk result (found_in list.new.items ≡ found_in list.old.items ++ record { loss = loss; steps = trace.now.steps.items } ∷ []) }
+{
+    let trace = copy_trace(alloc, trace)?;
+    append(list, Entry { loss, trace })
+}
+
+/// Appends the first plan, if there is one, and tells its loss.
+fn put_first(
+    alloc: Global,
+    instance: &Instance,
+    first: Option<&Trace>,
+    list: &mut Run<Entry>,
+) -> Result<Option<u64>, Memory>
+    requires { IfSome (option_map (λ t. t.now.steps.items) first) (IsComplete instance.now) }
+    ensures loss { IfOk result (λ loss. loss ≡ option_map (trace_loss_of instance.now) (option_map (λ t. t.now.steps.items) first.entry)) }
+    ensures list { OnOk result (found_in list.new.items ≡ found_in list.old.items ++ begins instance.now (option_map (λ t. t.now.steps.items) first.entry)) }
+{
+    let Some(trace) = first else {
+        return Ok(None);
+    };
+    let loss = trace_loss(instance, trace);
+    put_plan(alloc, loss, trace, list)?;
+    Ok(Some(loss))
+}
+
+/// Appends those entries that are plans of this instance and whose losses lie between two.
+fn put_between(
+    alloc: Global,
+    instance: &Instance,
+    map: &DefectMap,
+    most: Option<u64>,
+    least: u64,
+    entries: &[Entry],
+    list: &mut Run<Entry>,
+) -> Result<(), Memory>
+    requires map { map.now ≡ instance.now.defects }
+    ensures { OnOk result ((between : List Found) × AreThose (IsBetween instance.now most least) (found_in entries.now) between × (found_in list.new.items ≡ found_in list.old.items ++ between)) }
+{
+    for entry in entries {
+        if is_between(instance, map, most, least, entry) {
+            put_plan(alloc, entry.loss, &entry.trace, list)?;
+        }
+    }
+    Ok(())
+}
+
+/// Appends the last plan, unless it loses as much as the first.
+fn put_last(
+    alloc: Global,
+    most: Option<u64>,
+    loss: u64,
+    trace: &Trace,
+    list: &mut Run<Entry>,
+) -> Result<(), Memory>
+    ensures { OnOk result (found_in list.new.items ≡ found_in list.old.items ++ ends most record { loss = loss; steps = trace.now.steps.items }) }
+{
+    match most {
+        None => put_plan(alloc, loss, trace, list),
+        Some(most) => {
+            if loss == most {
+                return Ok(());
+            }
+            put_plan(alloc, loss, trace, list)
+        }
+    }
+}
+
+/// The improvements of a search: its first plan, if there is one; then those entries that are plans of this instance, with the loss that
+/// they have, and that lose less than the first and more than the last one; then the last one, unless it loses as much as the first.
+/// Without a last plan there are none.
+///
+/// Both plans must have a step for each item and meet the rules, and where there is a first one, there must be a last one that loses no
+/// more. What the entries say is not believed: others have had them in their hands.
+pub fn settle(
+    alloc: Global,
+    instance: &Instance,
+    map: &DefectMap,
+    first: Option<&Trace>,
+    entries: &Entries,
+    last: Option<&Trace>,
+) -> Result<Run<Entry>, Memory>
+    requires map { map.now ≡ instance.now.defects }
+    requires first { IfSome (option_map (λ t. t.now.steps.items) first) (IsComplete instance.now) }
+    requires last { IfSome (option_map (λ t. t.now.steps.items) last) (IsComplete instance.now) }
+    requires no_worse { IsNoWorse instance.now (option_map (λ t. t.now.steps.items) first) (option_map (λ t. t.now.steps.items) last) }
+    ensures settles { IfOk result (λ list. Settles instance.now (option_map (λ t. t.now.steps.items) first.entry) (option_map (λ t. t.now.steps.items) last.entry) entries.now.found (found_in list.items)) }
+    ensures improvements { IfOk result (λ list. AreImprovements instance.now (found_in list.items)) }
+    ensures ends { IfOk result (λ list. last_loss (found_in list.items) ≡ option_map (trace_loss_of instance.now) (option_map (λ t. t.now.steps.items) last.entry)) }
+{
+    let mut list = Run::new(alloc);
+    let Some(last) = last else {
+        return Ok(list);
+    };
+    let least = trace_loss(instance, last);
+    let most = put_first(alloc, instance, first, &mut list)?;
+    put_between(alloc, instance, map, most, least, entries.list(), &mut list)?;
+    put_last(alloc, most, least, last, &mut list)?;
+    Ok(list)
+}

@@ -1,0 +1,113 @@
+//! The search, with the improvements that its workers found.
+ghost use Rattle.std.specs.Prelude.{◌≡◌, ◌≤◌, All, IfOk, IfSome, OnOk, length};
+ghost use Rattle.plan_trace.specs.Claims.{IsComplete};
+ghost use Rattle.plan_box.specs.Frames.{frame_of};
+ghost use Rattle.plan_box.specs.Ranges.{PlainBox};
+ghost use Rattle.cert_log.specs.Lawful.{IsBest, IsLawful, numbered};
+ghost use Rattle.shared_best.specs.Seats.{IsSeatOf};
+ghost use Rattle.shared_best.specs.Words.{newcomer, IsWhole};
+ghost use Rattle.best_board.specs.Improvements.{found_in};
+ghost use Rattle.best_board.specs.Settles.{IsNoWorse};
+ghost use Rattle.box_workers.specs.Runs.{IsFirst, first_loss as first_loss_of, Shows, course_of};
+ghost use Rattle.box_workers.specs.Watched.{AreOfSearch, steps_of};
+
+use crate::gate::Gate;
+use crate::poster::BoardPoster;
+use crate::searching::search_with;
+use crate::starting::first_loss;
+use best_board::{Board, Entries, Entry, copy_trace, settle};
+use cert_log::History;
+use cut_model::Trace;
+use defect_map::DefectMap;
+use glass_base::{Instance, Memory, Run};
+use plan_box::PlanBox;
+use shared_best::{Seat, SharedBest};
+use std::alloc::Global;
+use std::sync::Wait;
+use std::thread::Threads;
+
+/// The same plan in memory of its own, if there is one.
+fn copy_plan(alloc: Global, plan: &Option<Trace>) -> Result<Option<Trace>, Memory>
+    ensures { IfOk result (λ copy. steps_of copy ≡ steps_of plan.now) }
+{
+    match plan {
+        None => Ok(None),
+        Some(trace) => Ok(Some(copy_trace(alloc, trace)?)),
+    }
+}
+
+/// The improvements of a search that this history tells of, from its first plan on, by what a board kept of it.
+fn improvements(
+    alloc: Global,
+    instance: &Instance,
+    map: &DefectMap,
+    first: &Option<Trace>,
+    entries: &Entries,
+    history: &History,
+) -> Result<Run<Entry>, Memory>
+    requires map { map.now ≡ instance.now.defects }
+    requires first { IfSome (steps_of first.now) (IsComplete instance.now) }
+    requires best { IsBest instance.now history.now.best history.now.plan }
+    requires no_worse { IsNoWorse instance.now (steps_of first.now) (steps_of history.now.plan) }
+    ensures { IfOk result (λ list. AreOfSearch instance.now (steps_of first.now) history.now (found_in list.items)) }
+{
+    // Read for its range.
+    let _best = history.best;
+    settle(
+        alloc,
+        instance,
+        map,
+        first.as_ref(),
+        entries,
+        history.plan.as_ref(),
+    )
+}
+
+/// Does what `search` does, and has its workers post each plan that they find to one board. Gives the history, and the improvements: the
+/// first plan, if there is one, those that were posted and lose less than it and more than the best one, each less than the one before,
+/// and the best one.
+///
+/// That a plan was posted no clause says, since a lock tells nothing of what was done under it. What holds whatever was posted: each
+/// improvement has a step for each item, meets the rules and has its loss, they fall strictly, and the last one is as good as the best
+/// plan; there are none where no plan was found.
+///
+/// Only want of memory is refused. It may wait for another thread, which is at the same deque or at the board.
+pub fn search_watched<R: Threads + Wait + Sync, G: Gate + Sync>(
+    rt: &R,
+    alloc: Global,
+    instance: &Instance,
+    map: &DefectMap,
+    start: Run<PlanBox>,
+    first: Option<Trace>,
+    workers: u32,
+    shared: &SharedBest,
+    seat: &mut Seat,
+    gate: &G,
+) -> Result<(History, Run<Entry>), Memory>
+    requires map { map.now ≡ instance.now.defects }
+    requires starts { (1 ≤ length start.items) × (length start.items ≤ 160000000) }
+    requires ids { numbered 0 start.items }
+    requires frames { All (λ (x : PlainBox). x.frame ≡ frame_of instance.now) start.items }
+    requires first { IsFirst instance.now first }
+    requires workers { (1 ≤ workers) × (workers ≤ 8) }
+    requires loss { shared.now.first ≡ first_loss_of instance.now first }
+    requires budget { (1 ≤ shared.now.budget) × (shared.now.budget ≤ 10000000) }
+    requires seat { IsSeatOf shared.now seat.old }
+    requires newcomer { seat.old.view ≡ newcomer shared.now.first }
+    ensures lawful { IfOk result (λ r. IsLawful instance.now (course_of start.items shared.now) r.0) }
+    ensures seat { OnOk result (IsSeatOf shared.now seat.new × IsWhole seat.new.view) }
+    ensures shows { IfOk result (λ r. Shows instance.now shared.now start.items workers seat.new.view r.0) }
+    ensures improvements { IfOk result (λ r. AreOfSearch instance.now (steps_of first) r.0 (found_in r.1.items)) }
+{
+    // Read for its range.
+    let _loss = first_loss(instance, &first);
+    let begun = copy_plan(alloc, &first)?;
+    let board = Board::new(Entries::new(alloc, instance)?);
+    let poster = BoardPoster { board: &board, rt };
+    let history = search_with(
+        rt, alloc, instance, map, start, first, workers, shared, seat, gate, &poster,
+    )?;
+    let entries = board.close();
+    let list = improvements(alloc, instance, map, &begun, &entries, &history)?;
+    Ok((history, list))
+}
