@@ -1,2 +1,3 @@
 mod Prefixes
 mod Counts
+mod Flags

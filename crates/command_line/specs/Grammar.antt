@@ -1,5 +1,5 @@
 -- The command lines: each command is a row of the table `pattern_of`.
-use Rattle.std.specs.Prelude.{◌==◌, ◌&&◌, ◌||◌, ◌+◌, ◌++◌, ℕ, List, [], ◌∷◌, length, take, drop, find, position, slice_get, count_by, nat_le, nat_lt, Bool, false, not, is_some, if◌then◌else◌, Option, Some, None, codes, option_map, option_and_then}
+use Rattle.std.specs.Prelude.{◌==◌, ◌&&◌, ◌||◌, ◌+◌, ◌++◌, ℕ, List, [], ◌∷◌, length, take, drop, find, position, slice_get, count_by, nat_le, nat_lt, Bool, true, false, not, is_some, if◌then◌else◌, Option, Some, None, codes, option_map, option_and_then}
 use Rattle.std.specs.Char.{is_ascii_digit}
 use Rattle.std.specs.List.{filter_map, list_all, list_any}
 use Rattle.std.specs.Option.{option_map_or, option_or, unwrap_or}
@@ -10,6 +10,8 @@ use Rattle.glass_base.specs.declared.role.Role.{Role}
 use Rattle.glass_base.specs.declared.role.Role.TheVariants as role
 use Rattle.command_line.specs.declared.grammar.Count.{Count}
 use Rattle.command_line.specs.declared.grammar.Count.TheVariants as count
+use Rattle.command_line.specs.declared.grammar.Flag.{Flag}
+use Rattle.command_line.specs.declared.grammar.Flag.TheVariants as flag
 use Rattle.command_line.specs.declared.grammar.Lead.{Lead}
 use Rattle.command_line.specs.declared.grammar.Lead.TheVariants as lead
 use Rattle.command_line.specs.declared.grammar.Product.{Product}
@@ -18,8 +20,8 @@ use Rattle.command_line.specs.declared.grammar.Verb.{Verb}
 use Rattle.command_line.specs.declared.grammar.Verb.TheVariants as verb
 
 -- what the words of a command are: its own word, then a number for each of these, a name for each file that it reads and for each that
--- it stores, in this order, and then options, which name further files that it reads, or set numbers; a dash may stand in the place of
--- a file that it can do without
+-- it stores, in this order, and then options, which name further files that it reads, set numbers, or are words of their own; a dash may
+-- stand in the place of a file that it can do without
 pub record Pattern : Type 0 where
   pub word : List ℕ
   pub leads : List Lead
@@ -28,6 +30,7 @@ pub record Pattern : Type 0 where
   pub stores : List Product
   pub options : List Role
   pub counts : List Count
+  pub flags : List Flag
 
 abbrev pub pattern_of : Verb → Pattern
 pattern_of verb.Draft = record {
@@ -38,6 +41,7 @@ pattern_of verb.Draft = record {
   stores = product.Plan ∷ [];
   options = role.Params ∷ role.Plates ∷ [];
   counts = [];
+  flags = [];
 }
 pattern_of verb.Plan = record {
   word = codes "plan";
@@ -47,6 +51,7 @@ pattern_of verb.Plan = record {
   stores = product.Plan ∷ product.Certificate ∷ [];
   options = role.Params ∷ role.Plates ∷ [];
   counts = count.Workers ∷ count.Budget ∷ [];
+  flags = flag.Watch ∷ [];
 }
 pattern_of verb.Gen = record {
   word = codes "gen";
@@ -56,6 +61,7 @@ pattern_of verb.Gen = record {
   stores = product.Plan ∷ product.Certificate ∷ [];
   options = [];
   counts = count.Workers ∷ count.Budget ∷ [];
+  flags = [];
 }
 pattern_of verb.Judge = record {
   word = codes "judge";
@@ -65,6 +71,7 @@ pattern_of verb.Judge = record {
   stores = [];
   options = role.Params ∷ role.Plates ∷ [];
   counts = [];
+  flags = [];
 }
 pattern_of verb.Verify = record {
   word = codes "verify";
@@ -73,7 +80,8 @@ pattern_of verb.Verify = record {
   without = role.Plan ∷ [];
   stores = [];
   options = role.Params ∷ role.Plates ∷ [];
-  counts = [];
+  counts = count.Frozen ∷ [];
+  flags = [];
 }
 pattern_of verb.Convert = record {
   word = codes "convert";
@@ -83,6 +91,47 @@ pattern_of verb.Convert = record {
   stores = product.Certificate ∷ [];
   options = role.Params ∷ role.Plates ∷ [];
   counts = [];
+  flags = [];
+}
+pattern_of verb.Resume = record {
+  word = codes "resume";
+  leads = [];
+  reads = role.Batch ∷ role.Defects ∷ role.Plan ∷ role.Cert ∷ [];
+  without = role.Plan ∷ [];
+  stores = product.Plan ∷ product.Certificate ∷ [];
+  options = role.Params ∷ role.Plates ∷ [];
+  counts = count.Workers ∷ count.Budget ∷ [];
+  flags = [];
+}
+pattern_of verb.Freeze = record {
+  word = codes "freeze";
+  leads = lead.Frozen ∷ [];
+  reads = role.Batch ∷ role.Defects ∷ role.Plan ∷ [];
+  without = [];
+  stores = product.Plan ∷ product.Certificate ∷ [];
+  options = role.Params ∷ role.Plates ∷ [];
+  counts = count.Workers ∷ count.Budget ∷ [];
+  flags = [];
+}
+pattern_of verb.Sheet = record {
+  word = codes "sheet";
+  leads = [];
+  reads = role.Batch ∷ role.Defects ∷ role.Plan ∷ [];
+  without = [];
+  stores = product.Sheet ∷ [];
+  options = role.Params ∷ role.Plates ∷ [];
+  counts = [];
+  flags = [];
+}
+pattern_of verb.Replay = record {
+  word = codes "replay";
+  leads = [];
+  reads = role.Batch ∷ role.Defects ∷ role.Sheet ∷ [];
+  without = [];
+  stores = [];
+  options = role.Params ∷ role.Plates ∷ [];
+  counts = [];
+  flags = [];
 }
 pattern_of verb.Picture = record {
   word = codes "picture";
@@ -92,15 +141,16 @@ pattern_of verb.Picture = record {
   stores = product.Picture ∷ [];
   options = role.Params ∷ role.Plates ∷ [];
   counts = [];
+  flags = [];
 }
 
 -- the commands of `glass`
 abbrev pub verbs : List Verb
-verbs = verb.Draft ∷ verb.Plan ∷ verb.Gen ∷ verb.Judge ∷ verb.Verify ∷ verb.Convert ∷ []
+verbs = verb.Draft ∷ verb.Plan ∷ verb.Gen ∷ verb.Judge ∷ verb.Verify ∷ verb.Convert ∷ verb.Resume ∷ verb.Freeze ∷ verb.Sheet ∷ verb.Replay ∷ []
 
 -- the order in which the files of a command line are fetched and read
 abbrev pub fetch_order : List Role
-fetch_order = role.Batch ∷ role.Defects ∷ role.Params ∷ role.Plates ∷ role.Plan ∷ role.Cert ∷ []
+fetch_order = role.Batch ∷ role.Defects ∷ role.Params ∷ role.Plates ∷ role.Plan ∷ role.Cert ∷ role.Sheet ∷ []
 
 -- the word by which lines name a file
 abbrev pub role_word : Role → List ℕ
@@ -110,6 +160,7 @@ role_word role.Params = codes "params"
 role_word role.Plan = codes "plan"
 role_word role.Cert = codes "cert"
 role_word role.Plates = codes "plates"
+role_word role.Sheet = codes "sheet"
 
 -- a word is a dash alone
 abbrev pub is_dash : List ℕ → Bool
@@ -143,16 +194,35 @@ is_option of word = is_some (option_name of word)
 abbrev pub count_front : Count → List ℕ
 count_front count.Workers = codes "--workers="
 count_front count.Budget = codes "--budget="
+count_front count.Frozen = codes "--frozen="
 
 -- the greatest number that can be set; the least is 1
 abbrev pub count_most : Count → ℕ
 count_most count.Workers = 8
 count_most count.Budget = 10000000
+count_most count.Frozen = 1000
 
--- the number where a line sets none
+-- the number where a line sets none: no plates are cut already
 abbrev pub count_usual : Count → ℕ
 count_usual count.Workers = 4
 count_usual count.Budget = 100000
+count_usual count.Frozen = 0
+
+-- the least number that a line may have, whether it sets one or not
+abbrev pub count_least : Count → ℕ
+count_least count.Workers = 1
+count_least count.Budget = 1
+count_least count.Frozen = 0
+
+-- the file without which this number says nothing, if there is one
+abbrev pub count_needs : Count → Option Role
+count_needs count.Workers = None
+count_needs count.Budget = None
+count_needs count.Frozen = Some role.Plan
+
+-- the word of an option that has no value
+abbrev pub flag_word : Flag → List ℕ
+flag_word flag.Watch = codes "--watch"
 
 -- a zero stands before other digits
 abbrev pub has_leading_zero : List ℕ → Bool
@@ -174,6 +244,7 @@ abbrev pub lead_place : Lead → ℕ
 lead_place lead.Start = 0
 lead_place lead.Items = 1
 lead_place lead.Defects = 2
+lead_place lead.Frozen = 3
 
 abbrev pub is_lead : Lead → Lead → Bool
 is_lead of other = lead_place of == lead_place other
@@ -183,11 +254,13 @@ abbrev pub lead_least : Lead → ℕ
 lead_least lead.Start = 0
 lead_least lead.Items = 1
 lead_least lead.Defects = 0
+lead_least lead.Frozen = 1
 
 abbrev pub lead_most : Lead → ℕ
 lead_most lead.Start = 4294967295
 lead_most lead.Items = 800
 lead_most lead.Defects = 20000
+lead_most lead.Frozen = 1000
 
 -- the number that a word before the names is
 abbrev pub lead_value : Lead → List ℕ → Option ℕ
@@ -201,6 +274,14 @@ count_value of word =
 
 abbrev pub is_count : Count → List ℕ → Bool
 is_count of word = is_some (count_value of word)
+
+-- a word is this option without a value
+abbrev pub is_flag : Flag → List ℕ → Bool
+is_flag of word = bytes_eq word (flag_word of)
+
+-- a word is one of these options without a value
+abbrev pub is_some_flag : List Flag → List ℕ → Bool
+is_some_flag flags word = list_any (λ of. is_flag of word) flags
 
 -- a word sets one of these numbers
 abbrev pub is_some_count : List Count → List ℕ → Bool
@@ -218,14 +299,19 @@ is_once words of = nat_le (count_by (is_option of) words) 1
 abbrev pub is_count_once : List (List ℕ) → Count → Bool
 is_count_once words of = nat_le (count_by (is_count of) words) 1
 
+-- one of these words at the most is this option without a value
+abbrev pub is_flag_once : List (List ℕ) → Flag → Bool
+is_flag_once words of = nat_le (count_by (is_flag of) words) 1
+
 -- a word is one of the options of a command
 abbrev pub is_command_option : Pattern → List ℕ → Bool
-is_command_option pattern word = is_some_option pattern.options word || is_some_count pattern.counts word
+is_command_option pattern word = is_some_option pattern.options word || is_some_count pattern.counts word || is_some_flag pattern.flags word
 
 -- the words are options of a command, each of them once at the most
 abbrev pub are_options : Pattern → List (List ℕ) → Bool
 are_options pattern words =
     list_all (is_command_option pattern) words && list_all (is_once words) pattern.options && list_all (is_count_once words) pattern.counts
+    && list_all (is_flag_once words) pattern.flags
 
 -- a command line: its command, the numbers behind it, the names of files, and its options
 pub record Line : Type 0 where
@@ -254,6 +340,10 @@ name_at line of =
 abbrev pub is_read_named : Line → Role → Bool
 is_read_named line of = is_some (name_at line of) || list_any (λ other. is_role of other) (pattern_of line.verb).without
 
+-- whether a line names the file without which this number says nothing, where it sets the number
+abbrev pub is_count_served : Line → Count → Bool
+is_count_served line of = not (list_any (is_count of) line.options) || option_map_or (λ needed. is_some (name_at line needed)) (count_needs of) true
+
 -- the names under which a line stores
 abbrev pub stored_names : Line → List (List ℕ)
 stored_names line = drop (length (pattern_of line.verb).reads) line.names
@@ -278,9 +368,12 @@ are_files_named line =
     (length line.names == length pattern.reads + length pattern.stores) && list_all (λ word. is_name word || is_dash word) line.names
     && list_all (is_read_named line) pattern.reads && list_all is_name (stored_names line)
 
--- whether the numbers, names and options are those of the line's command; a name that is stored differs from all other names
+-- whether the numbers, names and options are those of the line's command; a number that says nothing without a file comes with this file; a
+-- name that is stored differs from all other names
 abbrev pub is_line : Line → Bool
-is_line line = are_leads_said line && are_files_named line && are_options (pattern_of line.verb) line.options && list_all (is_named_once line) (stored_names line)
+is_line line =
+    are_leads_said line && are_files_named line && are_options (pattern_of line.verb) line.options
+    && list_all (is_count_served line) (pattern_of line.verb).counts && list_all (is_named_once line) (stored_names line)
 
 -- the words behind a command's own as its numbers, its names and its options
 abbrev pub line_with : Verb → List (List ℕ) → Line
@@ -317,6 +410,10 @@ name_of line of = option_or (name_at line of) (name_by_option line of)
 -- the number that a line sets, or the usual one
 abbrev pub count_in : Line → Count → ℕ
 count_in line of = unwrap_or (option_and_then (count_value of) (find (is_count of) line.options)) (count_usual of)
+
+-- whether a line has this option without a value
+abbrev pub flag_in : Line → Flag → Bool
+flag_in line of = list_any (is_flag of) line.options
 
 -- the number of this kind that stands before a line's names
 abbrev pub lead_in : Line → Lead → ℕ

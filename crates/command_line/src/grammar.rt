@@ -1,7 +1,7 @@
 //! The commands, each a row of one table.
 
 ghost use Rattle.std.specs.Prelude.{◌≡◌};
-ghost use Rattle.command_line.specs.Grammar.{fetch_order, option_front as option_front_of, role_word as role_word_of, count_front as count_front_of, count_most as count_most_of, count_usual as count_usual_of, lead_least as lead_least_of, lead_most as lead_most_of, verbs};
+ghost use Rattle.command_line.specs.Grammar.{fetch_order, option_front as option_front_of, role_word as role_word_of, count_front as count_front_of, count_most as count_most_of, count_usual as count_usual_of, count_needs as count_needs_of, flag_word as flag_word_of, lead_least as lead_least_of, lead_most as lead_most_of, verbs};
 
 use glass_base::Role;
 
@@ -20,6 +20,14 @@ pub enum Verb {
     Verify,
     /// Does what `Verify` does, and stores the certificate with its causes named.
     Convert,
+    /// Does what `Verify` does, searches on in the boxes that the certificate leaves open, and stores the best plan and the joined certificate.
+    Resume,
+    /// Plans anew what stands behind the first plates of a plan, which are cut already.
+    Freeze,
+    /// Stores the sheet of a plan.
+    Sheet,
+    /// Follows a sheet.
+    Replay,
     /// Draws a plan.
     Picture,
 }
@@ -31,6 +39,8 @@ pub enum Product {
     Plan,
     /// A certificate.
     Certificate,
+    /// The sheet of a plan.
+    Sheet,
     /// A picture of a plan.
     Picture,
 }
@@ -44,6 +54,8 @@ pub enum Lead {
     Items,
     /// How many defects are drawn.
     Defects,
+    /// How many plates of a plan are cut already.
+    Frozen,
 }
 
 impl Lead {
@@ -58,6 +70,7 @@ impl Lead {
             Lead::Start => 0,
             Lead::Items => 1,
             Lead::Defects => 2,
+            Lead::Frozen => 3,
         }
     }
 
@@ -76,11 +89,20 @@ pub enum Count {
     Workers,
     /// How many boxes a search may close or split.
     Budget,
+    /// How many plates of a plan are cut already.
+    Frozen,
+}
+
+/// An option that has no value.
+#[derive(Clone, Copy, Debug, PartialEq, Eq)]
+pub enum Flag {
+    /// The improvements of a search are printed as well.
+    Watch,
 }
 
 /// What the words of a command are: its own word, then a number for each of `leads`, a name for each file that it reads and for each that
-/// it stores, in this order, and then its options, which name further files that it reads, or set counts. A dash may stand in the place
-/// of a file that it can do without.
+/// it stores, in this order, and then its options, which name further files that it reads, set counts, or have no value. A dash may stand in
+/// the place of a file that it can do without.
 #[derive(Clone, Copy, Debug)]
 pub struct Form {
     pub word: &'static str,
@@ -90,26 +112,32 @@ pub struct Form {
     pub stores: &'static [Product],
     pub options: &'static [Role],
     pub counts: &'static [Count],
+    pub flags: &'static [Flag],
 }
 
 /// The commands of `glass`.
-pub(crate) const VERBS: [Verb; 6] = [
+pub(crate) const VERBS: [Verb; 10] = [
     Verb::Draft,
     Verb::Plan,
     Verb::Gen,
     Verb::Judge,
     Verb::Verify,
     Verb::Convert,
+    Verb::Resume,
+    Verb::Freeze,
+    Verb::Sheet,
+    Verb::Replay,
 ];
 
 /// The order in which the files of a command line are fetched and read.
-pub const FETCH_ORDER: [Role; 6] = [
+pub const FETCH_ORDER: [Role; 7] = [
     Role::Batch,
     Role::Defects,
     Role::Params,
     Role::Plates,
     Role::Plan,
     Role::Cert,
+    Role::Sheet,
 ];
 
 impl Verb {
@@ -129,6 +157,7 @@ impl Verb {
                 stores: &[Product::Plan],
                 options: &[Role::Params, Role::Plates],
                 counts: &[],
+                flags: &[],
             },
             Verb::Plan => Form {
                 word: "plan",
@@ -138,6 +167,7 @@ impl Verb {
                 stores: &[Product::Plan, Product::Certificate],
                 options: &[Role::Params, Role::Plates],
                 counts: &[Count::Workers, Count::Budget],
+                flags: &[Flag::Watch],
             },
             Verb::Gen => Form {
                 word: "gen",
@@ -147,6 +177,7 @@ impl Verb {
                 stores: &[Product::Plan, Product::Certificate],
                 options: &[],
                 counts: &[Count::Workers, Count::Budget],
+                flags: &[],
             },
             Verb::Judge => Form {
                 word: "judge",
@@ -156,6 +187,7 @@ impl Verb {
                 stores: &[],
                 options: &[Role::Params, Role::Plates],
                 counts: &[],
+                flags: &[],
             },
             Verb::Verify => Form {
                 word: "verify",
@@ -164,7 +196,8 @@ impl Verb {
                 without: &[Role::Plan],
                 stores: &[],
                 options: &[Role::Params, Role::Plates],
-                counts: &[],
+                counts: &[Count::Frozen],
+                flags: &[],
             },
             Verb::Convert => Form {
                 word: "convert",
@@ -174,6 +207,47 @@ impl Verb {
                 stores: &[Product::Certificate],
                 options: &[Role::Params, Role::Plates],
                 counts: &[],
+                flags: &[],
+            },
+            Verb::Resume => Form {
+                word: "resume",
+                leads: &[],
+                reads: &[Role::Batch, Role::Defects, Role::Plan, Role::Cert],
+                without: &[Role::Plan],
+                stores: &[Product::Plan, Product::Certificate],
+                options: &[Role::Params, Role::Plates],
+                counts: &[Count::Workers, Count::Budget],
+                flags: &[],
+            },
+            Verb::Freeze => Form {
+                word: "freeze",
+                leads: &[Lead::Frozen],
+                reads: &[Role::Batch, Role::Defects, Role::Plan],
+                without: &[],
+                stores: &[Product::Plan, Product::Certificate],
+                options: &[Role::Params, Role::Plates],
+                counts: &[Count::Workers, Count::Budget],
+                flags: &[],
+            },
+            Verb::Sheet => Form {
+                word: "sheet",
+                leads: &[],
+                reads: &[Role::Batch, Role::Defects, Role::Plan],
+                without: &[],
+                stores: &[Product::Sheet],
+                options: &[Role::Params, Role::Plates],
+                counts: &[],
+                flags: &[],
+            },
+            Verb::Replay => Form {
+                word: "replay",
+                leads: &[],
+                reads: &[Role::Batch, Role::Defects, Role::Sheet],
+                without: &[],
+                stores: &[],
+                options: &[Role::Params, Role::Plates],
+                counts: &[],
+                flags: &[],
             },
             Verb::Picture => Form {
                 word: "picture",
@@ -183,6 +257,7 @@ impl Verb {
                 stores: &[Product::Picture],
                 options: &[Role::Params, Role::Plates],
                 counts: &[],
+                flags: &[],
             },
         }
     }
@@ -199,6 +274,7 @@ pub fn role_word(role: Role) -> &'static str
         Role::Plan => "plan",
         Role::Cert => "cert",
         Role::Plates => "plates",
+        Role::Sheet => "sheet",
     }
 }
 
@@ -213,6 +289,7 @@ pub(crate) fn option_front(role: Role) -> &'static str
         Role::Plan => "--plan=",
         Role::Cert => "--cert=",
         Role::Plates => "--plates=",
+        Role::Sheet => "--sheet=",
     }
 }
 
@@ -223,6 +300,7 @@ pub(crate) fn count_front(count: Count) -> &'static str
     match count {
         Count::Workers => "--workers=",
         Count::Budget => "--budget=",
+        Count::Frozen => "--frozen=",
     }
 }
 
@@ -233,6 +311,7 @@ pub(crate) fn count_most(count: Count) -> u32
     match count {
         Count::Workers => 8,
         Count::Budget => 10_000_000,
+        Count::Frozen => 1000,
     }
 }
 
@@ -243,6 +322,27 @@ pub(crate) fn count_usual(count: Count) -> u32
     match count {
         Count::Workers => 4,
         Count::Budget => 100_000,
+        Count::Frozen => 0,
+    }
+}
+
+/// The file without which the number says nothing, if there is one.
+pub(crate) fn count_needs(count: Count) -> Option<Role>
+    ensures { result ≡ count_needs_of count }
+{
+    match count {
+        Count::Workers => None,
+        Count::Budget => None,
+        Count::Frozen => Some(Role::Plan),
+    }
+}
+
+/// The word of an option that has no value.
+pub(crate) fn flag_word(flag: Flag) -> &'static str
+    ensures { result.now ≡ flag_word_of flag }
+{
+    match flag {
+        Flag::Watch => "--watch",
     }
 }
 
@@ -254,6 +354,7 @@ pub(crate) fn lead_least(lead: Lead) -> u32
         Lead::Start => 0,
         Lead::Items => 1,
         Lead::Defects => 0,
+        Lead::Frozen => 1,
     }
 }
 
@@ -265,5 +366,6 @@ pub(crate) fn lead_most(lead: Lead) -> u32
         Lead::Start => u32::MAX,
         Lead::Items => 800,
         Lead::Defects => 20_000,
+        Lead::Frozen => 1000,
     }
 }

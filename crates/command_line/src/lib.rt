@@ -6,5 +6,5 @@ pub mod grammar;
 pub mod line;
 mod words;
 
-pub use grammar::{Count, FETCH_ORDER, Lead, Product, Verb, role_word};
+pub use grammar::{Count, FETCH_ORDER, Flag, Lead, Product, Verb, role_word};
 pub use line::{CommandLine, line_named, picture_line};

@@ -1,20 +1,21 @@
 //! A command line, and the one parser of words.
 
-ghost use Rattle.std.specs.Prelude.{◌≡◌, ◌+◌, ◌≤◌, map, count_by, take, drop, option_map, is_some};
+ghost use Rattle.std.specs.Prelude.{◌≡◌, ◌+◌, ◌≤◌, true, map, count_by, take, drop, option_map, is_some};
 ghost use Rattle.std.specs.List.{list_all};
+ghost use Rattle.std.specs.Option.{option_map_or};
 ghost use Rattle.std.specs.Str.{bytes_eq};
 ghost use Rattle.std.specs.String.{string_bytes};
-ghost use Rattle.command_line.specs.Grammar.{count_most as count_most_of, lead_least as lead_least_of, lead_most as lead_most_of, line_if, line_of, line_with, picture_line_of, verb_of};
+ghost use Rattle.command_line.specs.Grammar.{count_least as count_least_of, count_most as count_most_of, count_needs as count_needs_of, lead_least as lead_least_of, lead_most as lead_most_of, line_if, line_of, line_with, picture_line_of, verb_of};
 ghost use Rattle.command_line.specs.Lines.{line_in};
 
-use crate::grammar::{Count, Lead, VERBS, Verb, count_usual, lead_least};
+use crate::grammar::{Count, Flag, Lead, VERBS, Verb, count_needs, count_usual, lead_least};
 use crate::words::{
-    are_names, are_names_or_dashes, are_options, count_set, first_option, is_among, lead_among,
-    lead_value, name_said, option_name, option_names, place_among, word_at,
+    are_names, are_names_or_dashes, are_options, count_set, first_option, has_flag, is_among,
+    lead_among, lead_value, name_said, option_name, option_names, place_among, sets_count, word_at,
 };
 use glass_base::Role;
 
-/// A command with its numbers and the names of its files, and its options, which name further files or set numbers.
+/// A command with its numbers and the names of its files, and its options, which name further files, set numbers, or have no value.
 #[derive(Clone, Copy, Debug)]
 pub struct CommandLine<'a> {
     pub verb: Verb,
@@ -25,7 +26,7 @@ pub struct CommandLine<'a> {
 
 impl<'a> CommandLine<'a> {
     ghost use Rattle.command_line.specs.Lines.{line_in};
-    ghost use Rattle.command_line.specs.Grammar.{are_files_named, are_leads_said, is_line, is_named_once, is_read_named, lead_at, lead_in, name_at, name_by_option, name_of, option_names as option_names_of, pattern_of, count_in, stored_names};
+    ghost use Rattle.command_line.specs.Grammar.{are_files_named, are_leads_said, is_count_served, is_line, is_named_once, is_read_named, lead_at, lead_in, name_at, name_by_option, name_of, option_names as option_names_of, pattern_of, count_in, flag_in, stored_names};
 
     /// The number of this kind that the line says before its names.
     fn lead_at(&self, lead: Lead) -> Option<u32>
@@ -137,6 +138,34 @@ impl<'a> CommandLine<'a> {
             && are_names(self.stored())
     }
 
+    /// Whether the line names the file without which this number says nothing.
+    fn names_needed(&self, count: Count) -> bool
+        ensures { result ≡ option_map_or (λ needed. is_some (name_at (line_in self.now) needed)) (count_needs_of count) true }
+    {
+        match count_needs(count) {
+            Some(role) => self.name_at(role).is_some(),
+            None => true,
+        }
+    }
+
+    /// Whether the line names that file, where it sets the number.
+    fn serves(&self, count: Count) -> bool
+        ensures { result ≡ is_count_served (line_in self.now) count }
+    {
+        !sets_count(count, self.options) || self.names_needed(count)
+    }
+
+    /// Whether the line names the file that each number needs.
+    fn serves_all(&self) -> bool
+        ensures { result ≡ list_all (is_count_served (line_in self.now)) (pattern_of self.now.verb).counts }
+    {
+        self.verb
+            .form()
+            .counts
+            .iter()
+            .all(|count| self.serves(*count))
+    }
+
     /// Whether numbers, names and options are those of the command.
     fn is_whole(&self) -> bool
         ensures { result ≡ is_line (line_in self.now) }
@@ -145,6 +174,7 @@ impl<'a> CommandLine<'a> {
         self.says_leads()
             && self.names_files()
             && are_options(&form, self.options)
+            && self.serves_all()
             && self.stores_apart()
     }
 
@@ -163,13 +193,20 @@ impl<'a> CommandLine<'a> {
     /// The number that the line sets, or the usual one.
     pub fn count(&self, count: Count) -> u32
         ensures value { result ≡ count_in (line_in self.now) count }
-        ensures least { 1 ≤ result }
+        ensures least { count_least_of count ≤ result }
         ensures most { result ≤ count_most_of count }
     {
         match count_set(count, self.options) {
             Some(number) => number,
             None => count_usual(count),
         }
+    }
+
+    /// Whether the line has this option without a value.
+    pub fn flag(&self, flag: Flag) -> bool
+        ensures { result ≡ flag_in (line_in self.now) flag }
+    {
+        has_flag(flag, self.options)
     }
 
     /// The name of the file of this role, where an option names it.

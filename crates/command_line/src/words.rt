@@ -5,11 +5,12 @@ ghost use Rattle.std.specs.Char.{is_ascii_digit};
 ghost use Rattle.std.specs.List.{list_all, list_any};
 ghost use Rattle.std.specs.String.{string_bytes};
 ghost use Rattle.glass_base.specs.Roles.{is_role};
-ghost use Rattle.command_line.specs.Grammar.{count_most as count_most_of, are_options as are_options_of, has_leading_zero as has_leading_zero_of, is_command_option as is_command_option_of, is_number as is_number_of, is_count as is_count_of, is_count_once, is_some_count as is_some_count_of, is_dash as is_dash_of, is_lead, lead_value as lead_value_of, name_said as name_said_of, number_within as number_within_of, count_value as count_value_of, is_once, is_option_for as is_option_for_of, is_some_option as is_some_option_of, is_name as is_name_of, is_option as is_option_of, option_name as option_name_of, option_names as option_names_of};
+ghost use Rattle.command_line.specs.Grammar.{count_most as count_most_of, are_options as are_options_of, has_leading_zero as has_leading_zero_of, is_command_option as is_command_option_of, is_flag as is_flag_of, is_flag_once, is_some_flag as is_some_flag_of, is_number as is_number_of, is_count as is_count_of, is_count_once, is_some_count as is_some_count_of, is_dash as is_dash_of, is_lead, lead_value as lead_value_of, name_said as name_said_of, number_within as number_within_of, count_value as count_value_of, is_once, is_option_for as is_option_for_of, is_some_option as is_some_option_of, is_name as is_name_of, is_option as is_option_of, option_name as option_name_of, option_names as option_names_of};
 ghost use Rattle.command_line.specs.inner.Forms.{pattern_in};
 
 use crate::grammar::{
-    Count, Form, Lead, count_front, count_most, lead_least, lead_most, option_front,
+    Count, Flag, Form, Lead, count_front, count_most, flag_word, lead_least, lead_most,
+    option_front,
 };
 use glass_base::Role;
 
@@ -180,6 +181,13 @@ fn is_some_count(counts: &[Count], word: &str) -> bool
     counts.iter().any(|count| is_count(*count, word))
 }
 
+/// Whether one of the words sets this number.
+pub(crate) fn sets_count(count: Count, words: &[String]) -> bool
+    ensures { result ≡ list_any (is_count_of count) (map string_bytes words.now) }
+{
+    words.iter().any(|word| is_count(count, word.as_str()))
+}
+
 /// How many words set this number.
 fn counts_of(count: Count, words: &[String]) -> usize
     ensures { result ≡ count_by (is_count_of count) (map string_bytes words.now) }
@@ -197,11 +205,51 @@ fn are_counts_once(counts: &[Count], words: &[String]) -> bool
     counts.iter().all(|count| counts_of(*count, words) <= 1)
 }
 
+/// Whether a word is this option without a value.
+fn is_flag(flag: Flag, word: &str) -> bool
+    ensures { result ≡ is_flag_of flag word.now }
+{
+    word == flag_word(flag)
+}
+
+/// Whether a word is one of these options without a value.
+fn is_some_flag(flags: &[Flag], word: &str) -> bool
+    ensures { result ≡ is_some_flag_of flags.now word.now }
+{
+    flags.iter().any(|flag| is_flag(*flag, word))
+}
+
+/// How many words are this option without a value.
+fn flags_of(flag: Flag, words: &[String]) -> usize
+    ensures { result ≡ count_by (is_flag_of flag) (map string_bytes words.now) }
+{
+    words
+        .iter()
+        .filter(|word| is_flag(flag, word.as_str()))
+        .count()
+}
+
+/// Whether each of these options without a value is there once at the most.
+fn are_flags_once(flags: &[Flag], words: &[String]) -> bool
+    ensures { result ≡ list_all (is_flag_once (map string_bytes words.now)) flags.now }
+{
+    flags.iter().all(|flag| flags_of(*flag, words) <= 1)
+}
+
+/// Whether one of the words is this option without a value.
+pub(crate) fn has_flag(flag: Flag, words: &[String]) -> bool
+    ensures { result ≡ list_any (is_flag_of flag) (map string_bytes words.now) }
+{
+    words.iter().any(|word| is_flag(flag, word.as_str()))
+}
+
 /// Whether a word is one of the options of a command.
 fn is_command_option(form: &Form, word: &str) -> bool
     ensures { result ≡ is_command_option_of (pattern_in form.now) word.now }
 {
-    is_some_option(form.options, word) || is_some_count(form.counts, word)
+    is_some_option(form.options, word)
+        || is_some_count(form.counts, word)
+        || is_some_flag(form.flags, word)
 }
 
 /// Whether each word is one of the options of a command.
@@ -220,6 +268,7 @@ pub(crate) fn are_options(form: &Form, words: &[String]) -> bool
     are_command_options(form, words)
         && are_once(form.options, words)
         && are_counts_once(form.counts, words)
+        && are_flags_once(form.flags, words)
 }
 
 /// Whether a word is an option of this role that names this file.

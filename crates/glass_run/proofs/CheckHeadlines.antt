@@ -1,5 +1,5 @@
 -- What a user may conclude from how a check of a certificate ended.
-use Rattle.std.proofs.Common.{◌≡◌, ℕ, List, sym, ap, subst, ◌∙◌, inl, inr, Option}
+use Rattle.std.proofs.Common.{◌≡◌, ℕ, zero, suc, List, sym, ap, subst, ◌∙◌, inl, inr, Option}
 use Rattle.glass_base.specs.Problem.{Problem}
 use Rattle.glass_base.specs.declared.role.Role.TheVariants as role
 use Rattle.glass_io.specs.Told.{Contents}
@@ -7,17 +7,22 @@ use Rattle.cut_model.specs.Tree.{Forest}
 use Rattle.cert_log.specs.declared.certificate.Certificate.{Certificate}
 use Rattle.cert_log.specs.Texts.{cert_text}
 use Rattle.cert_log.proofs.Covers.{bounds_each_plan}
+use Rattle.plan_freeze.specs.Claims.{IsFrozen}
 use Rattle.glass_run.specs.Answers.{Answer}
 use Rattle.glass_run.specs.Checks.{Converts, IsAccepted, NotAccepted, Verifies, loss_in}
+use Rattle.glass_run.specs.FreezeHeadlines.{AcceptsBehind, AcceptsFrom, cut_already}
+use Rattle.glass_run.specs.FrozenChecks.{NotAcceptedBehind, VerifiesBehind, VerifiesFrom, loss_behind}
 use Rattle.glass_run.specs.Checks.NotAccepted.{bad_cert, bad_plan, bad_tree, broken_plan}
 use Rattle.glass_run.specs.Commands.{AnswersInstance, out_of}
-use Rattle.command_line.specs.Grammar.{Line}
+use Rattle.command_line.specs.Grammar.{Line, count_in}
+use Rattle.command_line.specs.declared.grammar.Count.TheVariants as count
 use Rattle.glass_run.specs.Headlines.{Accepts, Ended, FindsRight, SaidBy, StoresConverted}
 use Rattle.glass_run.specs.Runs.{Completes, Prints, RunsTo, Stands, World}
 use Rattle.glass_run.specs.Texts.{Texts, text_for, text_or_empty}
 use Rattle.command_line.specs.declared.grammar.Verb.{Verb}
 use Rattle.command_line.specs.declared.grammar.Verb.TheVariants as verb
 use Rattle.glass_run.specs.declared.status.Status.TheVariants as status
+use Rattle.glass_run.proofs.FoundBehind.{bounds_behind}
 use Rattle.glass_run.proofs.Headlines.{Says, completed_says, one_stored, rules_of, unchanged}
 use Rattle.glass_run.proofs.Statuses.{IsRefused, cert_refused, plan_refused}
 
@@ -39,21 +44,56 @@ finds_right line held texts b plan c reads accepted = record {
   bounds = bounds_each_plan b 0 (loss_in b plan) c (rules_of line.verb line texts b reads.instance_is) accepted.good;
 }
 
-accepts : (line : Line) (held : Contents) (old new : World) (answer : Answer) → line.verb ≡ verb.Verify → status.Done ≡ answer.status → Says line held answer →
-    Stands answer.stores old.shelf.contents new.shelf.contents → Prints answer.lines old.paper new.paper → Accepts line held old new
-accepts line held old new answer of is s stored prints =
-    let verifies : Verifies s.b (text_for s.texts role.Plan) (text_or_empty s.texts role.Cert) answer = subst (λ (v : Verb). AnswersInstance v line s.texts s.b answer) of s.answers in
+accepts : (line : Line) (held : Contents) (old new : World) (answer : Answer) (texts : Texts) (b : Problem) → SaidBy line held texts b → status.Done ≡ answer.status →
+    Verifies b (text_for texts role.Plan) (text_or_empty texts role.Cert) answer → Stands answer.stores old.shelf.contents new.shelf.contents → Prints answer.lines old.paper new.paper → Accepts line held old new
+accepts line held old new answer texts b reads is verifies stored prints =
     elim verifies [
       | inl v ↦ record {
-        texts = s.texts;
-        b = s.b;
+        texts = texts;
+        b = b;
         certificate = v.1;
-        right = finds_right line held s.texts s.b v.0 v.1 s.reads v.2;
+        right = finds_right line held texts b v.0 v.1 reads v.2;
         unchanged = unchanged old.shelf.contents new.shelf.contents (subst (λ (a : Answer). Stands a.stores old.shelf.contents new.shelf.contents) v.3 stored);
         prints = subst (λ (a : Answer). Prints a.lines old.paper new.paper) v.3 prints;
       }
-      | inr other ↦ absurd (never_done s.b (text_for s.texts role.Plan) (text_or_empty s.texts role.Cert) answer is other)
+      | inr other ↦ absurd (never_done b (text_for texts role.Plan) (text_or_empty texts role.Cert) answer is other)
     ]
+
+-- so where some plates are cut already
+never_done_behind : (b : Problem) (k : ℕ) (plan_text text : List ℕ) (answer : Answer) → status.Done ≡ answer.status → NotAcceptedBehind b k plan_text text answer → ⊥
+never_done_behind b k plan_text text answer is (NotAcceptedBehind.bad_plan reason refused h) = subst IsRefused (sym is) (plan_refused reason answer h)
+never_done_behind b k plan_text text answer is (NotAcceptedBehind.bad_cert plan reason said reading h) = subst IsRefused (sym is) (cert_refused reason answer h)
+never_done_behind b k plan_text text answer is (NotAcceptedBehind.broken_plan plan c broken said unlawful first e) = let wrong = is ∙ ap (λ (a : Answer). a.status) e in cc wrong
+never_done_behind b k plan_text text answer is (NotAcceptedBehind.none_left plan c said lawful few e) = let wrong = is ∙ ap (λ (a : Answer). a.status) e in cc wrong
+never_done_behind b k plan_text text answer is (NotAcceptedBehind.bad_tree plan rest c at why said lawful fewer rest_is wrong first e) = let wrong = is ∙ ap (λ (a : Answer). a.status) e in cc wrong
+
+accepts_behind : (k : ℕ) (line : Line) (held : Contents) (old new : World) (answer : Answer) (texts : Texts) (b : Problem) → SaidBy line held texts b → status.Done ≡ answer.status →
+    VerifiesBehind b k (text_or_empty texts role.Plan) (text_or_empty texts role.Cert) answer → Stands answer.stores old.shelf.contents new.shelf.contents → Prints answer.lines old.paper new.paper →
+    AcceptsBehind k line held old new
+accepts_behind k line held old new answer texts b reads is verifies stored prints =
+    elim verifies [
+      | inl v ↦
+          let right = v.3 in
+          let frozen : IsFrozen b v.0 k v.1 = record { problem = rules_of line.verb line texts b reads.instance_is; lawful = right.lawful; fewer = right.fewer; rest_is = right.rest_is } in
+          record {
+            texts = texts;
+            b = b;
+            plan = v.0;
+            rest = v.1;
+            certificate = v.2;
+            reads = reads;
+            right = right;
+            bounds = bounds_behind b v.0 k v.1 v.2.bound frozen (bounds_each_plan v.1 0 (loss_behind v.1 k v.0) v.2 right.rest_is.rules right.good);
+            unchanged = unchanged old.shelf.contents new.shelf.contents (subst (λ (a : Answer). Stands a.stores old.shelf.contents new.shelf.contents) v.4 stored);
+            prints = subst (λ (a : Answer). Prints a.lines old.paper new.paper) v.4 prints;
+          }
+      | inr other ↦ absurd (never_done_behind b k (text_or_empty texts role.Plan) (text_or_empty texts role.Cert) answer is other)
+    ]
+
+accepts_from : (k : ℕ) (line : Line) (held : Contents) (old new : World) (answer : Answer) (texts : Texts) (b : Problem) → SaidBy line held texts b → status.Done ≡ answer.status →
+    VerifiesFrom k b (text_for texts role.Plan) (text_or_empty texts role.Cert) answer → Stands answer.stores old.shelf.contents new.shelf.contents → Prints answer.lines old.paper new.paper → AcceptsFrom k line held old new
+accepts_from zero line held old new answer texts b reads is verifies stored prints = accepts line held old new answer texts b reads is verifies stored prints
+accepts_from (suc k) line held old new answer texts b reads is verifies stored prints = accepts_behind (suc k) line held old new answer texts b reads is verifies stored prints
 
 converts : (line : Line) (held : Contents) (old new : World) (answer : Answer) → line.verb ≡ verb.Convert → status.Done ≡ answer.status → Says line held answer →
     Stands answer.stores old.shelf.contents new.shelf.contents → Prints answer.lines old.paper new.paper → StoresConverted line held old new
@@ -73,10 +113,13 @@ converts line held old new answer of is s stored prints =
       | inr other ↦ absurd (never_done s.b (text_for s.texts role.Plan) (text_or_empty s.texts role.Cert) answer is other)
     ]
 
-pub done_check : (words : List (List ℕ)) (line : Line) (held : Contents) (old new : World) → Ended words verb.Verify line held old new status.Done → Accepts line held old new
+pub done_check : (words : List (List ℕ)) (line : Line) (held : Contents) (old new : World) → Ended words verb.Verify line held old new status.Done → AcceptsFrom (cut_already verb.Verify line) line held old new
 done_check words line held old new e =
     let c : Completes line old new status.Done = subst (λ (o : Option Line). RunsTo o old new status.Done) e.line_is e.runs in
-    accepts line held old new c.answer e.verb_is c.status_is (completed_says line held old new status.Done e.told (λ h. h) c) c.stored c.prints
+    let s = completed_says line held old new status.Done e.told (λ h. h) c in
+    let verifies : VerifiesFrom (count_in line count.Frozen) s.b (text_for s.texts role.Plan) (text_or_empty s.texts role.Cert) c.answer =
+    subst (λ (v : Verb). AnswersInstance v line s.texts s.b c.answer) e.verb_is s.answers in
+    accepts_from (count_in line count.Frozen) line held old new c.answer s.texts s.b s.reads c.status_is verifies c.stored c.prints
 
 pub done_conversion : (words : List (List ℕ)) (line : Line) (held : Contents) (old new : World) → Ended words verb.Convert line held old new status.Done → StoresConverted line held old new
 done_conversion words line held old new e =

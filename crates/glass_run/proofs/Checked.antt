@@ -13,16 +13,17 @@ use Rattle.cert_check.specs.declared.verdict.Why.{Why}
 use Rattle.cert_check.specs.Faults.{IsFirstFault}
 use Rattle.glass_run.specs.Plans.{root_ranges}
 use Rattle.glass_run.specs.Answers.{Answer}
-use Rattle.glass_run.specs.Checks.{CertRefused, IsConverted, Converts, IsLawfulToo, NotAccepted, Verifies, converted, loss_in, refused}
+use Rattle.glass_run.specs.Checks.{CertRefused, IsAccepted, IsConverted, Converts, IsLawfulToo, NotAccepted, Verifies, converted, loss_in, refused}
 use Rattle.glass_run.specs.Checks.NotAccepted.{bad_cert as bad_certificate, bad_plan, bad_tree, broken_plan}
 use Rattle.glass_run.specs.Judgements.{PlanRefused}
+use Rattle.glass_run.specs.Resumptions.{GoesOnWithin, Resumes}
 use Rattle.glass_run.specs.Said.{IsPlanIn, SayBoth}
 use Rattle.glass_run.specs.inner.Checked.{IsAcceptedFor, IsUnlawful, IsWrong, RefusesCertText, RefusesPlanText}
 use Rattle.glass_run.specs.inner.Forms.{OnTold, Tells}
 use Rattle.glass_run.specs.declared.notices.Stop.{Stop}
 use Rattle.glass_run.specs.declared.notices.Stop.TheVariants as stop
 
-told_more : (P Q : Answer → Type 0) (s : Stop) → ((answer : Answer) → P answer → Q answer) → OnTold P s → OnTold Q s
+pub told_more : (P Q : Answer → Type 0) (s : Stop) → ((answer : Answer) → P answer → Q answer) → OnTold P s → OnTold Q s
 told_more P Q stop.Memory more h = tt
 told_more P Q (stop.Told notice) more h = more _ h
 
@@ -81,3 +82,12 @@ converts_none b plan_text text name answer (stop.Told notice) refused is = inr (
 pub converts : (b : Problem) (plan_text : Option (List ℕ)) (text name : List ℕ) (answer : Answer) (c d : Certificate) → IsAcceptedFor b plan_text text c → IsConverted b c d →
     answer ≡ converted name d → Converts b plan_text text name answer
 converts b plan_text text name answer c d accepts names is = inl (accepts.0, c, d, accepts.1, names, is)
+
+pub resumes_none : (b : Problem) (plan_text : Option (List ℕ)) (text : List ℕ) (budget : ℕ) (out new : List ℕ) (answer : Answer) (s : Stop) → OnTold (NotAccepted b plan_text text) s → Tells s answer →
+    Resumes b plan_text text budget out new answer
+resumes_none b plan_text text budget out new answer stop.Memory refused is = absurd is
+resumes_none b plan_text text budget out new answer (stop.Told notice) refused is = inr (subst (λ (a : Answer). NotAccepted b plan_text text a) (sym is) refused)
+
+pub resumes : (b : Problem) (plan_text : Option (List ℕ)) (text : List ℕ) (budget : ℕ) (out new : List ℕ) (answer : Answer) (plan : Option Forest) (c : Certificate) → IsAccepted b plan_text text plan c →
+    GoesOnWithin b budget plan c out new answer → Resumes b plan_text text budget out new answer
+resumes b plan_text text budget out new answer plan c accepts within = inl (plan, c, accepts, within)

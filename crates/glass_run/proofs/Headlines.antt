@@ -59,6 +59,10 @@ rules_of verb.Gen line texts b h = h.made.rules
 rules_of verb.Judge line texts b h = h.made.rules
 rules_of verb.Verify line texts b h = h.made.rules
 rules_of verb.Convert line texts b h = h.made.rules
+rules_of verb.Resume line texts b h = h.made.rules
+rules_of verb.Freeze line texts b h = h.made.rules
+rules_of verb.Sheet line texts b h = h.made.rules
+rules_of verb.Replay line texts b h = h.made.rules
 rules_of verb.Picture line texts b h = h.made.rules
 
 -- an answer to an instance that the files say

@@ -13,7 +13,7 @@ use Rattle.cert_log.specs.Good.{IsGood, least_of, open_bounds}
 use Rattle.cert_log.proofs.GoodNodes.{good_counts, no_larger_than_full}
 use Rattle.glass_run.specs.Answers.{Answer}
 use Rattle.glass_run.specs.Commands.{AnswersInstance, out_of, second_out_of}
-use Rattle.command_line.specs.Grammar.{Line, count_in}
+use Rattle.command_line.specs.Grammar.{Line, count_in, flag_in}
 use Rattle.glass_run.specs.Headlines.{Ended, IsSearch, IsSearchEnd, StoresSearch}
 use Rattle.glass_run.specs.Plans.{IsFound, PlansWithin, ending, handled, most_work, planned, root_ranges}
 use Rattle.glass_run.specs.Texts.{Texts}
@@ -21,6 +21,7 @@ use Rattle.cert_check.specs.declared.verdict.Verdict.{Verdict}
 use Rattle.cert_check.specs.Faults.{Answers as CheckAnswers}
 use Rattle.glass_run.specs.Runs.{Completes, LineRun, Prints, RunsTo, Stands, World}
 use Rattle.command_line.specs.declared.grammar.Count.TheVariants as count
+use Rattle.command_line.specs.declared.grammar.Flag.TheVariants as flag
 use Rattle.command_line.specs.declared.grammar.Verb.{Verb}
 use Rattle.command_line.specs.declared.grammar.Verb.TheVariants as verb
 use Rattle.glass_run.specs.declared.status.Status.{Status}
@@ -30,7 +31,7 @@ use Rattle.glass_run.proofs.StoredTexts.{CanBeRead, is_text, verified}
 use Rattle.glass_run.proofs.Statuses.{IsRefused}
 
 -- a run that ended as a search did what its answer says
-completes : (line : Line) (old new : World) (result : Status) → IsSearchEnd result → LineRun line old new result → Completes line old new result
+pub completes : (line : Line) (old new : World) (result : Status) → IsSearchEnd result → LineRun line old new result → Completes line old new result
 completes line old new status.Optimal e r = r
 completes line old new status.Stopped e r = r
 completes line old new status.Infeasible e r = r
@@ -47,7 +48,7 @@ completes line old new status.WriteFault e r = absurd e
 completes line old new status.Done e r = absurd e
 
 -- its status refuses no text
-accepts : (result : Status) → IsSearchEnd result → ¬ IsRefused result
+pub accepts : (result : Status) → IsSearchEnd result → ¬ IsRefused result
 accepts status.Optimal e h = h
 accepts status.Stopped e h = h
 accepts status.Infeasible e h = h
@@ -75,10 +76,10 @@ open_stopped : (closed planned : Bool) → closed ≡ false → end_by closed pl
 open_stopped true planned e = cc e
 open_stopped false planned e = refl
 
-stopped_left : (c : Certificate) → ending c ≡ status.Stopped → 0 < c.left
+pub stopped_left : (c : Certificate) → ending c ≡ status.Stopped → 0 < c.left
 stopped_left c e = let k = stopped_open (c.left == 0) (is_some c.loss) e in grind (arith, k)
 
-left_stopped : (c : Certificate) → 0 < c.left → ending c ≡ status.Stopped
+pub left_stopped : (c : Certificate) → 0 < c.left → ending c ≡ status.Stopped
 left_stopped c some = open_stopped (c.left == 0) (is_some c.loss) (grind (arith, some))
 
 no_bounds : (bounds : List ℕ) → length bounds ≡ 0 → bounds ≡ []
@@ -86,7 +87,7 @@ no_bounds [] e = refl
 no_bounds (x ∷ xs) e = absurd (omega (arith, e))
 
 -- where no box is left open, the bound is the loss
-bound_exact : (b : Problem) (rs : List Ranges) (loss : Option ℕ) (c : Certificate) → IsGood b rs loss c → (0 < c.left → ⊥) → c.bound ≡ c.loss
+pub bound_exact : (b : Problem) (rs : List Ranges) (loss : Option ℕ) (c : Certificate) → IsGood b rs loss c → (0 < c.left → ⊥) → c.bound ≡ c.loss
 bound_exact b rs loss c good none =
     let empty = no_bounds (open_bounds b rs good.tree) (sym good.left_is ∙ nothing c.left none) in
     good.bound_is ∙ ap (λ (xs : List ℕ). least_of loss xs) empty ∙ sym good.loss_is
@@ -109,17 +110,21 @@ no_open b c budget depth good spent is enough some =
 
 -- both commands answer so
 plans_by : (search : Verb) → IsSearch search → (line : Line) (texts : Texts) (b : Problem) (answer : Answer) → AnswersInstance search line texts b answer →
-    PlansWithin b (count_in line count.Budget) (out_of line) (second_out_of line) answer
+    PlansWithin b (count_in line count.Budget) (flag_in line flag.Watch) (out_of line) (second_out_of line) answer
 plans_by verb.Draft is line texts b answer h = absurd is
 plans_by verb.Plan is line texts b answer h = h
 plans_by verb.Gen is line texts b answer h = h
 plans_by verb.Judge is line texts b answer h = absurd is
 plans_by verb.Verify is line texts b answer h = absurd is
 plans_by verb.Convert is line texts b answer h = absurd is
+plans_by verb.Resume is line texts b answer h = absurd is
+plans_by verb.Freeze is line texts b answer h = absurd is
+plans_by verb.Sheet is line texts b answer h = absurd is
+plans_by verb.Replay is line texts b answer h = absurd is
 plans_by verb.Picture is line texts b answer h = absurd is
 
 -- a check accepts a certificate that is right
-accepts_good : (b : Problem) (rs : List Ranges) (loss : Option ℕ) (c : Certificate) → IsGood b rs loss c → (verdict : Verdict) → CheckAnswers b rs loss c verdict → verdict ≡ Verdict.Accept c.bound c.left
+pub accepts_good : (b : Problem) (rs : List Ranges) (loss : Option ℕ) (c : Certificate) → IsGood b rs loss c → (verdict : Verdict) → CheckAnswers b rs loss c verdict → verdict ≡ Verdict.Accept c.bound c.left
 accepts_good b rs loss c good (Verdict.Accept bound left) h = (ap (λ (n : Option ℕ). Verdict.Accept n left) h.1) ∙ ap (λ (n : ℕ). Verdict.Accept c.bound n) h.2
 accepts_good b rs loss c good (Verdict.Refuse at why) h = absurd (h.1 good)
 
@@ -139,7 +144,7 @@ stores_search : (line : Line) (held : Contents) (old new : World) (answer : Answ
     Stands answer.stores old.shelf.contents new.shelf.contents → Prints answer.lines old.paper new.paper → StoresSearch line held old new result
 stores_search line held old new answer result search searches of end is s stored prints =
     let budget = count_in line count.Budget in
-    let plans : PlansWithin s.b budget (out_of line) (second_out_of line) answer = plans_by search searches line s.texts s.b answer (subst (λ (v : Verb). AnswersInstance v line s.texts s.b answer) of s.answers) in
+    let plans : PlansWithin s.b budget (flag_in line flag.Watch) (out_of line) (second_out_of line) answer = plans_by search searches line s.texts s.b answer (subst (λ (v : Verb). AnswersInstance v line s.texts s.b answer) of s.answers) in
     elim plans [
       | inl p ↦
           let found = p.1.found in
@@ -150,14 +155,20 @@ stores_search line held old new answer result search searches of end is s stored
             b = s.b;
             plan = p.1.plan;
             certificate = c;
+            told = p.1.told;
             reads = s.reads;
             stored = subst (λ (a : Answer). Stands a.stores old.shelf.contents new.shelf.contents) p.1.answer_is stored;
             prints = subst (λ (a : Answer). Prints a.lines old.paper new.paper) p.1.answer_is prints;
+            improvements = p.1.improvements;
             good = found.good;
             accepted = accepts_good s.b (root_ranges s.b) c.loss c found.good;
             verified = verified s.b p.1.plan c (can_be_read s.b budget c p.1.plan (rules_of line.verb line s.texts s.b s.reads.instance_is) p.0 found);
             plan_is = found.plan_is;
+            to_beat = found.to_beat;
+            searched = found.searched;
+            no_greater = found.no_greater;
             bounds = found.bounds;
+            ends = ended;
             left_open = ((λ e. stopped_left c (sym ended ∙ e)), (λ some. ended ∙ left_stopped c some));
             in_budget = found.in_budget;
             spent = λ e. found.spent (stopped_left c (sym ended ∙ e));

@@ -1,12 +1,13 @@
 -- What a search finds, from its lawful history.
-use Rattle.std.proofs.Common.{◌≡◌, ◌≢◌, ℕ, ◌<◌, ◌≤◌, ◌+◌, ◌*◌, List, [], ◌∷◌, ◌++◌, length, arith, refl, sym, ◌∙◌, subst, inl, inr, Option, Some, None}
-use Rattle.std.specs.Prelude.{All, IfNone, IfSome, nat_lt, sum_by}
+use Rattle.std.proofs.Common.{◌≡◌, ◌≢◌, ℕ, ◌<◌, ◌≤◌, ◌+◌, ◌*◌, List, [], ◌∷◌, ◌++◌, length, arith, refl, sym, ◌∙◌, subst, inl, inr, Bool, Option, Some, None, Result, Ok, Err}
+use Rattle.std.specs.Prelude.{All, IfNone, IfOk, IfSome, nat_lt, sum_by}
 use Rattle.std.specs.List.{AllZip}
 use Rattle.std.proofs.lemmas.Bool.{cases_Bool}
 use Rattle.std.proofs.lemmas.List.Elements.{All-head}
 use Rattle.std.proofs.Math.Nat.{mul-le-mul_left}
 use Rattle.glass_base.specs.Items.{area_of}
 use Rattle.glass_base.specs.Problem.{Problem, IsProblem}
+use Rattle.glass_base.specs.Run.{Listed}
 use Rattle.cut_model.specs.declared.steps.Step.{Step}
 use Rattle.cut_model.specs.declared.steps.Trace.{Trace}
 use Rattle.cut_model.specs.Lawful.{IsLawful as IsLawfulPlan}
@@ -20,6 +21,7 @@ use Rattle.plan_draft.proofs.Complete.{draft_complete}
 use Rattle.plan_draft.proofs.Ones.{draft_or_none}
 use Rattle.first_plan.specs.FirstPlans.{IsFirstPlan}
 use Rattle.plan_box.specs.Ranges.{PlainBox}
+use Rattle.best_board.specs.declared.entry.Entry.{Entry}
 use Rattle.cert_log.specs.declared.certificate.Certificate.{Certificate}
 use Rattle.cert_log.specs.declared.history.History.{History}
 use Rattle.cert_log.specs.declared.history.Left.{Left}
@@ -31,8 +33,8 @@ use Rattle.cert_log.specs.Texts.{head_of}
 use Rattle.cert_log.proofs.Covers.{bounds_each_plan}
 use Rattle.cert_log.proofs.GoodNodes.{good_counts}
 use Rattle.box_workers.specs.Runs.{first_loss}
-use Rattle.glass_run.specs.Plans.{HasLoss, IsFound, handled, most_work, root_ranges}
-use Rattle.glass_run.specs.inner.Searches.{Certifies, IsHistory, IsNoGreater, IsSaidByItsText, course}
+use Rattle.glass_run.specs.Plans.{AreTold, HasLoss, handled, most_work, root_ranges}
+use Rattle.glass_run.specs.inner.Searches.{AreWatched, Certifies, IsHistory, IsNoGreater, IsSaidByItsText, IsToldFound, IsWatchedHistory, course}
 use Rattle.glass_run.proofs.StoredTexts.{both_said, is_text}
 
 -- a number that is a loss
@@ -121,24 +123,28 @@ certified b budget to_beat h d (c ∷ []) rest lawful good searched nodes left v
     subst (Certifies b budget to_beat (loss_of h.best)) (sym (taken c d rest (sym from)))
     (certified_one b budget to_beat h c lawful good.0 searched.0 (All-head (IsVersion 2) c [] version) (omega (arith, nodes)) (omega (arith, left)))
 
--- what the search found
-pub found : (b : Problem) (budget : ℕ) (h : History) (c : Certificate) (plan : Option Forest) → IsProblem b → budget ≤ most_work → (is : IsHistory b budget h)
-    → Certifies b budget is.to_beat (loss_of h.best) c → HasLoss b (loss_of h.best) plan → IsSaidByItsText b plan → IsHead (head_of c) → IsFound b budget c plan
-found b budget h c plan problem most is certifies has said head =
+-- what the search found, and its improvements
+pub found : (b : Problem) (budget : ℕ) (watch : Bool) (h : History) (c : Certificate) (plan : Option Forest) (told : Option (List ℕ)) → IsProblem b → budget ≤ most_work → (is : IsHistory b budget h)
+    → Certifies b budget is.to_beat (loss_of h.best) c → HasLoss b (loss_of h.best) plan → IsSaidByItsText b plan → IsHead (head_of c) → AreTold b is.to_beat c.loss watch told
+    → IsToldFound b budget watch c plan told
+found b budget watch h c plan told problem most is certifies has said head improvements =
     let loss = certifies.good.loss_is in
     let good = subst (λ (o : Option ℕ). IsGood b (root_ranges b) o c) (sym loss) certifies.good in
     record {
-      good = good;
-      version = certifies.version;
-      plan_is = subst (λ (o : Option ℕ). HasLoss b o plan) (sym loss) has;
-      said = both_said b plan c said (is_text b c problem good certifies.version (omega (arith, certifies.in_budget, most)) head);
-      bounds = bounds_each_plan b 0 (loss_of h.best) c problem certifies.good;
-      in_budget = certifies.in_budget;
-      spent = certifies.spent;
-      to_beat = is.to_beat;
-      searched = certifies.searched;
-      no_greater = λ draft drafted. at_most draft drafted;
-      no_worse = λ draft drafted. subst (λ (o : Option ℕ). Reaches o (plan_loss b draft)) (sym loss) (reaches draft drafted);
+      found = record {
+        good = good;
+        version = certifies.version;
+        plan_is = subst (λ (o : Option ℕ). HasLoss b o plan) (sym loss) has;
+        said = both_said b plan c said (is_text b c problem good certifies.version (omega (arith, certifies.in_budget, most)) head);
+        bounds = bounds_each_plan b 0 (loss_of h.best) c problem certifies.good;
+        in_budget = certifies.in_budget;
+        spent = certifies.spent;
+        to_beat = is.to_beat;
+        searched = certifies.searched;
+        no_greater = λ draft drafted. (at_most draft drafted, (is.no_greater drafted.0 drafted.1).1);
+        no_worse = λ draft drafted. subst (λ (o : Option ℕ). Reaches o (plan_loss b draft)) (sym loss) (reaches draft drafted);
+      };
+      improvements = improvements;
     }
   where
     at_most : (draft : Forest) → IsDraftPlan b draft → is.to_beat ≤ plan_loss b draft
@@ -158,11 +164,20 @@ pub no_certificate : (b : Problem) (budget to_beat : ℕ) (h : History) (cs : Li
 no_certificate b budget to_beat h [] good e = good
 no_certificate b budget to_beat h (c ∷ cs) good e = cc e
 
--- a lawful history that goes on from the first plan
-pub from_first : (b : Problem) (budget : ℕ) (first : Option Trace) (loss : ℕ) (h : History) → IfSome first (λ t. IsFirstPlan b t.steps.items) → IfNone first ((number : ℕ) × HasNoDraft b number)
-    → loss ≡ first_loss b first → IfSome first (λ _. loss < no_loss) → IsLawful b (course b (first_loss b first) budget) h → IsHistory b budget h
-from_first b budget first loss h plan none is small lawful = record {
-  to_beat = first_loss b first;
-  lawful = lawful;
-  no_greater = no_greater b first plan none (subst (λ (n : ℕ). IfSome first (λ _. n < no_loss)) is small);
+-- what follows from two facts of one answer
+pub from_both : {T E : Type 0} (r : Result T E) (P Q R : T → Type 0) → IfOk r P → IfOk r Q → ((x : T) → P x → Q x → R x) → IfOk r R
+from_both (Ok x) P Q R p q f = f x p q
+from_both (Err e) P Q R p q f = tt
+
+-- a lawful history that goes on from the first plan, and its improvements
+pub from_first : (b : Problem) (budget : ℕ) (watch : Bool) (first : Option Trace) (loss : ℕ) (h : History) (list : Option (Listed Entry)) → IfSome first (λ t. IsFirstPlan b t.steps.items)
+    → IfNone first ((number : ℕ) × HasNoDraft b number) → loss ≡ first_loss b first → IfSome first (λ _. loss < no_loss) → IsLawful b (course b (first_loss b first) budget) h
+    → AreWatched b (first_loss b first) h.best watch list → IsWatchedHistory b budget watch h list
+from_first b budget watch first loss h list plan none is small lawful watched = record {
+  history = record {
+    to_beat = first_loss b first;
+    lawful = lawful;
+    no_greater = no_greater b first plan none (subst (λ (n : ℕ). IfSome first (λ _. n < no_loss)) is small);
+  };
+  watched = watched;
 }

@@ -24,6 +24,7 @@ use Rattle.cert_log.specs.Outcomes.{IsHead, IsReading}
 use Rattle.cert_log.specs.Readings.{IsTextOf, SaySame}
 use Rattle.cert_log.specs.Texts.{cert_text, head_of}
 use Rattle.cert_log.specs.Trees.{StepBelow}
+use Rattle.cert_log.specs.Values.{IsNumber}
 use Rattle.cert_log.proofs.GoodNodes.{good_counts, good_left}
 use Rattle.cert_log.proofs.Naming.{good_steps}
 use Rattle.cert_log.proofs.RoundTrip.{round_trip}
@@ -38,7 +39,7 @@ use Rattle.glass_run.specs.Said.{IsPlanIn, SayBoth}
 pub plan_again : (b : Problem) (plan : Plan) → IsProblem b → IsGoodPlan b (tree plan) → plan_said b (solution_text b (tree plan)) ≡ Ok (tree plan)
 plan_again b plan problem good =
     let adds_up = All-weaker (KeepsCutRules b) (λ f. AddsUp f f.sort) (λ f keeps. keeps.l1) (families_of b (tree plan)) good.lawful.cuts in
-    read_again b plan problem (record { fits = good.fits; within = plan_within b plan good.fits adds_up; few = good.few })
+    read_again b plan problem (record { fits = good.fits; within = plan_within b plan good.fits adds_up; few = omega (arith, good.few, problem.few_items) })
 
 few_steps : (steps : ℕ) → steps ≤ 800 → (node : Node) → StepBelow steps node → StepBelow 800 node
 few_steps steps few (Node.Split step v) below = omega arith
@@ -52,17 +53,21 @@ steps_below b loss c problem good =
     let few : steps ≤ 800 = omega (arith, (root_is_box (frame_of b) 0).each_step, problem.few_items) in
     All-weaker (StepBelow steps) (StepBelow 800) (few_steps steps few) c.nodes.items (good_steps b (root_ranges b) loss c good)
 
--- the text of a certificate that tells of few boxes is one that can be read again
+-- the text of a certificate whose numbers fit in 64 bits is one that can be read again
+pub is_text_of : (b : Problem) (c : Certificate) → IsProblem b → IsGood b (root_ranges b) c.loss c → IsVersion 2 c → IsNumber (length c.nodes.items) → IsHead (head_of c) → IsTextOf (cert_text c) c
+is_text_of b c problem good version few head = record {
+  tree = (good.tree, good.nodes_are);
+  version = inr version;
+  steps = steps_below b c.loss c problem good;
+  numbers = record { loss = head.loss; bound = head.bound; left = head.left; nodes = few };
+  text_is = refl;
+}
+
+-- so is that of one that tells of few boxes
 pub is_text : (b : Problem) (c : Certificate) → IsProblem b → IsGood b (root_ranges b) c.loss c → IsVersion 2 c → handled c ≤ most_work → IsHead (head_of c) → IsTextOf (cert_text c) c
 is_text b c problem good version few head =
     let counts = good_counts b (root_ranges b) c.loss c good in let left = good_left b (root_ranges b) c.loss c good in
-    record {
-      tree = (good.tree, good.nodes_are);
-      version = inr version;
-      steps = steps_below b c.loss c problem good;
-      numbers = record { loss = head.loss; bound = head.bound; left = head.left; nodes = omega arith };
-      text_is = refl;
-    }
+    is_text_of b c problem good version (omega arith) head
 
 -- such texts say what they were written of
 pub both_said : (b : Problem) (plan : Option Forest) (c : Certificate) → IsPlanIn b (option_map (solution_text b) plan) plan → IsTextOf (cert_text c) c → SayBoth b (option_map (solution_text b) plan) (cert_text c) plan c
@@ -95,7 +100,7 @@ its_loss b (Some loss) None has = absurd has
 its_loss b (Some loss) (Some plan) has = ap Some (sym has.1)
 
 -- what says the same is as right
-good_same : (b : Problem) (loss : Option ℕ) (c d : Certificate) → SaySame c d → IsGood b (root_ranges b) loss c → IsGood b (root_ranges b) loss d
+pub good_same : (b : Problem) (loss : Option ℕ) (c d : Certificate) → SaySame c d → IsGood b (root_ranges b) loss c → IsGood b (root_ranges b) loss d
 good_same b loss c d same good = record {
   tree = good.tree;
   nodes_are = sym same.nodes ∙ good.nodes_are;

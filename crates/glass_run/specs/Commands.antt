@@ -4,18 +4,24 @@ use Rattle.glass_base.specs.Problem.{Problem}
 use Rattle.glass_base.specs.declared.role.Role.TheVariants as role
 use Rattle.glass_io.specs.Told.{Contents}
 use Rattle.command_line.specs.declared.grammar.Count.TheVariants as count
+use Rattle.command_line.specs.declared.grammar.Flag.TheVariants as flag
 use Rattle.glass_gen.specs.Drawn.{IsDrawn}
 use Rattle.command_line.specs.declared.grammar.Lead.TheVariants as lead
 use Rattle.command_line.specs.declared.grammar.Verb.{Verb}
 use Rattle.command_line.specs.declared.grammar.Verb.TheVariants as verb
 use Rattle.glass_run.specs.Answers.{Answer}
-use Rattle.glass_run.specs.Checks.{Converts, Verifies}
+use Rattle.glass_run.specs.Checks.{Converts}
 use Rattle.glass_run.specs.Drafts.{Drafts}
-use Rattle.command_line.specs.Grammar.{Line, files_of, count_in, lead_in, stored_names}
+use Rattle.glass_run.specs.Freezes.{FreezesWithin}
+use Rattle.glass_run.specs.FrozenChecks.{VerifiesFrom}
+use Rattle.command_line.specs.Grammar.{Line, files_of, flag_in, count_in, lead_in, stored_names}
 use Rattle.glass_run.specs.Instances.{InstanceRefused, IsInstanceOf}
 use Rattle.glass_run.specs.Judgements.{JudgesText}
 use Rattle.glass_run.specs.Pictures.{DrawsText}
 use Rattle.glass_run.specs.Plans.{PlansWithin}
+use Rattle.glass_run.specs.Replays.{ReplaysText}
+use Rattle.glass_run.specs.Resumptions.{Resumes}
+use Rattle.glass_run.specs.Sheets.{SheetsText}
 use Rattle.glass_run.specs.Texts.{Texts, text_for, text_or_empty, texts_of}
 
 -- the first name under which a line stores
@@ -29,11 +35,17 @@ second_out_of line = slice_index_or (stored_names line) 1 []
 -- the answer of each command to its instance
 abbrev pub AnswersInstance : Verb → Line → Texts → Problem → Answer → Type 0
 AnswersInstance verb.Draft line texts b answer = Drafts b (out_of line) answer
-AnswersInstance verb.Plan line texts b answer = PlansWithin b (count_in line count.Budget) (out_of line) (second_out_of line) answer
-AnswersInstance verb.Gen line texts b answer = PlansWithin b (count_in line count.Budget) (out_of line) (second_out_of line) answer
+AnswersInstance verb.Plan line texts b answer = PlansWithin b (count_in line count.Budget) (flag_in line flag.Watch) (out_of line) (second_out_of line) answer
+AnswersInstance verb.Gen line texts b answer = PlansWithin b (count_in line count.Budget) (flag_in line flag.Watch) (out_of line) (second_out_of line) answer
 AnswersInstance verb.Judge line texts b answer = JudgesText b (text_or_empty texts role.Plan) answer
-AnswersInstance verb.Verify line texts b answer = Verifies b (text_for texts role.Plan) (text_or_empty texts role.Cert) answer
+AnswersInstance verb.Verify line texts b answer = VerifiesFrom (count_in line count.Frozen) b (text_for texts role.Plan) (text_or_empty texts role.Cert) answer
 AnswersInstance verb.Convert line texts b answer = Converts b (text_for texts role.Plan) (text_or_empty texts role.Cert) (out_of line) answer
+AnswersInstance verb.Resume line texts b answer =
+    Resumes b (text_for texts role.Plan) (text_or_empty texts role.Cert) (count_in line count.Budget) (out_of line) (second_out_of line) answer
+AnswersInstance verb.Freeze line texts b answer =
+    FreezesWithin b (lead_in line lead.Frozen) (count_in line count.Budget) (text_or_empty texts role.Plan) (out_of line) (second_out_of line) answer
+AnswersInstance verb.Sheet line texts b answer = SheetsText b (out_of line) (text_or_empty texts role.Plan) answer
+AnswersInstance verb.Replay line texts b answer = ReplaysText b (text_or_empty texts role.Sheet) answer
 AnswersInstance verb.Picture line texts b answer = DrawsText b (out_of line) (text_or_empty texts role.Plan) answer
 
 -- the text of the defects that each command plans with; a draft is made on plates without defects

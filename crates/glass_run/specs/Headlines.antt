@@ -1,5 +1,5 @@
 -- What a user may conclude from how a run ended.
-use Rattle.std.specs.Prelude.{◌≡◌, ◌≢◌, ◌↔◌, ◌+◌, ◌-◌, ◌^◌, ◌<◌, ◌≤◌, ℕ, List, Option, Some, Ok, option_map, codes}
+use Rattle.std.specs.Prelude.{◌≡◌, ◌≢◌, ◌↔◌, ◌+◌, ◌-◌, ◌^◌, ◌<◌, ◌≤◌, ℕ, List, length, Option, Some, None, Ok, option_map, codes}
 use Rattle.glass_base.specs.Problem.{Problem}
 use Rattle.glass_base.specs.declared.role.Role.TheVariants as role
 use Rattle.glass_io.specs.Told.{Contents, SameContents, Stored}
@@ -11,6 +11,8 @@ use Rattle.plan_box.specs.Frames.{frame_of}
 use Rattle.plan_box.specs.Halves.{IsDepth}
 use Rattle.cert_log.specs.declared.certificate.Certificate.{Certificate}
 use Rattle.cert_log.specs.Good.{IsGood, Reaches}
+use Rattle.cert_log.specs.Lawful.{no_loss}
+use Rattle.cert_log.specs.Splits.{IsSearched}
 use Rattle.cert_log.specs.Texts.{cert_text}
 use Rattle.cert_check.specs.declared.verdict.Verdict.{Verdict}
 use Rattle.cert_check.specs.declared.verdict.Why.{Why}
@@ -22,13 +24,15 @@ use Rattle.glass_run.specs.Answers.{Answer}
 use Rattle.glass_run.specs.Checks.{IsConverted, IsLawfulToo, Verifies, accepted as accepted_answer, bound_line, loss_in, refused_line}
 use Rattle.glass_run.specs.Commands.{HasInstance, out_of, second_out_of}
 use Rattle.glass_run.specs.Drafts.{no_draft_line, summary}
-use Rattle.command_line.specs.Grammar.{Line, count_in, files_of, line_of}
+use Rattle.command_line.specs.Grammar.{Line, count_in, files_of, flag_in, line_of}
 use Rattle.glass_run.specs.Judgements.{IsFirstBroken, lawful_line, unlawful_line}
-use Rattle.glass_run.specs.Plans.{HasLoss, handled, planned, root_ranges, search_summary}
+use Rattle.glass_run.specs.Plans.{HasLoss, ending, handled, planned, root_ranges, search_lines, search_summary, AreTold}
+use Rattle.glass_run.specs.Resumptions.{IsResumed}
 use Rattle.glass_run.specs.Runs.{Prints, RunsTo, Stands, World}
 use Rattle.glass_run.specs.Said.{SayBoth}
-use Rattle.glass_run.specs.Texts.{Texts, text_for, text_or_empty, texts_of}
+use Rattle.glass_run.specs.Texts.{Texts, limit_of, text_for, text_or_empty, texts_of}
 use Rattle.command_line.specs.declared.grammar.Count.TheVariants as count
+use Rattle.command_line.specs.declared.grammar.Flag.TheVariants as flag
 use Rattle.command_line.specs.declared.grammar.Verb.{Verb}
 use Rattle.command_line.specs.declared.grammar.Verb.TheVariants as verb
 use Rattle.glass_run.specs.declared.status.Status.{Status}
@@ -101,12 +105,16 @@ abbrev pub IsJudging : Verb → Type 0
 IsJudging verb.Judge = Unit {0}
 IsJudging verb.Verify = Unit {0}
 IsJudging verb.Convert = Unit {0}
+IsJudging verb.Resume = Unit {0}
+IsJudging verb.Freeze = Unit {0}
+IsJudging verb.Sheet = Unit {0}
 IsJudging _ = ⊥
 
 -- the command checks a certificate
 abbrev pub IsCheck : Verb → Type 0
 IsCheck verb.Verify = Unit {0}
 IsCheck verb.Convert = Unit {0}
+IsCheck verb.Resume = Unit {0}
 IsCheck _ = ⊥
 
 -- a search ended in one of these ways
@@ -122,11 +130,12 @@ pub record StoresSearch (line : Line) (held : Contents) (old new : World) (resul
   pub b : Problem
   pub plan : Option Forest
   pub certificate : Certificate
+  pub told : Option (List ℕ)
   pub reads : SaidBy line held texts b
   -- OUT holds the text of the plan, if there is one; CERT that of the certificate, which is right for the box of all plans; the six
-  -- lines on them are printed
-  pub stored : Stands (planned b (out_of line) (second_out_of line) certificate plan).stores old.shelf.contents new.shelf.contents
-  pub prints : Prints (search_summary certificate (option_map neighbour_count plan)) old.paper new.paper
+  -- lines on them are printed, and with `--watch` the improvements
+  pub stored : Stands (planned b (out_of line) (second_out_of line) certificate plan told).stores old.shelf.contents new.shelf.contents
+  pub prints : Prints (search_lines certificate (option_map neighbour_count plan) told) old.paper new.paper
   pub good : IsGood b (root_ranges b) certificate.loss certificate
   -- a check of it accepts it
   pub accepted : (verdict : Verdict) → CheckAnswers b (root_ranges b) certificate.loss certificate verdict → verdict ≡ Verdict.Accept certificate.bound certificate.left
@@ -134,8 +143,18 @@ pub record StoresSearch (line : Line) (held : Contents) (old new : World) (resul
   pub verified : (answer : Answer) → Verifies b (option_map (solution_text b) plan) (cert_text certificate) answer → answer ≡ accepted_answer certificate
   -- a printed plan is lawful and has the printed loss
   pub plan_is : HasLoss b certificate.loss plan
+  -- no box was split that is refuted, or whose bound reaches the loss that was to be beaten: that of the plan from which the search went on,
+  -- which is no greater than the draft's, where there is a draft
+  pub to_beat : ℕ
+  pub searched : IsSearched b to_beat (root_ranges b) certificate
+  pub no_greater : (draft : Forest) → IsDraftPlan b draft → (to_beat ≤ loss_of b draft) × (to_beat < no_loss)
+  -- each printed improvement is the loss of a lawful plan and less than those before it; the first one is the loss that was to be beaten, where
+  -- there was one, and the last one is the printed loss
+  pub improvements : AreTold b to_beat certificate.loss (flag_in line flag.Watch) told
   -- every lawful plan loses at least the printed bound; where none is printed, there is no lawful plan
   pub bounds : (other : Forest) → IsLawful b other → Reaches certificate.bound (loss_of b other)
+  -- the status says whether a box is left open, and else whether there is a plan
+  pub ends : result ≡ ending certificate
   -- `stopped` is printed exactly where a box is left open, and then as many boxes were closed or split as the budget says; else the
   -- bound is the loss
   pub left_open : result ≡ status.Stopped ↔ (0 < certificate.left)
@@ -177,6 +196,31 @@ pub record StoresConverted (line : Line) (held : Contents) (old new : World) : T
   pub names : IsConverted b certificate converted
   pub stored : Stored (out_of line) (cert_text converted) old.shelf.contents new.shelf.contents
   pub prints : Prints (bound_line (codes "converted") converted) old.paper new.paper
+
+-- it is so, and a search of the boxes that CERT leaves open went on; what it made of both is stored and printed
+pub record StoresResumed (line : Line) (held : Contents) (old new : World) (result : Status) : Type 0 where
+  pub texts : Texts
+  pub b : Problem
+  pub certificate : Certificate
+  pub right : FindsRight line held texts b certificate
+  -- a joined certificate and the best plan, which loses no more than that of PLAN
+  pub joined : Certificate
+  pub plan : Option Forest
+  pub resumed : IsResumed b (count_in line count.Budget) right.plan certificate joined plan
+  -- OUT holds the text of the plan, if there is one; NEW that of the certificate; the six lines on them are printed
+  pub stored : Stands (planned b (out_of line) (second_out_of line) joined plan None).stores old.shelf.contents new.shelf.contents
+  pub prints : Prints (search_summary joined (option_map neighbour_count plan)) old.paper new.paper
+  -- a check of it accepts it, and `verify` of the two texts, or of the certificate alone, accepts them with this bound and this number of open boxes
+  pub accepted : (verdict : Verdict) → CheckAnswers b (root_ranges b) joined.loss joined verdict → verdict ≡ Verdict.Accept joined.bound joined.left
+  pub verified : (answer : Answer) → Verifies b (option_map (solution_text b) plan) (cert_text joined) answer → answer ≡ accepted_answer joined
+  -- the text of NEW is no longer than one that is read
+  pub readable : length (cert_text joined) ≤ limit_of role.Cert
+  -- the status says whether a box is left open, and else whether there is a plan
+  pub ends : result ≡ ending joined
+  -- `stopped` is printed exactly where a box is left open, and then the budget is spent; else the bound is the loss
+  pub left_open : result ≡ status.Stopped ↔ (0 < joined.left)
+  pub spent : result ≡ status.Stopped → handled joined ≡ handled certificate + count_in line count.Budget
+  pub exact : result ≢ status.Stopped → joined.bound ≡ joined.loss
 
 -- the plan that PLAN says is lawful, if there is one, and the certificate that CERT says is not right for the box of all plans and for this
 -- plan's loss; the first check that it fails is printed

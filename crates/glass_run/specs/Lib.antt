@@ -7,10 +7,17 @@ pub mod Said
 pub mod Plans
 pub mod Judgements
 pub mod Pictures
+pub mod Sheets
+pub mod Replays
 pub mod Checks
+pub mod Resumptions
 pub mod Commands
 pub mod Runs
 pub mod Headlines
+pub mod SheetHeadlines
 pub mod PictureHeadlines
+pub mod FreezeHeadlines
 pub mod Exits
+pub mod Freezes
+pub mod FrozenChecks
 pub mod inner

@@ -1,5 +1,5 @@
 -- What `plan` answers to an instance.
-use Rattle.std.specs.Prelude.{◌≡◌, ◌≤◌, ◌<◌, ◌*◌, ◌==◌, ◌⊎◌, ◌++◌, ℕ, List, [], ◌∷◌, length, count_by, not, codes, if◌then◌else◌, is_some, option_map, Option, Some, None}
+use Rattle.std.specs.Prelude.{◌≡◌, ◌≤◌, ◌<◌, ◌*◌, ◌==◌, ◌⊎◌, ◌++◌, ℕ, List, [], ◌∷◌, length, count_by, not, Bool, true, false, All, AllPairs, codes, if◌then◌else◌, is_some, option_map, Option, Some, None}
 use Rattle.std.specs.Fmt.{decimal}
 use Rattle.glass_base.specs.Problem.{Problem}
 use Rattle.glass_base.specs.declared.role.Role.TheVariants as role
@@ -10,6 +10,7 @@ use Rattle.plan_box.specs.Frames.{frame_of}
 use Rattle.plan_box.specs.Ranges.{Ranges, root_of}
 use Rattle.cert_log.specs.declared.certificate.Certificate.{Certificate}
 use Rattle.cert_log.specs.Good.{IsGood, IsVersion, Reaches}
+use Rattle.cert_log.specs.Lawful.{no_loss}
 use Rattle.cert_log.specs.Splits.{IsSearched}
 use Rattle.cert_log.specs.Texts.{cert_text, loss_text}
 use Rattle.cert_log.specs.Trees.{is_left}
@@ -50,7 +51,7 @@ pub record IsFound (b : Problem) (budget : ℕ) (c : Certificate) (plan : Option
   -- no box was split that is refuted, or whose bound reaches this loss; it is no greater than the draft's, where there is a draft
   pub to_beat : ℕ
   pub searched : IsSearched b to_beat (root_ranges b) c
-  pub no_greater : (draft : Forest) → IsDraftPlan b draft → to_beat ≤ loss_of b draft
+  pub no_greater : (draft : Forest) → IsDraftPlan b draft → (to_beat ≤ loss_of b draft) × (to_beat < no_loss)
   -- where there is a draft, there is a plan that loses no more
   pub no_worse : (draft : Forest) → IsDraftPlan b draft → Reaches c.loss (loss_of b draft)
 
@@ -74,32 +75,74 @@ counted_lines plates boxes left = codes "plates " ++ loss_text plates ++ codes "
 abbrev pub search_summary : Certificate → Option ℕ → List ℕ
 search_summary c plates = ended_lines (ending_word c) c.loss c.bound ++ counted_lines plates (handled c) c.left
 
+-- the loss of the first of these, if there is one
+abbrev pub first_of : List ℕ → Option ℕ
+first_of [] = None
+first_of (loss ∷ losses) = Some loss
+
+-- the loss of the last of these, if there is one
+abbrev pub last_of : List ℕ → Option ℕ
+last_of [] = None
+last_of (loss ∷ []) = Some loss
+last_of (loss ∷ next ∷ losses) = last_of (next ∷ losses)
+
+-- the improvements of a search, by their losses: each is that of a lawful plan, and less than those before it; the first one is that of the
+-- plan from which the search went on, where there was one, so that it was to beat that loss; the last one is that of the search's plan, and
+-- where there is no plan there are none
+pub record AreImprovements (b : Problem) (to_beat : ℕ) (loss : Option ℕ) (losses : List ℕ) : Type 0 where
+  pub lawful : All (λ (n : ℕ). (plan : Forest) × IsLawful b plan × (loss_of b plan ≡ n)) losses
+  pub falling : AllPairs (λ (earlier : ℕ) (later : ℕ). later < earlier) losses
+  pub first : to_beat < no_loss → first_of losses ≡ Some to_beat
+  pub last : last_of losses ≡ loss
+
+-- the improvements are told exactly where that is asked for
+abbrev pub AreTold : Problem → ℕ → Option ℕ → Bool → Option (List ℕ) → Type 0
+AreTold b to_beat loss false told = told ≡ None
+AreTold b to_beat loss true None = ⊥
+AreTold b to_beat loss true (Some losses) = AreImprovements b to_beat loss losses
+
+-- the lines of the improvements, one for each loss
+abbrev pub entry_lines : List ℕ → List ℕ
+entry_lines [] = []
+entry_lines (loss ∷ losses) = (codes "entry " ++ decimal loss ++ codes "\n") ++ entry_lines losses
+
+-- before them a line that tells how many there are
+abbrev pub history_lines : List ℕ → List ℕ
+history_lines losses = (codes "history " ++ decimal (length losses) ++ codes "\n") ++ entry_lines losses
+
+-- what is printed of a search: the six lines, and behind them those of its improvements, where they are told
+abbrev pub search_lines : Certificate → Option ℕ → Option (List ℕ) → List ℕ
+search_lines c plates None = search_summary c plates
+search_lines c plates (Some losses) = search_summary c plates ++ history_lines losses
+
 -- a plan is stored under this name, if there is one
 abbrev pub plan_stores : Problem → List ℕ → Option Forest → List Store
 plan_stores b name None = []
 plan_stores b name (Some plan) = record { name = name; bytes = solution_text b plan } ∷ []
 
--- the plan is stored, if there is one, then the certificate; the six lines are printed
-abbrev pub planned : Problem → List ℕ → List ℕ → Certificate → Option Forest → Answer
-planned b out cert c plan = record {
+-- the plan is stored, if there is one, then the certificate; the six lines are printed, and the improvements, where they are told
+abbrev pub planned : Problem → List ℕ → List ℕ → Certificate → Option Forest → Option (List ℕ) → Answer
+planned b out cert c plan told = record {
   status = ending c;
   stores = plan_stores b out plan ++ record { name = cert; bytes = cert_text c } ∷ [];
-  lines = search_summary c (option_map neighbour_count plan);
+  lines = search_lines c (option_map neighbour_count plan) told;
 }
 
 -- the most that the number of items times the budget may be
 abbrev pub most_work : ℕ
 most_work = 160000000
 
--- what a search found is stored under these names and told
-pub record Plans (b : Problem) (budget : ℕ) (out cert : List ℕ) (answer : Answer) : Type 0 where
+-- what a search found is stored under these names and told, with its improvements where they are watched
+pub record Plans (b : Problem) (budget : ℕ) (watch : Bool) (out cert : List ℕ) (answer : Answer) : Type 0 where
   pub certificate : Certificate
   pub plan : Option Forest
+  pub told : Option (List ℕ)
   pub found : IsFound b budget certificate plan
-  pub answer_is : answer ≡ planned b out cert certificate plan
+  pub improvements : AreTold b found.to_beat certificate.loss watch told
+  pub answer_is : answer ≡ planned b out cert certificate plan told
 
 -- the answer to an instance: what a search found, or a refusal where that would be too much work
-abbrev pub PlansWithin : Problem → ℕ → List ℕ → List ℕ → Answer → Type 0
-PlansWithin b budget out cert answer =
-    ((length b.items * budget ≤ most_work) × Plans b budget out cert answer)
+abbrev pub PlansWithin : Problem → ℕ → Bool → List ℕ → List ℕ → Answer → Type 0
+PlansWithin b budget watch out cert answer =
+    ((length b.items * budget ≤ most_work) × Plans b budget watch out cert answer)
     ⊎ ((most_work < length b.items * budget) × (answer ≡ bad_input role.Batch 9 (length b.items) budget))

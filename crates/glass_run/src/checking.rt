@@ -6,11 +6,11 @@ ghost use Rattle.cert_log.specs.declared.certificate.Certificate.{Certificate as
 ghost use Rattle.cert_log.specs.Good.{IsGood, IsVersion};
 ghost use Rattle.cert_log.specs.Outcomes.{IsReading};
 ghost use Rattle.cert_log.specs.Trees.{IsTree};
-ghost use Rattle.glass_run.specs.Checks.{CertRefused, Converts, IsConverted, IsLawfulToo, NotAccepted, Verifies, accepted as accepted_of, converted as converted_of, loss_in, refused as refused_of};
+ghost use Rattle.glass_run.specs.Checks.{CertRefused, Converts, IsAccepted, IsConverted, IsLawfulToo, NotAccepted, Verifies, accepted as accepted_of, converted as converted_of, loss_in, refused as refused_of};
 ghost use Rattle.glass_run.specs.Judgements.{PlanRefused, unlawful as unlawful_of};
 ghost use Rattle.glass_run.specs.Plans.{root_ranges};
 ghost use Rattle.glass_run.specs.Said.{IsPlanIn};
-ghost use Rattle.glass_run.specs.inner.Checked.{IsAcceptedFor, IsUnlawful, IsWrong, RefusesCertText, RefusesPlanText};
+ghost use Rattle.glass_run.specs.inner.Checked.{IsUnlawful, IsWrong, RefusesCertText, RefusesPlanText};
 ghost use Rattle.glass_run.specs.inner.Forms.{OnTold, answer_in, notice_in};
 ghost use Rattle.glass_run.specs.inner.Searches.{FitsToo};
 
@@ -62,7 +62,7 @@ fn accepted(alloc: Global, certificate: &Certificate) -> Result<Notice, Memory>
 }
 
 /// What is told of a text that is no plan.
-fn stop_at_plan(alloc: Global, reason: BadPlan) -> Stop
+pub(crate) fn stop_at_plan(alloc: Global, reason: BadPlan) -> Stop
     ensures { OnTold (PlanRefused reason) result }
 {
     match plan_refused(alloc, reason) {
@@ -82,7 +82,7 @@ fn stop_at_cert(alloc: Global, reason: BadCert) -> Stop
 }
 
 /// What is told of a plan that breaks a rule.
-fn stop_at_breach(alloc: Global, broken: &Broken) -> Stop
+pub(crate) fn stop_at_breach(alloc: Global, broken: &Broken) -> Stop
     ensures { OnTold (λ answer. answer ≡ unlawful_of broken.now) result }
 {
     match unlawful(alloc, broken) {
@@ -120,7 +120,7 @@ fn read_plan_in(
 }
 
 /// The certificate that a text says.
-fn read_cert_in(alloc: Global, text: &[u8]) -> Result<Certificate, Stop>
+pub(crate) fn read_cert_in(alloc: Global, text: &[u8]) -> Result<Certificate, Stop>
     ensures reading { MatchResult result (λ c. IsReading text.now (Ok c)) (OnTold (RefusesCertText text.now)) }
     ensures tree { IfOk result (λ c. IsTree c.nodes.items) }
     ensures version { IfOk result (λ c. IsVersion 1 c ⊎ IsVersion 2 c) }
@@ -163,7 +163,7 @@ fn loss_of_plan(instance: &Instance, plan: &Option<Plan>) -> Option<u64>
 }
 
 /// Goes on where a certificate is right for the box of all plans and for this loss.
-fn check_cert_in(
+pub(crate) fn check_cert_in(
     alloc: Global,
     instance: &Instance,
     map: &DefectMap,
@@ -181,24 +181,32 @@ fn check_cert_in(
     }
 }
 
-/// The certificate that a text says, where it is right for the loss of the plan that another one says, and this is lawful; or what is told of
-/// the first that fails: the text of the plan, that of the certificate, the plan, the certificate.
-fn accepted_certificate(
+/// A lawful plan, if there is one, and a certificate that is right for its loss.
+#[derive(Drop)]
+pub(crate) struct Checked {
+    pub(crate) plan: Option<Plan>,
+    pub(crate) certificate: Certificate,
+}
+
+/// The certificate that a text says, where it is right for the loss of the plan that another one says, and this is lawful, with this plan; or
+/// what is told of the first that fails: the text of the plan, that of the certificate, the plan, the certificate.
+pub(crate) fn accepted_texts(
     alloc: Global,
     instance: &Instance,
     map: &DefectMap,
     plan_text: Option<&[u8]>,
     cert_text: &[u8],
-) -> Result<Certificate, Stop>
+) -> Result<Checked, Stop>
     requires { map.now ≡ instance.now.defects }
-    ensures { MatchResult result (IsAcceptedFor instance.now (option_map (λ bytes. bytes.now) plan_text.entry) cert_text.now) (OnTold (NotAccepted instance.now (option_map (λ bytes. bytes.now) plan_text.entry) cert_text.now)) }
+    ensures accepted { MatchResult result (λ a. IsAccepted instance.now (option_map (λ bytes. bytes.now) plan_text.entry) cert_text.now (option_map tree a.plan) a.certificate) (OnTold (NotAccepted instance.now (option_map (λ bytes. bytes.now) plan_text.entry) cert_text.now)) }
+    ensures fits { IfOk result (λ a. FitsToo a.plan) }
 {
     let plan = read_plan_in(alloc, instance, plan_text)?;
     let certificate = read_cert_in(alloc, cert_text)?;
     judge_plan_in(alloc, instance, map, &plan)?;
     let loss = loss_of_plan(instance, &plan);
     check_cert_in(alloc, instance, map, loss, &certificate)?;
-    Ok(certificate)
+    Ok(Checked { plan, certificate })
 }
 
 /// The reply to the texts of a plan, or none, and of a certificate: its bound and its number of open boxes, or a refusal.
@@ -211,8 +219,8 @@ pub(crate) fn verify_texts(
     ensures { IfOk result (λ r. (names : List (List ℕ)) → Verifies instance.now (option_map (λ bytes. bytes.now) plan_text.entry) cert_text.now (answer_in names r)) }
 {
     let map = DefectMap::new(alloc, instance)?;
-    match accepted_certificate(alloc, instance, &map, plan_text, cert_text) {
-        Ok(certificate) => Ok(reply_with(alloc, accepted(alloc, &certificate)?)),
+    match accepted_texts(alloc, instance, &map, plan_text, cert_text) {
+        Ok(texts) => Ok(reply_with(alloc, accepted(alloc, &texts.certificate)?)),
         Err(stop) => reply_at(alloc, stop),
     }
 }
@@ -259,9 +267,9 @@ pub(crate) fn convert_texts(
     ensures { IfOk result (λ r. (names : List (List ℕ)) → Converts instance.now (option_map (λ bytes. bytes.now) plan_text.entry) cert_text.now (slice_index_or names 0 []) (answer_in names r)) }
 {
     let map = DefectMap::new(alloc, instance)?;
-    let certificate = match accepted_certificate(alloc, instance, &map, plan_text, cert_text) {
-        Ok(certificate) => certificate,
+    let accepted = match accepted_texts(alloc, instance, &map, plan_text, cert_text) {
+        Ok(accepted) => accepted,
         Err(stop) => return reply_at(alloc, stop),
     };
-    convert(alloc, instance, &map, &certificate)
+    convert(alloc, instance, &map, &accepted.certificate)
 }

@@ -2,9 +2,11 @@
 #![tactic(auto)]
 
 mod checking;
+mod checking_behind;
 mod drafting;
 mod drawing;
 mod fetching;
+mod freezing;
 mod instances;
 mod judging;
 pub mod laws;
@@ -12,8 +14,11 @@ mod lines;
 mod notices;
 mod planning;
 pub mod program;
+mod replaying;
 mod reply;
+mod resuming;
 pub mod run;
+mod sheeting;
 pub mod status;
 mod texts;
 

@@ -1,20 +1,27 @@
 //! The lines that a run prints.
 
-ghost use Rattle.std.specs.Prelude.{◌≡◌, ◌++◌, IfOk};
+ghost use Rattle.std.specs.Prelude.{◌≡◌, ◌<◌, ◌^◌, ◌++◌, IfOk, OnOk, map};
 ghost use Rattle.std.specs.String.{string_bytes};
 ghost use Rattle.glass_run.specs.Answers.{absent_line as absent_line_of, bad_input_line as bad_input_line_of, too_long_line as too_long_line_of};
 ghost use Rattle.glass_run.specs.Checks.{bound_line as bound_line_of, refused_line as refused_line_of, why_text as why_text_of, word_with as word_with_of};
+ghost use Rattle.glass_run.specs.inner.Checked.{line_with_bound as line_with_bound_of};
 ghost use Rattle.glass_run.specs.Drafts.{no_draft_line as no_draft_line_of, summary};
 ghost use Rattle.cert_log.specs.Texts.{loss_text};
-ghost use Rattle.glass_run.specs.Plans.{counted_lines as counted_lines_of, ended_lines as ended_lines_of};
+ghost use Rattle.glass_run.specs.Plans.{counted_lines as counted_lines_of, ended_lines as ended_lines_of, ending_word, entry_lines, handled, history_lines, search_lines as search_lines_of};
+ghost use Rattle.glass_run.specs.inner.Searches.{losses_in};
 ghost use Rattle.glass_run.specs.Judgements.{lawful_line as lawful_line_of, unlawful_line as unlawful_line_of};
+ghost use Rattle.cut_sheet.specs.Areas.{made_area};
+ghost use Rattle.glass_run.specs.Replays.{replay_line as replay_line_of};
 ghost use Rattle.glass_run.specs.Runs.{read_fault_line as read_fault_line_of};
+ghost use Rattle.glass_run.specs.Sheets.{instructions_line as instructions_line_of};
 
+use best_board::Entry;
 use cert_check::Why;
 use cert_log::Certificate;
 use command_line::role_word;
 use cut_model::Broken;
-use glass_base::{Memory, Role};
+use cut_sheet::{Instr, Made, cuts, waste};
+use glass_base::{Memory, Role, Run};
 use std::alloc::Global;
 
 /// The line for words that are no command line.
@@ -31,6 +38,7 @@ pub(crate) fn read_fault_line(role: Role) -> &'static str
         Role::Plan => "read fault plan\n",
         Role::Cert => "read fault cert\n",
         Role::Plates => "read fault plates\n",
+        Role::Sheet => "read fault sheet\n",
     }
 }
 
@@ -115,8 +123,48 @@ fn counted_lines(
     Ok(format!(in alloc; "plates {plates}\nboxes {boxes}\nopen {left}\n")?)
 }
 
+/// Appends a line for each improvement, with its loss.
+fn put_entries(alloc: Global, improvements: &[Entry], lines: &mut String) -> Result<(), Memory>
+    ensures { OnOk result (string_bytes lines.new ≡ string_bytes lines.old ++ entry_lines (map (λ e. e.loss) improvements.now)) }
+{
+    for entry in improvements {
+        let loss = entry.loss;
+        let line = format!(in alloc; "entry {loss}\n")?;
+        lines.push_str(line.as_str())?;
+    }
+    Ok(())
+}
+
+/// Appends the lines that tell of the improvements of a search: how many there are, and the loss of each.
+fn put_history(alloc: Global, improvements: &[Entry], lines: &mut String) -> Result<(), Memory>
+    ensures { OnOk result (string_bytes lines.new ≡ string_bytes lines.old ++ history_lines (map (λ e. e.loss) improvements.now)) }
+{
+    let count = improvements.len();
+    let line = format!(in alloc; "history {count}\n")?;
+    lines.push_str(line.as_str())?;
+    put_entries(alloc, improvements, lines)
+}
+
+/// The six lines that tell of a search with this loss and this bound.
+pub(crate) fn six_lines(
+    alloc: Global,
+    ending: &str,
+    loss: Option<u64>,
+    bound: Option<u64>,
+    plates: Option<u64>,
+    boxes: u64,
+    left: u64,
+) -> Result<String, Memory>
+    ensures { IfOk result (λ lines. string_bytes lines ≡ ended_lines_of ending.now loss bound ++ counted_lines_of plates boxes left) }
+{
+    let mut lines = ended_lines(alloc, ending, loss, bound)?;
+    let counted = counted_lines(alloc, plates, boxes, left)?;
+    lines.push_str(counted.as_str())?;
+    Ok(lines)
+}
+
 /// The six lines that tell of a search.
-pub(crate) fn search_lines(
+fn summary_of(
     alloc: Global,
     ending: &str,
     certificate: &Certificate,
@@ -125,10 +173,31 @@ pub(crate) fn search_lines(
 ) -> Result<String, Memory>
     ensures { let c = certificate.now in IfOk result (λ lines. string_bytes lines ≡ ended_lines_of ending.now c.loss c.bound ++ counted_lines_of plates boxes c.left) }
 {
-    let mut lines = ended_lines(alloc, ending, certificate.loss, certificate.bound)?;
-    let counted = counted_lines(alloc, plates, boxes, certificate.left)?;
-    lines.push_str(counted.as_str())?;
-    Ok(lines)
+    let (loss, bound) = (certificate.loss, certificate.bound);
+    six_lines(alloc, ending, loss, bound, plates, boxes, certificate.left)
+}
+
+/// The lines that tell of a search: the six, and behind them those of its improvements, where they are watched.
+pub(crate) fn search_lines(
+    alloc: Global,
+    ending: &str,
+    certificate: &Certificate,
+    plates: Option<u64>,
+    boxes: u64,
+    improvements: &Option<Run<Entry>>,
+) -> Result<String, Memory>
+    requires ending { ending.now ≡ ending_word certificate.now }
+    requires boxes { boxes ≡ handled certificate.now }
+    ensures { IfOk result (λ lines. string_bytes lines ≡ search_lines_of certificate.now plates (losses_in improvements.now)) }
+{
+    let mut lines = summary_of(alloc, ending, certificate, plates, boxes)?;
+    match improvements {
+        None => Ok(lines),
+        Some(list) => {
+            put_history(alloc, list.as_slice(), &mut lines)?;
+            Ok(lines)
+        }
+    }
 }
 
 /// The line that names the first breach of a plan.
@@ -190,6 +259,19 @@ pub(crate) fn refused_line(alloc: Global, line: u64, why: Why) -> Result<String,
     Ok(format!(in alloc; "refused line {line} {why}\n")?)
 }
 
+/// The line that tells a bound and a number of open boxes, behind a word.
+pub(crate) fn line_with_bound(
+    alloc: Global,
+    word: &str,
+    bound: Option<u64>,
+    left: u64,
+) -> Result<String, Memory>
+    ensures { IfOk result (λ line. string_bytes line ≡ line_with_bound_of word.now bound left) }
+{
+    let bound = number_or_none(alloc, bound)?;
+    Ok(format!(in alloc; "{word} bound {bound} open {left}\n")?)
+}
+
 /// The line that tells the bound of a certificate and its number of open boxes, behind a word.
 pub(crate) fn bound_line(
     alloc: Global,
@@ -198,7 +280,24 @@ pub(crate) fn bound_line(
 ) -> Result<String, Memory>
     ensures { IfOk result (λ line. string_bytes line ≡ bound_line_of word.now certificate.now) }
 {
-    let bound = number_or_none(alloc, certificate.bound)?;
-    let left = certificate.left;
-    Ok(format!(in alloc; "{word} bound {bound} open {left}\n")?)
+    line_with_bound(alloc, word, certificate.bound, certificate.left)
+}
+
+/// The line that tells how many instructions a sheet has.
+pub(crate) fn instructions_line(alloc: Global, sheet: &[Instr]) -> Result<String, Memory>
+    ensures { IfOk result (λ line. string_bytes line ≡ instructions_line_of sheet.now) }
+{
+    let count = sheet.len();
+    Ok(format!(in alloc; "instructions {count}\n")?)
+}
+
+/// The line that tells what a sheet makes.
+pub(crate) fn replay_line(alloc: Global, sheet: &[Instr], made: &[Made]) -> Result<String, Memory>
+    requires { made_area made.now < 2 ^ 64 }
+    ensures { IfOk result (λ line. string_bytes line ≡ replay_line_of sheet.now made.now) }
+{
+    let pieces = made.len();
+    let parted = cuts(sheet);
+    let wasted = waste(made);
+    Ok(format!(in alloc; "pieces {pieces} cuts {parted} waste {wasted}\n")?)
 }

@@ -13,20 +13,25 @@ ghost use Rattle.glass_gen.specs.Drawn.{IsDrawn};
 ghost use Rattle.glass_run.specs.Runs.{CutShort, RunsTo, Stands, StandsInPart, world};
 ghost use Rattle.glass_run.specs.Texts.{Reaches};
 
-use crate::checking::{convert_texts, verify_texts};
+use crate::checking::convert_texts;
+use crate::checking_behind::verify_from;
 use crate::drafting::draft_instance;
 use crate::drawing::draw_text;
 use crate::fetching::{NoReply, fetch_files};
+use crate::freezing::freeze_text;
 use crate::instances::instance_of;
 use crate::judging::judge_text;
 use crate::lines::{USAGE_LINE, read_fault_line};
 use crate::notices::{Stop, reply_at, reply_with};
 use crate::planning::plan_instance;
+use crate::replaying::replay_text;
 use crate::reply::{Output, Reply};
+use crate::resuming::resume_texts;
+use crate::sheeting::sheet_text;
 use crate::status::Status;
 use crate::texts::{Text, text_of_role, text_or_empty};
 use box_workers::{Gate, OpenGate};
-use command_line::{CommandLine, Count, Lead, Verb, line_named, picture_line};
+use command_line::{CommandLine, Count, Flag, Lead, Verb, line_named, picture_line};
 use glass_base::{Instance, Memory, Role};
 use glass_gen::generate;
 use glass_io::{Files, Sink, Trouble};
@@ -49,7 +54,8 @@ fn reply_to_instance<R: Threads + Wait + Sync, G: Gate + Sync>(
         Verb::Draft => draft_instance(alloc, instance),
         Verb::Plan | Verb::Gen => {
             let (workers, budget) = (line.count(Count::Workers), line.count(Count::Budget));
-            plan_instance(rt, alloc, instance, workers, budget, gate)
+            let watch = line.flag(Flag::Watch);
+            plan_instance(rt, alloc, instance, workers, budget, watch, gate)
         }
         Verb::Judge => {
             let notice = judge_text(alloc, instance, text_or_empty(texts, Role::Plan))?;
@@ -57,11 +63,29 @@ fn reply_to_instance<R: Threads + Wait + Sync, G: Gate + Sync>(
         }
         Verb::Verify => {
             let plan = text_of_role(texts, Role::Plan);
-            verify_texts(alloc, instance, plan, text_or_empty(texts, Role::Cert))
+            let k = line.count(Count::Frozen);
+            verify_from(alloc, instance, plan, text_or_empty(texts, Role::Cert), k)
         }
         Verb::Convert => {
             let plan = text_of_role(texts, Role::Plan);
             convert_texts(alloc, instance, plan, text_or_empty(texts, Role::Cert))
+        }
+        Verb::Resume => {
+            let (workers, budget) = (line.count(Count::Workers), line.count(Count::Budget));
+            let plan = text_of_role(texts, Role::Plan);
+            let cert = text_or_empty(texts, Role::Cert);
+            resume_texts(rt, alloc, instance, plan, cert, workers, budget, gate)
+        }
+        Verb::Freeze => {
+            let (workers, budget) = (line.count(Count::Workers), line.count(Count::Budget));
+            let plan = text_or_empty(texts, Role::Plan);
+            let k = line.lead(Lead::Frozen);
+            freeze_text(rt, alloc, instance, plan, k, workers, budget, gate)
+        }
+        Verb::Sheet => sheet_text(alloc, instance, text_or_empty(texts, Role::Plan)),
+        Verb::Replay => {
+            let notice = replay_text(alloc, instance, text_or_empty(texts, Role::Sheet))?;
+            Ok(reply_with(alloc, notice))
         }
         Verb::Picture => draw_text(alloc, instance, text_or_empty(texts, Role::Plan)),
     }
@@ -73,9 +97,16 @@ fn flaws(verb: Verb, texts: &[Text]) -> Option<&[u8]>
 {
     match verb {
         Verb::Draft => None,
-        Verb::Plan | Verb::Gen | Verb::Judge | Verb::Verify | Verb::Convert | Verb::Picture => {
-            text_of_role(texts, Role::Defects)
-        }
+        Verb::Plan
+        | Verb::Gen
+        | Verb::Judge
+        | Verb::Verify
+        | Verb::Convert
+        | Verb::Resume
+        | Verb::Freeze
+        | Verb::Sheet
+        | Verb::Replay
+        | Verb::Picture => text_of_role(texts, Role::Defects),
     }
 }
 
@@ -95,9 +126,16 @@ fn instance_for(alloc: Global, line: &CommandLine<'_>, texts: &[Text]) -> Result
 {
     match line.verb {
         Verb::Gen => Ok(drawn_instance(alloc, line)?),
-        Verb::Draft | Verb::Plan | Verb::Judge | Verb::Verify | Verb::Convert | Verb::Picture => {
-            instance_of(alloc, texts, flaws(line.verb, texts))
-        }
+        Verb::Draft
+        | Verb::Plan
+        | Verb::Judge
+        | Verb::Verify
+        | Verb::Convert
+        | Verb::Resume
+        | Verb::Freeze
+        | Verb::Sheet
+        | Verb::Replay
+        | Verb::Picture => instance_of(alloc, texts, flaws(line.verb, texts)),
     }
 }
 
@@ -213,7 +251,8 @@ fn run_line<R: Threads + Wait + Sync, F: Files, S: Sink, G: Gate + Sync>(
 /// `draft BATCH OUT` stores the plan of the draft of the batch, on plates without defects, and prints its loss and the number
 /// of its plates. `plan BATCH DEFECTS OUT CERT` searches for a plan that loses little, closing or splitting as many boxes as
 /// `--budget=` says at the most; it stores the best plan and the certificate of the search, and prints how the search ended, the loss,
-/// the bound on the loss of every lawful plan, the number of plates, and how many boxes were handled and are open. `judge BATCH DEFECTS PLAN` judges anybody's solution file: it prints the loss of a lawful plan, or the first
+/// the bound on the loss of every lawful plan, the number of plates, and how many boxes were handled and are open; with `--watch` also the
+/// losses of the plans that it came by, each less than the one before. `judge BATCH DEFECTS PLAN` judges anybody's solution file: it prints the loss of a lawful plan, or the first
 /// rule that the plan breaks. The parameters are the challenge's, or those of the file that the option `--params=FILE` names; each
 /// plate is as wide as they say, or as the file of the option `--plates=FILE` says of it. All is computed before anything is
 /// stored, and a run writes once at the most. A refusal stores nothing and prints its one line.

@@ -19,7 +19,8 @@ pub(crate) fn limit(role: Role) -> u64
 {
     match role {
         Role::Cert => 160_000_000,
-        Role::Batch | Role::Defects | Role::Params | Role::Plan | Role::Plates => 4_194_304,
+        Role::Batch | Role::Defects | Role::Params | Role::Plan | Role::Plates | Role::Sheet =>
+            4_194_304,
     }
 }
 

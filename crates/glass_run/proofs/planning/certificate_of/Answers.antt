@@ -13,17 +13,16 @@ HasHead d = IsHead (head_of d)
 
 pub unreachable-requires : goal.unreachable-requires
 unreachable-requires c =
-    let is = c.requires.1 in
     let b = c.args.instance.now in
-    no_certificate b c.requires.0 is.to_beat c.args.history.now c.in_ok-certificates.certificates.items
-    (c.in_ok-certificates.ensures.good (course b is.to_beat c.requires.0) is.lawful) (c.in_default.ensures.empty.0 refl)
+    no_certificate b c.requires.0 c.requires.1 c.args.history.now c.in_ok-certificates.certificates.items
+    (c.in_ok-certificates.ensures.good (course b c.requires.1 c.requires.0) c.requires.2) (c.in_default.ensures.empty.0 refl)
 
 pub returns-clause-certifies : goal.returns-clause-certifies
-returns-clause-certifies c = λ budget is.
+returns-clause-certifies c = λ budget to_beat lawful.
     let b = c.args.instance.now in
-    let s = course b is.to_beat budget in
-    certified b budget is.to_beat c.args.history.now c.in-Some.certificate c.in_ok-certificates.certificates.items c.pop.new.self.items is.lawful
-    (c.in_ok-certificates.ensures.good s is.lawful) (c.in_ok-certificates.ensures.searched s is.lawful)
+    let s = course b to_beat budget in
+    certified b budget to_beat c.args.history.now c.in-Some.certificate c.in_ok-certificates.certificates.items c.pop.new.self.items lawful
+    (c.in_ok-certificates.ensures.good s lawful) (c.in_ok-certificates.ensures.searched s lawful)
     c.in_ok-certificates.ensures.nodes c.in_ok-certificates.ensures.left c.in_ok-certificates.ensures.version c.in-Some.ensures.last
 
 pub returns-clause-head : goal.returns-clause-head

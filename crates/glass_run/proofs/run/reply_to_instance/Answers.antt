@@ -3,12 +3,13 @@ use Rattle.std.proofs.lemmas.Result.{IfOk-weaker}
 use Rattle.glass_run.specs.Answers.{Answer}
 use Rattle.command_line.specs.Grammar.{stored_names}
 use Rattle.glass_run.specs.Judgements.{JudgesText}
+use Rattle.glass_run.specs.Replays.{ReplaysText}
 use Rattle.glass_base.specs.declared.role.Role.TheVariants as role
 use Rattle.glass_run.specs.Texts.{text_or_empty}
 use Rattle.command_line.specs.declared.grammar.Verb.TheVariants as verb
 use Rattle.glass_run.specs.inner.Forms.{answer_in, texts_in}
 use Rattle.command_line.specs.Lines.{line_in}
-use Rattle.glass_run.proofs.Given.{answers_as, convert_answers, picture_answers, verify_answers}
+use Rattle.glass_run.proofs.Given.{answers_as, convert_answers, picture_answers, replay_answers, resume_answers, sheet_answers, verify_answers}
 use Rattle.glass_run.proofs.run.reply_to_instance.Goals as goal
 
 pub returns-in-Draft : goal.returns-in-Draft
@@ -27,9 +28,9 @@ returns-in_ok-notice-in-Judge g c =
 pub returns-in-Verify : goal.returns-in-Verify
 returns-in-Verify g c =
     let line = line_in c.args.line.now in
-    IfOk-weaker c.verify_texts.result _ _
-    (λ r h. verify_answers line (texts_in c.args.texts.now) c.args.instance.now (answer_in (stored_names line) r) _ _ c.in-Verify.is c.text_of_role-plan.ensures c.text_or_empty-in-Verify.ensures (h (stored_names line)))
-    c.verify_texts.ensures
+    IfOk-weaker c.verify_from.result _ _
+    (λ r h. verify_answers line (texts_in c.args.texts.now) c.args.instance.now (answer_in (stored_names line) r) _ _ _ c.in-Verify.is c.text_of_role-plan.ensures c.text_or_empty-in-Verify.ensures c.count-k.ensures.value (h (stored_names line)))
+    c.verify_from.ensures
 
 pub returns-in-Convert : goal.returns-in-Convert
 returns-in-Convert g c =
@@ -38,9 +39,30 @@ returns-in-Convert g c =
     (λ r h. convert_answers line (texts_in c.args.texts.now) c.args.instance.now (answer_in (stored_names line) r) _ _ c.in-Convert.is c.text_of_role-plan-in-Convert.ensures c.text_or_empty-in-Convert.ensures (h (stored_names line)))
     c.convert_texts.ensures
 
+pub returns-in-Resume : goal.returns-in-Resume
+returns-in-Resume g c =
+    let line = line_in c.args.line.now in
+    IfOk-weaker c.resume_texts.result _ _
+    (λ r h. resume_answers line (texts_in c.args.texts.now) c.args.instance.now (answer_in (stored_names line) r) _ _ _ c.in-Resume.is c.text_of_role-plan-in-Resume.ensures c.text_or_empty-cert.ensures c.count-budget-in-Resume.ensures.value (h (stored_names line)))
+    c.resume_texts.ensures
+
 pub returns-in-Picture : goal.returns-in-Picture
 returns-in-Picture g c =
     let line = line_in c.args.line.now in
     IfOk-weaker c.draw_text.result _ _
     (λ r h. picture_answers line (texts_in c.args.texts.now) c.args.instance.now (answer_in (stored_names line) r) _ c.in-Picture.is c.text_or_empty-in-Picture.ensures (h (stored_names line)))
     c.draw_text.ensures
+
+pub returns-in-Sheet : goal.returns-in-Sheet
+returns-in-Sheet g c =
+    let line = line_in c.args.line.now in
+    IfOk-weaker c.sheet_text.result _ _
+    (λ r h. sheet_answers line (texts_in c.args.texts.now) c.args.instance.now (answer_in (stored_names line) r) _ c.in-Sheet.is c.text_or_empty-in-Sheet.ensures (h (stored_names line)))
+    c.sheet_text.ensures
+
+pub returns-in_ok-notice-in-Replay : goal.returns-in_ok-notice-in-Replay
+returns-in_ok-notice-in-Replay g c =
+    let line = line_in c.args.line.now in
+    let text = c.text_or_empty-in-Replay.ensures in
+    replay_answers line (texts_in c.args.texts.now) c.args.instance.now (answer_in (stored_names line) c.reply_with-in-Replay.result) c.text_or_empty-in-Replay.result.now c.in-Replay.is text
+    (subst (λ (a : Answer). ReplaysText c.args.instance.now c.text_or_empty-in-Replay.result.now a) (sym (c.reply_with-in-Replay.ensures (stored_names line))) c.in_ok-notice-in-Replay.ensures)

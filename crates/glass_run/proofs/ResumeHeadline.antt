@@ -1,0 +1,112 @@
+-- What a user may conclude from how `resume` ended.
+use Rattle.std.proofs.Common.{◌≡◌, ◌≤◌, ℕ, List, length, Bool, true, false, refl, sym, ap, subst, ◌∙◌, inl, inr, Option, None}
+use Rattle.std.specs.Prelude.{nat_le, if◌then◌else◌}
+use Rattle.std.proofs.lemmas.Bool.{leb-true}
+use Rattle.glass_base.specs.Problem.{Problem, IsProblem}
+use Rattle.glass_base.specs.declared.role.Role.TheVariants as role
+use Rattle.glass_io.specs.Told.{Contents}
+use Rattle.cut_model.specs.Tree.{Forest}
+use Rattle.cert_log.specs.declared.certificate.Certificate.{Certificate}
+use Rattle.cert_log.specs.Texts.{cert_text}
+use Rattle.cert_log.proofs.Covers.{bounds_each_plan}
+use Rattle.command_line.specs.Grammar.{Line, count_in}
+use Rattle.command_line.specs.declared.grammar.Count.TheVariants as count
+use Rattle.command_line.specs.declared.grammar.Verb.{Verb}
+use Rattle.command_line.specs.declared.grammar.Verb.TheVariants as verb
+use Rattle.glass_run.specs.Answers.{Answer}
+use Rattle.glass_run.specs.Checks.{IsAccepted, NotAccepted, loss_in}
+use Rattle.glass_run.specs.Checks.NotAccepted.{bad_cert, bad_plan, bad_tree, broken_plan}
+use Rattle.glass_run.specs.Commands.{AnswersInstance, out_of, second_out_of}
+use Rattle.glass_run.specs.Headlines.{Ended, IsSearchEnd, StoresResumed}
+use Rattle.glass_run.specs.Plans.{ending, planned, root_ranges}
+use Rattle.glass_run.specs.Resumptions.{GoesOn, GoesOnWithin, IsResumed, Resumes, too_long_to_read}
+use Rattle.glass_run.specs.Runs.{Prints, RunsTo, Stands, World}
+use Rattle.glass_run.specs.Texts.{limit_of, text_for, text_or_empty}
+use Rattle.glass_run.specs.declared.status.Status.{Status}
+use Rattle.glass_run.proofs.Headlines.{Says, completed_says, rules_of}
+use Rattle.glass_run.proofs.SearchHeadline.{accepts, accepts_good, bound_exact, completes, left_stopped, stopped_left}
+use Rattle.glass_run.proofs.Statuses.{cert_refused, plan_refused}
+use Rattle.glass_run.proofs.StoredTexts.{CanBeRead, is_text_of, verified}
+
+-- an answer to what is not accepted has none of the statuses of a search
+never_ended : (b : Problem) (plan_text : Option (List ℕ)) (text : List ℕ) (answer : Answer) → IsSearchEnd answer.status → NotAccepted b plan_text text answer → ⊥
+never_ended b plan_text text answer end (bad_plan reason refused h) = accepts answer.status end (plan_refused reason answer h)
+never_ended b plan_text text answer end (bad_cert plan reason said reading h) = accepts answer.status end (cert_refused reason answer h)
+never_ended b plan_text text answer end (broken_plan plan c broken said unlawful first e) = subst (λ (a : Answer). IsSearchEnd a.status) e end
+never_ended b plan_text text answer end (bad_tree plan c at why said lawful wrong first e) = subst (λ (a : Answer). IsSearchEnd a.status) e end
+
+-- what was joined can be read again
+can_be_read : (b : Problem) (budget : ℕ) (plan : Option Forest) (c j : Certificate) (best : Option Forest) → IsProblem b → IsResumed b budget plan c j best → CanBeRead b best j
+can_be_read b budget plan c j best problem resumed = record {
+  problem = problem;
+  said = resumed.said.plan_is;
+  text = is_text_of b j problem resumed.good resumed.joined.version resumed.few resumed.said.reading.begins.head;
+  plan_is = resumed.plan_is;
+  good = resumed.good;
+}
+
+-- an answer that is one of two, of which the other has none of the statuses of a search
+one_of : (read : Bool) (good other answer : Answer) → IsSearchEnd answer.status → ¬ IsSearchEnd other.status → answer ≡ (if read then good else other) → (read ≡ true) × (answer ≡ good)
+one_of true good other answer end never is = (refl, is)
+one_of false good other answer end never is = absurd (never (subst (λ (a : Answer). IsSearchEnd a.status) is end))
+
+-- what was joined is stored and told, and its text is no longer than one that is read
+is_stored : (b : Problem) (budget : ℕ) (plan : Option Forest) (c : Certificate) (out new : List ℕ) (answer : Answer) → IsSearchEnd answer.status → (g : GoesOn b budget plan c out new answer) →
+    (length (cert_text g.certificate) ≤ limit_of role.Cert) × (answer ≡ planned b out new g.certificate g.best None)
+is_stored b budget plan c out new answer end g =
+    let bytes = length (cert_text g.certificate) in
+    let is = one_of (nat_le bytes (limit_of role.Cert)) (planned b out new g.certificate g.best None) (too_long_to_read g.certificate) answer end (λ h. h) g.answer_is in
+    (leb-true bytes (limit_of role.Cert) is.0, is.1)
+
+stores_more : (line : Line) (held : Contents) (old new : World) (answer : Answer) (result : Status) (s : Says line held answer) (plan : Option Forest) (c : Certificate) →
+    IsAccepted s.b (text_for s.texts role.Plan) (text_or_empty s.texts role.Cert) plan c → GoesOn s.b (count_in line count.Budget) plan c (out_of line) (second_out_of line) answer → IsSearchEnd answer.status → result ≡ answer.status →
+    Stands answer.stores old.shelf.contents new.shelf.contents → Prints answer.lines old.paper new.paper → StoresResumed line held old new result
+stores_more line held old new answer result s plan c right g end is stored prints =
+    let j = g.certificate in
+    let kept = is_stored s.b (count_in line count.Budget) plan c (out_of line) (second_out_of line) answer end g in
+    let ended : result ≡ ending j = is ∙ ap (λ (a : Answer). a.status) kept.1 in
+    record {
+      texts = s.texts;
+      b = s.b;
+      certificate = c;
+      right = record {
+        plan = plan;
+        reads = s.reads;
+        said = right.said;
+        lawful = right.lawful;
+        good = right.good;
+        bounds = bounds_each_plan s.b 0 (loss_in s.b plan) c (rules_of line.verb line s.texts s.b s.reads.instance_is) right.good;
+      };
+      joined = j;
+      plan = g.best;
+      resumed = g.resumed;
+      stored = subst (λ (a : Answer). Stands a.stores old.shelf.contents new.shelf.contents) kept.1 stored;
+      prints = subst (λ (a : Answer). Prints a.lines old.paper new.paper) kept.1 prints;
+      accepted = accepts_good s.b (root_ranges s.b) j.loss j g.resumed.good;
+      verified = verified s.b g.best j (can_be_read s.b (count_in line count.Budget) plan c j g.best (rules_of line.verb line s.texts s.b s.reads.instance_is) g.resumed);
+      readable = kept.0;
+      ends = ended;
+      left_open = ((λ e. stopped_left j (sym ended ∙ e)), (λ some. ended ∙ left_stopped j some));
+      spent = λ e. g.resumed.spent (stopped_left j (sym ended ∙ e));
+      exact = λ ne. bound_exact s.b (root_ranges s.b) j.loss j g.resumed.good (λ some. ne (ended ∙ left_stopped j some));
+    }
+
+stores_resumed : (line : Line) (held : Contents) (old new : World) (answer : Answer) (result : Status) → line.verb ≡ verb.Resume → IsSearchEnd result → result ≡ answer.status → Says line held answer →
+    Stands answer.stores old.shelf.contents new.shelf.contents → Prints answer.lines old.paper new.paper → StoresResumed line held old new result
+stores_resumed line held old new answer result of end is s stored prints =
+    let budget = count_in line count.Budget in
+    let resumes : Resumes s.b (text_for s.texts role.Plan) (text_or_empty s.texts role.Cert) budget (out_of line) (second_out_of line) answer = subst (λ (v : Verb). AnswersInstance v line s.texts s.b answer) of s.answers in
+    elim resumes [
+      | inl v ↦
+          let within : GoesOnWithin s.b budget v.0 v.1 (out_of line) (second_out_of line) answer = v.3 in
+          elim within [
+            | inl g ↦ stores_more line held old new answer result s v.0 v.1 v.2 g.1 (subst IsSearchEnd is end) is stored prints
+            | inr much ↦ absurd (subst IsSearchEnd (is ∙ ap (λ (a : Answer). a.status) much.1) end)
+          ]
+      | inr other ↦ absurd (never_ended s.b (text_for s.texts role.Plan) (text_or_empty s.texts role.Cert) answer (subst IsSearchEnd is end) other)
+    ]
+
+pub resumption_ended : (words : List (List ℕ)) (line : Line) (held : Contents) (old new : World) (result : Status) → IsSearchEnd result → Ended words verb.Resume line held old new result → StoresResumed line held old new result
+resumption_ended words line held old new result end e =
+    let c = completes line old new result end (subst (λ (o : Option Line). RunsTo o old new result) e.line_is e.runs) in
+    stores_resumed line held old new c.answer result e.verb_is end c.status_is (completed_says line held old new result e.told (accepts result end) c) c.stored c.prints

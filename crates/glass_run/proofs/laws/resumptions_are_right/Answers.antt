@@ -1,0 +1,5 @@
+use Rattle.glass_run.proofs.ResumeHeadline.{resumption_ended}
+use Rattle.glass_run.proofs.laws.resumptions_are_right.Goals as goal
+
+pub returns : goal.returns
+returns c = resumption_ended

@@ -1,0 +1,16 @@
+use Rattle.std.proofs.Common.{[], slice_index_or, ap, ◌∙◌}
+use Rattle.cut_model.specs.Tree.{tree}
+use Rattle.cut_sheet.specs.Texts.{sheet_text}
+use Rattle.cut_sheet.proofs.Cuttables.{lawful_cuttable}
+use Rattle.glass_run.specs.Sheets.{instructions_line}
+use Rattle.glass_run.proofs.Sheeted.{sheeted_is}
+use Rattle.glass_run.proofs.sheeting.store_sheet.Goals as goal
+
+pub sheet_of-requires-clause-cuttable : goal.sheet_of-requires-clause-cuttable
+sheet_of-requires-clause-cuttable c = lawful_cuttable c.args.instance.now (tree c.args.plan.now) c.params-params.ensures.rules c.requires.lawful
+
+pub returns : goal.returns
+returns c =
+    λ names. rw c.in_ok-one_output.ensures
+    (sheeted_is (slice_index_or names 0 []) c.in_ok-bytes.bytes.items _ c.in_ok-sheet.sheet.items _ (c.in_ok-bytes.ensures ∙ ap sheet_text c.as_slice-2.ensures)
+    (c.in_ok-lines.ensures ∙ ap instructions_line c.as_slice.ensures) c.in_ok-sheet.ensures.sheet)
