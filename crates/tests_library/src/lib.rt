@@ -4,6 +4,8 @@
 #[cfg(test)]
 mod arms;
 #[cfg(test)]
+mod board;
+#[cfg(test)]
 mod seats;
 #[cfg(test)]
 mod tests;

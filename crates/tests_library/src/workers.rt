@@ -4,7 +4,7 @@ ghost use Rattle.plan_box.specs.Frames.{IsFrame};
 ghost use Rattle.box_ring.specs.Arms.{frame as frame_at};
 
 use box_ring::{Arm, ring};
-use box_workers::{Hand, OpenGate, Rest, work};
+use box_workers::{Hand, NoPoster, OpenGate, Rest, work};
 use defect_map::DefectMap;
 use glass_base::{Instance, Item, Memory, Params, Run, append};
 use plan_box::{Frame, PlanBox};
@@ -14,7 +14,7 @@ use std::sync::Wait;
 use std::test::Fail;
 
 /// The instance of one item of 500 by 300.
-fn small(alloc: Global) -> Result<Instance, Fail> {
+pub(crate) fn small(alloc: Global) -> Result<Instance, Fail> {
     let mut items = Run::new(alloc);
     let item = Item {
         id: 0,
@@ -56,7 +56,17 @@ fn worked<R: Wait>(
     let mut hand = Hand::new(alloc, instance, 0)?;
     let mut arm = ready(alloc, Frame::of(instance))?;
     let rest = work(
-        rt, alloc, instance, &map, &shared, &mut seat, &mut hand, 1, &mut arm, &OpenGate,
+        rt,
+        alloc,
+        instance,
+        &map,
+        &shared,
+        &mut seat,
+        &mut hand,
+        1,
+        &mut arm,
+        &OpenGate,
+        &mut NoPoster,
     )?;
     Ok((rest, hand, arm))
 }

@@ -2,10 +2,16 @@
 #![tactic(auto)]
 
 #[cfg(test)]
+mod boxes;
+#[cfg(test)]
 mod commands;
 #[cfg(test)]
 mod counts;
 #[cfg(test)]
 mod searched;
 #[cfg(test)]
+mod shares;
+#[cfg(test)]
 mod turns;
+#[cfg(test)]
+mod watched;
