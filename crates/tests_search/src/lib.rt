@@ -10,8 +10,6 @@ mod counts;
 #[cfg(test)]
 mod searched;
 #[cfg(test)]
-mod shares;
-#[cfg(test)]
 mod turns;
 #[cfg(test)]
 mod watched;
