@@ -9,10 +9,10 @@ use Rattle.plan_box.specs.Packed.{unpacked}
 use Rattle.plan_box.specs.Ranges.{Ranges}
 use Rattle.box_bound.specs.declared.kept.Kept.{Kept}
 use Rattle.box_bound.specs.Kept.{early, early_fixed}
-use Rattle.plan_box.specs.inner.Follows.{draws_of, next_fixed}
+use Rattle.plan_box.specs.Follows.{draws_of, next_fixed}
 use Rattle.box_bound.specs.Leastings.{ranges_in}
 use Rattle.box_bound.specs.inner.Drawn.{IsFollowed}
-use Rattle.plan_box.specs.inner.Within.{AreRangesWithin, AreWithin, limit}
+use Rattle.plan_box.specs.Within.{AreRangesWithin, AreWithin, limit}
 use Rattle.plan_box.proofs.Following.{followed_more as more_values, last_push}
 use Rattle.plan_box.proofs.Limits.{known_within}
 

@@ -4,8 +4,8 @@ use Rattle.std.proofs.lemmas.List.{get_or-take, length-map, length-take-le, take
 use Rattle.std.proofs.lemmas.List.Elements.{All-cons, All-head, All-nil, All-tail}
 use Rattle.glass_base.specs.declared.item.Defect.{Defect}
 use Rattle.plan_box.specs.declared.reason.Reason.{Reason}
-use Rattle.box_bound.specs.inner.Seen.{AmongFixed, AreSeen, IsFirstIfAny}
-use Rattle.plan_box.specs.inner.Facts.{FactOf}
+use Rattle.box_bound.specs.Seen.{AmongFixed, AreSeen, IsFirstIfAny}
+use Rattle.plan_box.specs.Facts.{FactOf}
 use Rattle.glass_base.specs.Items.{area_of}
 use Rattle.glass_base.specs.Problem.{Problem, IsProblem}
 use Rattle.plan_trace.specs.declared.level.Level.{Level}
@@ -21,10 +21,10 @@ use Rattle.plan_box.proofs.Stored.{decided_all}
 use Rattle.plan_box.specs.Ranges.{Ranges, PlainBox, AreInFrame}
 use Rattle.box_bound.specs.declared.kept.Kept.{Kept}
 use Rattle.box_bound.specs.Kept.{early_fixed, late, late_fixed}
-use Rattle.plan_box.specs.inner.Follows.{follow}
+use Rattle.plan_box.specs.Follows.{follow}
 use Rattle.box_bound.specs.Leastings.{IsFor, ranges_in}
 use Rattle.box_bound.specs.inner.Drawn.{IsFollowed}
-use Rattle.plan_box.specs.inner.Within.{AllFixed, AreRangesWithin, AreWithin}
+use Rattle.plan_box.specs.Within.{AllFixed, AreRangesWithin, AreWithin}
 use Rattle.box_bound.proofs.Extending.{ranges_followed, ranges_twice}
 use Rattle.plan_box.proofs.Limits.{all_within, few_within}
 use Rattle.plan_box.proofs.Following.{known_follows}

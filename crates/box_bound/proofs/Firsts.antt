@@ -9,8 +9,8 @@ use Rattle.plan_box.specs.declared.reason.Reason.{Reason}
 use Rattle.plan_box.specs.Leasts.{Fixed, fixed, Known}
 use Rattle.plan_box.specs.Ranges.{Ranges}
 use Rattle.plan_box.specs.Reasons.{Applies, AtSome, IsFirstReason, IsRefuted, R7, SomeFixed, reason_number}
-use Rattle.box_bound.specs.inner.Seen.{AppliesEarly, IsFirstIfAny}
-use Rattle.plan_box.specs.inner.Facts.{FactOf}
+use Rattle.box_bound.specs.Seen.{AppliesEarly, IsFirstIfAny}
+use Rattle.plan_box.specs.Facts.{FactOf}
 use Rattle.box_bound.proofs.Seeing.{first_same}
 
 none_at : (m : Level) (j : Known) (ks : List Fixed) → SomeFixed (λ _ _ _ _ _. ⊥) m j ks → ⊥

@@ -17,11 +17,11 @@ use Rattle.plan_box.specs.Reasons.{SomeFixed, fixed_levels}
 use Rattle.box_bound.specs.declared.ends.Ends.{Ends}
 use Rattle.box_bound.specs.declared.kept.Kept.{Kept}
 use Rattle.box_bound.specs.Kept.{early, early_fixed, late, with_ends}
-use Rattle.plan_box.specs.inner.Follows.{follow, draws_of, next_fixed}
+use Rattle.plan_box.specs.Follows.{follow, draws_of, next_fixed}
 use Rattle.box_bound.specs.inner.Drawn.{levels_of}
-use Rattle.box_bound.specs.inner.Seen.{IsFirstIfAny, earlier}
+use Rattle.box_bound.specs.Seen.{IsFirstIfAny, earlier}
 use Rattle.box_bound.specs.inner.Walks.{AreLevels, IsHead, SomeBehind, steps_from}
-use Rattle.plan_box.specs.inner.Within.{AreRangesWithin, AreWithin, limit, AllFixed}
+use Rattle.plan_box.specs.Within.{AreRangesWithin, AreWithin, limit, AllFixed}
 use Rattle.plan_box.proofs.Draws.{draws_more}
 use Rattle.plan_box.proofs.Limits.{item_within, follow_within, settle_within}
 use Rattle.box_bound.proofs.Seeing.{Reasoning, first_or}

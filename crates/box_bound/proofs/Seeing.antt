@@ -17,10 +17,10 @@ use Rattle.plan_box.specs.Packed.{unpacked}
 use Rattle.plan_box.specs.Reasons.{AtSome, SomeFixed, fixed_levels, reason_number}
 use Rattle.box_bound.specs.declared.kept.Kept.{Kept}
 use Rattle.box_bound.specs.Kept.{early_fixed, late_fixed}
-use Rattle.plan_box.specs.inner.Follows.{follow}
+use Rattle.plan_box.specs.Follows.{follow}
 use Rattle.box_bound.specs.inner.Drawn.{HaveLevels, levels_of}
-use Rattle.box_bound.specs.inner.Seen.{AmongFixed, AreSeen, before_fixed, IsFirstIfAny, earlier}
-use Rattle.plan_box.specs.inner.Facts.{FactOf}
+use Rattle.box_bound.specs.Seen.{AmongFixed, AreSeen, before_fixed, IsFirstIfAny, earlier}
+use Rattle.plan_box.specs.Facts.{FactOf}
 
 abbrev pub Reasoning : Type 1
 Reasoning = Level → Known → Level → Known → List Level → Type 0

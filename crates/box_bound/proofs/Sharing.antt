@@ -11,8 +11,8 @@ use Rattle.plan_box.specs.Leasts.{Known, Fixed, fixed, no_known, settle, settle_
 use Rattle.plan_box.specs.Reasons.{BandR2, CellR2, StripR2, TopR2, fixed_levels}
 use Rattle.box_bound.specs.declared.kept.Kept.{Kept}
 use Rattle.box_bound.specs.Kept.{blank, early_fixed, late, late_fixed}
-use Rattle.box_bound.specs.inner.Seen.{AmongFixed, AreSeen, AreShared, IsFirstIfAny, StartsStrip}
-use Rattle.plan_box.specs.inner.Facts.{FactOf}
+use Rattle.box_bound.specs.Seen.{AmongFixed, AreSeen, AreShared, IsFirstIfAny, StartsStrip}
+use Rattle.plan_box.specs.Facts.{FactOf}
 use Rattle.box_bound.proofs.Seeing.{first_same}
 use Rattle.plan_box.proofs.Segments.{segment_more}
 

@@ -11,9 +11,9 @@ use Rattle.plan_box.specs.Packed.{unpacked}
 use Rattle.plan_box.specs.Ranges.{PlainBox, Ranges}
 use Rattle.box_bound.specs.declared.kept.Kept.{Kept}
 use Rattle.box_bound.specs.Kept.{early_fixed, late, late_fixed}
-use Rattle.plan_box.specs.inner.Follows.{follow}
-use Rattle.box_bound.specs.inner.Seen.{AreSeen}
-use Rattle.plan_box.specs.inner.Within.{AreWithin}
+use Rattle.plan_box.specs.Follows.{follow}
+use Rattle.box_bound.specs.Seen.{AreSeen}
+use Rattle.plan_box.specs.Within.{AreWithin}
 
 -- the area of all items, the decided steps, for each the first reason that is a fact at it or before it, how many steps there is room
 -- for, and the defects that the reasons are by

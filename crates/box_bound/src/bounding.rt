@@ -8,9 +8,9 @@ ghost use Rattle.plan_box.specs.Frames.{frame_of};
 ghost use Rattle.plan_box.specs.Leasts.{Fixed, last_known, no_known};
 ghost use Rattle.plan_box.specs.Packed.{unpacked};
 ghost use Rattle.box_bound.specs.Kept.{late, late_fixed};
-ghost use Rattle.plan_box.specs.inner.Follows.{follow};
+ghost use Rattle.plan_box.specs.Follows.{follow};
 ghost use Rattle.box_bound.specs.Leastings.{IsFor};
-ghost use Rattle.plan_box.specs.inner.Within.{AreRangesWithin, AreWithin};
+ghost use Rattle.plan_box.specs.Within.{AreRangesWithin, AreWithin};
 
 use crate::filling::decided_ranges;
 use crate::kept::{Kept, drawn};

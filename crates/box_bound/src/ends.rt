@@ -5,7 +5,7 @@ ghost use Rattle.plan_box.specs.Leasts.{band_known, cell_known, next_known, sett
 ghost use Rattle.plan_box.specs.Packed.{unpacked};
 ghost use Rattle.box_bound.specs.declared.placed.Placed.{Placed as PlacedOf};
 ghost use Rattle.box_bound.specs.Kept.{known_of, no_ends, place_in};
-ghost use Rattle.plan_box.specs.inner.Within.{AreRangesWithin};
+ghost use Rattle.plan_box.specs.Within.{AreRangesWithin};
 
 use crate::placed::Placed;
 use glass_base::Instance;

@@ -7,11 +7,11 @@ ghost use Rattle.plan_box.specs.Frames.{frame_of};
 ghost use Rattle.plan_box.specs.Leasts.{last_known, no_known, settle as settle_of, settle_at};
 ghost use Rattle.plan_box.specs.Packed.{unpacked};
 ghost use Rattle.box_bound.specs.Kept.{blank, early, early_fixed, known_of, late_fixed};
-ghost use Rattle.plan_box.specs.inner.Follows.{follow};
+ghost use Rattle.plan_box.specs.Follows.{follow};
 ghost use Rattle.box_bound.specs.Leastings.{ranges_in};
 ghost use Rattle.box_bound.specs.inner.Drawn.{IsFollowed};
-ghost use Rattle.box_bound.specs.inner.Seen.{AreShared, StartsStrip};
-ghost use Rattle.plan_box.specs.inner.Within.{AreRangesWithin};
+ghost use Rattle.box_bound.specs.Seen.{AreShared, StartsStrip};
+ghost use Rattle.plan_box.specs.Within.{AreRangesWithin};
 
 use crate::ends::Ends;
 use crate::kept::{Kept, drawn};

@@ -8,7 +8,7 @@ ghost use Rattle.plan_box.specs.Decisions.{draw_at as draw_that};
 ghost use Rattle.plan_box.specs.Packed.{unpacked};
 ghost use Rattle.box_bound.specs.Kept.{place_in};
 ghost use Rattle.box_bound.specs.inner.Drawn.{draw_in};
-ghost use Rattle.plan_box.specs.inner.Follows.{draws_of, grown_place};
+ghost use Rattle.plan_box.specs.Follows.{draws_of, grown_place};
 
 use crate::ends::Ends;
 use crate::placed::{Drawn, Placed};
@@ -193,8 +193,8 @@ impl Kept {
     ghost use Rattle.plan_box.specs.Leasts.{no_known};
     ghost use Rattle.plan_box.specs.Packed.{unpacked};
     ghost use Rattle.box_bound.specs.Kept.{early, early_fixed, late, no_ends, no_placed};
-    ghost use Rattle.plan_box.specs.inner.Follows.{draws_of, next_fixed};
-    ghost use Rattle.plan_box.specs.inner.Within.{AreRangesWithin, AreWithin, limit};
+    ghost use Rattle.plan_box.specs.Follows.{draws_of, next_fixed};
+    ghost use Rattle.plan_box.specs.Within.{AreRangesWithin, AreWithin, limit};
 
     /// What stands before the first step.
     pub fn none(ranges: Packed) -> Kept

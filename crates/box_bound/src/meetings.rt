@@ -5,8 +5,8 @@ ghost use Rattle.glass_base.specs.Plates.{Width};
 ghost use Rattle.plan_trace.specs.declared.level.Level.TheVariants.{NewCell, Over};
 ghost use Rattle.plan_box.specs.Reasons.{CrossesXAll, CrossesYAll, ItemR3, LiftR4, StepR4};
 ghost use Rattle.box_bound.specs.Kept.{late};
-ghost use Rattle.plan_box.specs.inner.Facts.{BandMet, CellMet, StripMet};
-ghost use Rattle.plan_box.specs.inner.Within.{AreWithin};
+ghost use Rattle.plan_box.specs.Facts.{BandMet, CellMet, StripMet};
+ghost use Rattle.plan_box.specs.Within.{AreWithin};
 
 use crate::kept::Kept;
 use defect_map::DefectMap;

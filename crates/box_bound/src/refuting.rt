@@ -11,7 +11,7 @@ ghost use Rattle.plan_box.specs.Reasons.{Applies, IsFirstReason, IsRefuted, R7};
 ghost use Rattle.plan_box.specs.declared.reason.Reason.{Reason as ReasonOf};
 ghost use Rattle.box_bound.specs.Kept.{late};
 ghost use Rattle.box_bound.specs.Leastings.{IsFor};
-ghost use Rattle.box_bound.specs.inner.Seen.{AppliesEarly, IsFirstIfAny};
+ghost use Rattle.box_bound.specs.Seen.{AppliesEarly, IsFirstIfAny};
 
 use crate::bounding::{length_at, length_of};
 use crate::filling::decided_ranges;

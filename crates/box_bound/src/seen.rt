@@ -7,9 +7,9 @@ ghost use Rattle.plan_box.specs.Leasts.{fixed, no_known};
 ghost use Rattle.plan_box.specs.Reasons.{StepR4};
 ghost use Rattle.box_bound.specs.Kept.{late, late_fixed};
 ghost use Rattle.box_bound.specs.inner.Drawn.{HaveLevels, levels_of};
-ghost use Rattle.box_bound.specs.inner.Seen.{AreSeen, IsFirstIfAny, before_fixed, earlier as earlier_of};
-ghost use Rattle.plan_box.specs.inner.Facts.{FactOf};
-ghost use Rattle.plan_box.specs.inner.Within.{AreWithin};
+ghost use Rattle.box_bound.specs.Seen.{AreSeen, IsFirstIfAny, before_fixed, earlier as earlier_of};
+ghost use Rattle.plan_box.specs.Facts.{FactOf};
+ghost use Rattle.plan_box.specs.Within.{AreWithin};
 
 use crate::gaps::has_tight_gap;
 use crate::kept::Kept;

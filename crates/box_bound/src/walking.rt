@@ -7,11 +7,11 @@ ghost use Rattle.plan_box.specs.Leasts.{Fixed, least_steps, no_known, settle, se
 ghost use Rattle.plan_box.specs.Packed.{unpacked};
 ghost use Rattle.plan_box.specs.Reasons.{SomeFixed};
 ghost use Rattle.box_bound.specs.Kept.{early, late, with_ends};
-ghost use Rattle.plan_box.specs.inner.Follows.{follow};
-ghost use Rattle.box_bound.specs.inner.Seen.{IsFirstIfAny};
-ghost use Rattle.plan_box.specs.inner.Facts.{FactOf};
+ghost use Rattle.plan_box.specs.Follows.{follow};
+ghost use Rattle.box_bound.specs.Seen.{IsFirstIfAny};
+ghost use Rattle.plan_box.specs.Facts.{FactOf};
 ghost use Rattle.box_bound.specs.inner.Walks.{AreLevels, IsHead, SomeBehind, steps_from};
-ghost use Rattle.plan_box.specs.inner.Within.{AreRangesWithin, AreWithin, limit};
+ghost use Rattle.plan_box.specs.Within.{AreRangesWithin, AreWithin, limit};
 
 use crate::kept::{Kept, drawn};
 use crate::probing::least_step;

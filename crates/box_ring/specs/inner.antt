@@ -1,4 +1,3 @@
 pub mod Rule
-pub mod Neighbours
 pub mod Deques
 pub mod Rings

@@ -1,7 +1,7 @@
 //! One worker's part of the ring.
 ghost use Rattle.std.specs.Prelude.{◌≡◌, ◌<◌, true};
 ghost use Rattle.crossbeam_deque.specs.Handles.{worker_view};
-ghost use Rattle.box_ring.specs.inner.Neighbours.{IsAlike};
+ghost use Rattle.box_ring.specs.Neighbours.{IsAlike};
 
 use crate::deque::{Boxes, is_empty, pop, push};
 use crate::neighbour::Neighbour;
@@ -33,7 +33,7 @@ impl Model for Arm {
     ghost use Rattle.std.specs.Prelude.{map};
     ghost use Rattle.crossbeam_deque.specs.Handles.{worker_deque, worker_view};
     ghost use Rattle.box_ring.specs.Arms.{ArmState};
-    ghost use Rattle.box_ring.specs.inner.Neighbours.{deque_of, tally_of};
+    ghost use Rattle.box_ring.specs.Neighbours.{deque_of, tally_of};
 
     ghost Value = { ArmState };
 
@@ -45,7 +45,7 @@ impl Arm {
     ghost use Rattle.crossbeam_deque.specs.Handles.{worker_deque, worker_view};
     ghost use Rattle.box_ring.specs.Tallies.{FoundFew, HeldMany, IsWhole, HasRest};
     ghost use Rattle.box_ring.specs.Arms.{new_arm, frame, after_push, after_push_pop, after_refusal, after_pop, after_no_pop, after_steal, after_no_steal, Stays};
-    ghost use Rattle.box_ring.specs.inner.Neighbours.{IsAlike, deque_of, tally_of};
+    ghost use Rattle.box_ring.specs.Neighbours.{IsAlike, deque_of, tally_of};
 
     /// A new arm over its own deque and the way to the next one.
     pub(crate) fn new(own: Boxes, other: Option<Neighbour>) -> Arm

@@ -6,7 +6,7 @@ ghost use Rattle.box_ring.specs.Tallies.{IsWhole, HasRest, AllWhole};
 ghost use Rattle.box_ring.specs.Arms.{IsRing, AllOfFrame, AllFresh};
 ghost use Rattle.box_ring.specs.Gathers.{Gathers};
 ghost use Rattle.box_ring.specs.inner.Rule.{both_tallies};
-ghost use Rattle.box_ring.specs.inner.Neighbours.{deque_of, tally_of};
+ghost use Rattle.box_ring.specs.Neighbours.{deque_of, tally_of};
 ghost use Rattle.box_ring.specs.inner.Deques.{views};
 ghost use Rattle.box_ring.specs.inner.Rings.{Completes};
 

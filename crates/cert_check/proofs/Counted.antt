@@ -8,8 +8,8 @@ use Rattle.plan_trace.specs.Marks.{Draw, drawn}
 use Rattle.plan_box.specs.Decisions.{draw_at}
 use Rattle.plan_box.specs.declared.packed.Packed.{Packed}
 use Rattle.plan_box.specs.Packed.{unpacked}
-use Rattle.plan_box.specs.inner.Follows.{draws_before, draws_of}
-use Rattle.plan_box.specs.inner.Within.{AreRangesWithin}
+use Rattle.plan_box.specs.Follows.{draws_before, draws_of}
+use Rattle.plan_box.specs.Within.{AreRangesWithin}
 use Rattle.plan_box.proofs.Children.{no_ranges}
 use Rattle.plan_box.proofs.Draws.{draws_more}
 use Rattle.cert_check.specs.inner.Taken.{HaveDrawn}

@@ -7,8 +7,8 @@ use Rattle.plan_box.specs.Decisions.{decided}
 use Rattle.plan_box.specs.Leasts.{no_known, settle}
 use Rattle.plan_box.specs.Packed.{unpacked}
 use Rattle.plan_box.specs.Ranges.{Ranges}
-use Rattle.plan_box.specs.inner.Follows.{follow}
-use Rattle.plan_box.specs.inner.Within.{AllFixed, AreRangesWithin}
+use Rattle.plan_box.specs.Follows.{follow}
+use Rattle.plan_box.specs.Within.{AllFixed, AreRangesWithin}
 use Rattle.plan_box.proofs.Counts.{decided_few}
 use Rattle.plan_box.proofs.Following.{known_follows}
 use Rattle.plan_box.proofs.Limits.{all_within, few_within}

@@ -9,7 +9,7 @@ ghost use Rattle.plan_box.specs.Packed.{unpacked};
 ghost use Rattle.plan_box.specs.Ranges.{Ranges};
 ghost use Rattle.cert_check.specs.inner.Knowns.{fixed_of, known_in};
 ghost use Rattle.cert_check.specs.inner.Paths.{AreStored};
-ghost use Rattle.plan_box.specs.inner.Within.{AreWithin};
+ghost use Rattle.plan_box.specs.Within.{AreWithin};
 
 use crate::filling::fill;
 use crate::steps::Decided;

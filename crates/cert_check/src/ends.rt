@@ -3,7 +3,7 @@
 ghost use Rattle.std.specs.Prelude.{◌≡◌, ◌+◌, ◌<◌, ◌≤◌, ◌^◌};
 ghost use Rattle.plan_box.specs.Leasts.{band_known, cell_known, fixed, next_known, settled as settled_known, strip_known};
 ghost use Rattle.plan_box.specs.Packed.{unpacked};
-ghost use Rattle.plan_box.specs.inner.Within.{AreRangesWithin};
+ghost use Rattle.plan_box.specs.Within.{AreRangesWithin};
 ghost use Rattle.cert_check.specs.inner.Knowns.{fixed_of, known_in, place_in, with_place};
 
 use crate::steps::Decided;

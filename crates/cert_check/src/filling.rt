@@ -6,10 +6,10 @@ ghost use Rattle.plan_box.specs.Decisions.{decided};
 ghost use Rattle.plan_box.specs.Frames.{frame_of};
 ghost use Rattle.plan_box.specs.Leasts.{fixed, no_known, settle as settle_of, settle_at};
 ghost use Rattle.plan_box.specs.Packed.{unpacked};
-ghost use Rattle.plan_box.specs.inner.Follows.{draws_of, follow as follow_of, next_fixed};
+ghost use Rattle.plan_box.specs.Follows.{draws_of, follow as follow_of, next_fixed};
 ghost use Rattle.cert_check.specs.inner.Knowns.{AreKnown, fixed_of, known_in};
 ghost use Rattle.cert_check.specs.inner.Paths.{AreStored};
-ghost use Rattle.plan_box.specs.inner.Within.{AreRangesWithin, AreWithin, limit};
+ghost use Rattle.plan_box.specs.Within.{AreRangesWithin, AreWithin, limit};
 
 use crate::ends::{settled, with_cuts};
 use crate::free::count_decided;

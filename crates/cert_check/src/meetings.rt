@@ -6,8 +6,8 @@ ghost use Rattle.plan_trace.specs.declared.level.Level.TheVariants.{NewCell, Ove
 ghost use Rattle.plan_box.specs.Leasts.{Known};
 ghost use Rattle.plan_box.specs.Reasons.{ItemR3, LiftR4, StepR4};
 ghost use Rattle.cert_check.specs.inner.Knowns.{known_in};
-ghost use Rattle.plan_box.specs.inner.Facts.{CellMet, BandMet, StripMet};
-ghost use Rattle.plan_box.specs.inner.Within.{AreWithin};
+ghost use Rattle.plan_box.specs.Facts.{CellMet, BandMet, StripMet};
+ghost use Rattle.plan_box.specs.Within.{AreWithin};
 
 use crate::steps::Decided;
 use defect_map::DefectMap;

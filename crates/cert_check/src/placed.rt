@@ -7,8 +7,8 @@ ghost use Rattle.plan_trace.specs.Marks.{Draw, begins, drawn as drawn_of, place_
 ghost use Rattle.plan_box.specs.Decisions.{draw_at};
 ghost use Rattle.plan_box.specs.Leasts.{fixed};
 ghost use Rattle.plan_box.specs.Packed.{unpacked};
-ghost use Rattle.plan_box.specs.inner.Follows.{grown_place};
-ghost use Rattle.plan_box.specs.inner.Within.{AreRangesWithin};
+ghost use Rattle.plan_box.specs.Follows.{grown_place};
+ghost use Rattle.plan_box.specs.Within.{AreRangesWithin};
 ghost use Rattle.cert_check.specs.inner.Knowns.{fixed_of, known_in, place_in, with_place};
 
 use crate::steps::Decided;

@@ -8,10 +8,10 @@ ghost use Rattle.plan_box.specs.Frames.{frame_of};
 ghost use Rattle.plan_box.specs.Leasts.{least_step as least_step_of, no_known};
 ghost use Rattle.plan_box.specs.Packed.{unpacked};
 ghost use Rattle.plan_box.specs.Reasons.{AtSome, IsFirstReason, IsRefuted, R1, R7, SomeFixed};
-ghost use Rattle.plan_box.specs.inner.Facts.{FactOf};
+ghost use Rattle.plan_box.specs.Facts.{FactOf};
 ghost use Rattle.cert_check.specs.inner.Knowns.{AreKnown, fixed_of, known_in, levels_in};
 ghost use Rattle.cert_check.specs.inner.Paths.{AreStored};
-ghost use Rattle.plan_box.specs.inner.Within.{AreWithin};
+ghost use Rattle.plan_box.specs.Within.{AreWithin};
 
 use crate::bounding::least_length;
 use crate::filling::fill;

@@ -2,7 +2,7 @@
 
 ghost use Rattle.std.specs.Prelude.{◌≡◌, ◌+◌, ◌<◌, ◌≤◌, All, [], length, slice_index_or, slice_set};
 ghost use Rattle.plan_box.specs.Packed.{unpacked};
-ghost use Rattle.plan_box.specs.inner.Within.{AreRangesWithin};
+ghost use Rattle.plan_box.specs.Within.{AreRangesWithin};
 ghost use Rattle.cert_check.specs.inner.Taken.{HaveDrawn};
 
 use glass_base::Run;

@@ -7,7 +7,7 @@ use Rattle.plan_box.specs.Decisions.{draw_at}
 use Rattle.plan_box.specs.declared.packed.Packed.{Packed}
 use Rattle.plan_box.specs.Packed.{unpacked}
 use Rattle.plan_box.specs.Ranges.{Ranges}
-use Rattle.plan_box.specs.inner.Follows.{draws_before, draws_of}
+use Rattle.plan_box.specs.Follows.{draws_before, draws_of}
 
 -- one more step before others
 push_draw : (ranges : List Packed) (r : Packed) (done : List Draw) → draws_before (ranges ++ r ∷ []) done ≡ draw_at (unpacked r) ∷ draws_before ranges done

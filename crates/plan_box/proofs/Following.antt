@@ -10,7 +10,7 @@ use Rattle.plan_box.specs.Decisions.{decided, draw_at, is_drawn}
 use Rattle.plan_box.specs.Leasts.{Known, Fixed, fixed, known, known_so_far, next_known, no_known, last_known, settle}
 use Rattle.plan_box.specs.Packed.{unpacked}
 use Rattle.plan_box.specs.Ranges.{Ranges}
-use Rattle.plan_box.specs.inner.Follows.{draws_of, follow, next_fixed}
+use Rattle.plan_box.specs.Follows.{draws_of, follow, next_fixed}
 use Rattle.plan_box.proofs.Draws.{draws_pushed, pushed}
 use Rattle.plan_box.proofs.Probe.{place_known}
 

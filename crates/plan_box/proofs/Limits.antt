@@ -18,8 +18,8 @@ use Rattle.plan_box.specs.Frames.{frame_of}
 use Rattle.plan_box.specs.Leasts.{Known, Fixed, fixed, last_known, next_known, no_known, settle, settle_at, settled}
 use Rattle.plan_box.specs.Packed.{unpacked}
 use Rattle.plan_box.specs.Ranges.{AreInFrame, Ranges}
-use Rattle.plan_box.specs.inner.Follows.{follow}
-use Rattle.plan_box.specs.inner.Within.{AllFixed, AreRangesWithin, AreWithin, limit}
+use Rattle.plan_box.specs.Follows.{follow}
+use Rattle.plan_box.specs.Within.{AllFixed, AreRangesWithin, AreWithin, limit}
 use Rattle.plan_box.proofs.Sizes.{next_within, within_more, within_same}
 
 got_within : (items : List Item) (i : ℕ) → All IsItemInRange items → IfSome (slice_get items i) IsItemInRange

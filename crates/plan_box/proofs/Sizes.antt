@@ -10,8 +10,8 @@ use Rattle.plan_trace.specs.declared.level.Level.TheVariants.{NewPlate, NewStrip
 use Rattle.plan_trace.specs.Marks.{Draw, Place, begins, drawn, place_of, item_width, item_height, cell_height}
 use Rattle.plan_box.specs.Leasts.{Known, next_known}
 use Rattle.plan_box.specs.Ranges.{Ranges}
-use Rattle.plan_box.specs.inner.Follows.{grown_place}
-use Rattle.plan_box.specs.inner.Within.{AreRangesWithin, AreWithin}
+use Rattle.plan_box.specs.Follows.{grown_place}
+use Rattle.plan_box.specs.Within.{AreRangesWithin, AreWithin}
 
 pub times_bit : (bit n : ℕ) → bit ≤ 1 → bit * n ≤ n
 times_bit bit n le = omega (arith, mul-le-mul_right n le)

@@ -8,4 +8,7 @@ pub mod Reasons
 pub mod Plans
 pub mod Packed
 pub mod Vars
+pub mod Follows
+pub mod Within
+pub mod Facts
 pub mod inner

@@ -1,5 +1,2 @@
 pub mod Openings
 pub mod Stored
-pub mod Follows
-pub mod Within
-pub mod Facts

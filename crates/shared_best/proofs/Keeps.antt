@@ -8,7 +8,7 @@ use Rattle.atomic_table.specs.Table.Act.{keeps}
 use Rattle.shared_best.specs.declared.view.View.{View}
 use Rattle.shared_best.specs.Words.{none_known, all_draws, times, once_below, IsEachOnce, share, IsWhole, looked, lowered, drawn, kept_half, new_half, joined, Settles}
 use Rattle.shared_best.specs.inner.Plays.{look_then, lower_then, draw_then, settle_then}
-use Rattle.shared_best.specs.inner.Rule.{Fits, Sound, all_words, Kept, spent_view}
+use Rattle.shared_best.specs.Rule.{Fits, Sound, all_words, Kept, spent_view}
 use Rattle.shared_best.proofs.Counts.{times-append, once_more, below_once, sum_two}
 use Rattle.std.proofs.lemmas.List.Sums.{sum_by-append}
 use Rattle.shared_best.proofs.Views.{total_set, at_le, two_le, sum_alone, each_set, each_snoc, least_low, least_at, least_set, least_snoc, least_alone, set_there, empty_of_length}

@@ -7,7 +7,7 @@ use lib.ListN.{get_elem?}
 use Rattle.atomic_table.proofs.Lists.{at_set, at_snoc}
 use Rattle.shared_best.specs.declared.view.View.{View}
 use Rattle.shared_best.specs.Words.{none_known}
-use Rattle.shared_best.specs.inner.Rule.{least}
+use Rattle.shared_best.specs.Rule.{least}
 
 module _ {A : Type 0} (f : A → ℕ) where
   pub total_set : (l : List A) (i : ℕ) (v w : A) → get_elem? l i ≡ some v → sum_by f (set l i w) + f v ≡ sum_by f l + f w

@@ -1,3 +1,4 @@
 pub mod Words
 pub mod Seats
+pub mod Rule
 pub mod inner

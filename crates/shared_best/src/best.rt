@@ -2,7 +2,7 @@
 ghost use Rattle.std.specs.Prelude.{◌≡◌, [], ◌∷◌};
 ghost use Rattle.shared_best.specs.Words.{newcomer, kept_half, new_half, joined};
 ghost use Rattle.shared_best.specs.inner.Plays.{look_then, lower_then, draw_then, settle_then};
-ghost use Rattle.shared_best.specs.inner.Rule.{Kept, spent_view};
+ghost use Rattle.shared_best.specs.Rule.{Kept, spent_view};
 
 use crate::seat::Seat;
 use crate::view::View;

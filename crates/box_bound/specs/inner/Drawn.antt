@@ -9,7 +9,7 @@ use Rattle.plan_box.specs.Packed.{unpacked}
 use Rattle.box_bound.specs.declared.kept.Kept.{Kept}
 use Rattle.box_bound.specs.declared.placed.Drawn.{Drawn}
 use Rattle.box_bound.specs.Kept.{early_fixed}
-use Rattle.plan_box.specs.inner.Follows.{follow}
+use Rattle.plan_box.specs.Follows.{follow}
 
 abbrev pub draw_in : Drawn → Draw
 draw_in d = record { stack = d.stack; turn = d.turn; kind = d.kind; lift = d.lift }

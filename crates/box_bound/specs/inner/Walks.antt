@@ -8,7 +8,7 @@ use Rattle.plan_box.specs.Packed.{unpacked}
 use Rattle.plan_box.specs.Reasons.{SomeFixed, fixed_levels}
 use Rattle.box_bound.specs.declared.kept.Kept.{Kept}
 use Rattle.box_bound.specs.Kept.{late_fixed}
-use Rattle.plan_box.specs.inner.Follows.{follow, draws_of}
+use Rattle.plan_box.specs.Follows.{follow, draws_of}
 use Rattle.box_bound.specs.inner.Drawn.{levels_of}
 
 -- the decided steps of these ranges from one on, behind a step of which this is known

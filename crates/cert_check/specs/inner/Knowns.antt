@@ -8,7 +8,7 @@ use Rattle.plan_box.specs.Leasts.{Known, Fixed, fixed, known}
 use Rattle.plan_box.specs.Ranges.{Ranges}
 use Rattle.cert_check.specs.declared.scratch.Scratch.{Scratch}
 use Rattle.cert_check.specs.declared.steps.Decided.{Decided}
-use Rattle.plan_box.specs.inner.Within.{AreWithin}
+use Rattle.plan_box.specs.Within.{AreWithin}
 
 -- the place of a step
 abbrev pub place_in : Decided → Place

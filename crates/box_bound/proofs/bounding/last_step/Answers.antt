@@ -4,8 +4,8 @@ use Rattle.plan_box.specs.declared.packed.Packed.{Packed}
 use Rattle.plan_box.specs.Leasts.{last_known, no_known}
 use Rattle.plan_box.specs.Packed.{unpacked}
 use Rattle.box_bound.specs.Kept.{blank, early, known_of, late}
-use Rattle.plan_box.specs.inner.Follows.{follow}
-use Rattle.plan_box.specs.inner.Within.{limit}
+use Rattle.plan_box.specs.Follows.{follow}
+use Rattle.plan_box.specs.Within.{limit}
 use Rattle.plan_box.proofs.Following.{followed_last}
 use Rattle.plan_box.proofs.Limits.{known_within}
 use Rattle.plan_box.proofs.Sizes.{within_more, within_same}

@@ -2,7 +2,7 @@ use Rattle.std.proofs.Common.{◌≡◌, [], map, take}
 use Rattle.plan_box.specs.Leasts.{last_known, no_known}
 use Rattle.plan_box.specs.Packed.{unpacked}
 use Rattle.box_bound.specs.Kept.{early, late}
-use Rattle.plan_box.specs.inner.Follows.{follow}
+use Rattle.plan_box.specs.Follows.{follow}
 use Rattle.box_bound.proofs.bounding.last_step.Given as goal
 
 abbrev pub invariant-loop-i : goal.invariant-loop-i

@@ -2,7 +2,7 @@ use Rattle.std.proofs.Common.{[], ap, ◌∙◌, sym, length, take}
 use Rattle.plan_box.specs.Decisions.{decided}
 use Rattle.plan_box.specs.Leasts.{known, last_known, no_known}
 use Rattle.plan_box.proofs.Counts.{known_count}
-use Rattle.plan_box.specs.inner.Follows.{follow}
+use Rattle.plan_box.specs.Follows.{follow}
 use Rattle.plan_box.proofs.Following.{known_follows}
 use Rattle.box_bound.proofs.Lengths.{settled_last}
 use Rattle.box_bound.proofs.bounding.length_of.Goals as goal

@@ -2,7 +2,7 @@ use Rattle.std.proofs.Common.{◌≡◌, ◌⊎◌, ◌<◌, ◌≤◌, List, le
 use Rattle.std.proofs.lemmas.List.{length-take-le}
 use Rattle.box_bound.specs.declared.kept.Kept.{Kept}
 use Rattle.box_bound.specs.Kept.{blank}
-use Rattle.box_bound.specs.inner.Seen.{StartsStrip}
+use Rattle.box_bound.specs.Seen.{StartsStrip}
 use Rattle.box_bound.proofs.Filled.{followed_same, start_followed}
 use Rattle.box_bound.proofs.Sharing.{late_from, shared_from}
 use Rattle.box_bound.proofs.filling.refill.Goals as goal

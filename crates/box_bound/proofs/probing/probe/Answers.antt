@@ -6,7 +6,7 @@ use Rattle.plan_trace.specs.TraceRules.{Meets}
 use Rattle.plan_trace.proofs.Breaches.{first_broken_not_meets}
 use Rattle.plan_box.specs.Leasts.{least_steps, no_known, settle}
 use Rattle.plan_box.specs.Ranges.{Ranges}
-use Rattle.plan_box.specs.inner.Follows.{follow}
+use Rattle.plan_box.specs.Follows.{follow}
 use Rattle.plan_box.proofs.Following.{known_follows}
 use Rattle.box_bound.proofs.Writing.{none_found}
 use Rattle.box_bound.proofs.probing.probe.Goals as goal

@@ -6,9 +6,9 @@ use Rattle.plan_box.specs.Leasts.{Fixed, least_steps, no_known, settle}
 use Rattle.plan_box.specs.Packed.{unpacked}
 use Rattle.plan_box.specs.Ranges.{Ranges}
 use Rattle.plan_box.specs.Reasons.{SomeFixed}
-use Rattle.plan_box.specs.inner.Follows.{follow}
-use Rattle.box_bound.specs.inner.Seen.{IsFirstIfAny}
-use Rattle.plan_box.specs.inner.Facts.{FactOf}
+use Rattle.plan_box.specs.Follows.{follow}
+use Rattle.box_bound.specs.Seen.{IsFirstIfAny}
+use Rattle.plan_box.specs.Facts.{FactOf}
 use Rattle.box_bound.proofs.Firsts.{early_first}
 use Rattle.plan_box.proofs.Following.{known_follows}
 use Rattle.box_bound.proofs.refuting.refuted_early.Goals as goal

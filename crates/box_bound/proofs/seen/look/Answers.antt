@@ -7,8 +7,8 @@ use Rattle.plan_box.specs.Leasts.{fixed, no_known}
 use Rattle.plan_box.proofs.Levels.{levels_are}
 use Rattle.box_bound.specs.Kept.{blank, late, late_fixed}
 use Rattle.box_bound.specs.inner.Drawn.{levels_of}
-use Rattle.box_bound.specs.inner.Seen.{AmongFixed, AreSeen, IsFirstIfAny}
-use Rattle.plan_box.specs.inner.Facts.{FactOf}
+use Rattle.box_bound.specs.Seen.{AmongFixed, AreSeen, IsFirstIfAny}
+use Rattle.plan_box.specs.Facts.{FactOf}
 use Rattle.box_bound.proofs.Seeing.{before_more, late_at, seen_more, seen_put, seen_start}
 use Rattle.box_bound.proofs.seen.look.Goals as goal
 

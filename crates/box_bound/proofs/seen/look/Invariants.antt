@@ -2,8 +2,8 @@ use Rattle.std.proofs.Common.{◌≡◌, length, map}
 use Rattle.plan_trace.specs.declared.level.Level.TheVariants.{NewPlate}
 use Rattle.plan_box.specs.Leasts.{fixed, no_known}
 use Rattle.box_bound.specs.Kept.{late_fixed}
-use Rattle.box_bound.specs.inner.Seen.{AmongFixed, AreSeen, IsFirstIfAny, before_fixed}
-use Rattle.plan_box.specs.inner.Facts.{FactOf}
+use Rattle.box_bound.specs.Seen.{AmongFixed, AreSeen, IsFirstIfAny, before_fixed}
+use Rattle.plan_box.specs.Facts.{FactOf}
 use Rattle.box_bound.proofs.seen.look.Given as goal
 
 abbrev pub invariant-loop-i : goal.invariant-loop-i

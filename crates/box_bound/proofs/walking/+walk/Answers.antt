@@ -4,8 +4,8 @@ use Rattle.plan_box.specs.declared.packed.Packed.{Packed}
 use Rattle.plan_box.specs.Leasts.{Fixed, least_step, least_steps, settle_at}
 use Rattle.cut_model.specs.declared.steps.Step.{Step}
 use Rattle.box_bound.specs.Kept.{blank, early}
-use Rattle.plan_box.specs.inner.Follows.{draws_of}
-use Rattle.plan_box.specs.inner.Facts.{FactOf}
+use Rattle.plan_box.specs.Follows.{draws_of}
+use Rattle.plan_box.specs.Facts.{FactOf}
 use Rattle.box_bound.specs.inner.Walks.{AreLevels, steps_from}
 use Rattle.box_bound.proofs.Recursed.{are_levels, head_is, head_within, seen_is, step_within, steps_one, written_one}
 use Rattle.box_bound.proofs.walking.+walk.Goals as goal

@@ -3,8 +3,8 @@ use Rattle.plan_box.specs.declared.reason.Reason.{Reason}
 use Rattle.plan_box.specs.Reasons.{SomeFixed}
 use Rattle.box_bound.specs.declared.kept.Kept.{Kept}
 use Rattle.box_bound.specs.Kept.{late}
-use Rattle.box_bound.specs.inner.Seen.{IsFirstIfAny}
-use Rattle.plan_box.specs.inner.Facts.{FactOf}
+use Rattle.box_bound.specs.Seen.{IsFirstIfAny}
+use Rattle.plan_box.specs.Facts.{FactOf}
 use Rattle.box_bound.specs.inner.Walks.{IsHead}
 use Rattle.box_bound.proofs.Recursed.{seen_first}
 use Rattle.box_bound.proofs.walking.seen_behind.Goals as goal

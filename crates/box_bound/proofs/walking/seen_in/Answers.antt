@@ -4,9 +4,9 @@ use Rattle.plan_box.specs.Leasts.{Known, no_known, settle}
 use Rattle.plan_box.specs.Packed.{unpacked}
 use Rattle.plan_box.specs.Reasons.{SomeFixed}
 use Rattle.box_bound.specs.Kept.{early, late}
-use Rattle.plan_box.specs.inner.Follows.{follow}
-use Rattle.box_bound.specs.inner.Seen.{IsFirstIfAny}
-use Rattle.plan_box.specs.inner.Facts.{FactOf}
+use Rattle.plan_box.specs.Follows.{follow}
+use Rattle.box_bound.specs.Seen.{IsFirstIfAny}
+use Rattle.plan_box.specs.Facts.{FactOf}
 use Rattle.box_bound.specs.inner.Walks.{steps_from}
 use Rattle.box_bound.proofs.Recursed.{are_levels}
 use Rattle.box_bound.proofs.walking.seen_in.Goals as goal

@@ -1,6 +1,6 @@
 use Rattle.std.proofs.Common.{rules, ap, ◌∙◌, arith}
 use Rattle.crossbeam_deque.specs.Handles.{worker_deque, worker_view}
-use Rattle.box_ring.specs.inner.Neighbours.{deque_of, tally_of}
+use Rattle.box_ring.specs.Neighbours.{deque_of, tally_of}
 use Rattle.box_ring.specs.inner.Deques.{views, view_of}
 use Rattle.shared_best.proofs.Views.{empty_of_length}
 use Rattle.box_ring.proofs.Rows.{longer}

@@ -1,6 +1,6 @@
 use Rattle.std.proofs.Common.{◌+◌, ◌<◌, length, vec_len, vec_capacity}
 use Rattle.crossbeam_deque.specs.Handles.{worker_deque, worker_view}
-use Rattle.box_ring.specs.inner.Neighbours.{deque_of, tally_of}
+use Rattle.box_ring.specs.Neighbours.{deque_of, tally_of}
 use Rattle.box_ring.specs.inner.Deques.{views}
 use Rattle.box_ring.proofs.Joined.{Joins}
 use Rattle.box_ring.proofs.rings.collect.Given as goal

@@ -3,8 +3,8 @@ use Rattle.std.proofs.Math.ListN.{set, length-set}
 use Rattle.std.proofs.lemmas.List.Elements.{All-get_or}
 use Rattle.plan_box.specs.Leasts.{no_known}
 use Rattle.plan_box.specs.Packed.{unpacked}
-use Rattle.plan_box.specs.inner.Follows.{follow}
-use Rattle.plan_box.specs.inner.Within.{AreRangesWithin}
+use Rattle.plan_box.specs.Follows.{follow}
+use Rattle.plan_box.specs.Within.{AreRangesWithin}
 use Rattle.plan_box.proofs.Children.{no_ranges}
 use Rattle.plan_box.proofs.Following.{followed_last, followed_more}
 use Rattle.plan_box.proofs.Limits.{known_within}

@@ -1,7 +1,7 @@
 use Rattle.std.proofs.Common.{◌≡◌, [], length, map, take}
 use Rattle.plan_box.specs.Leasts.{last_known, no_known}
 use Rattle.plan_box.specs.Packed.{unpacked}
-use Rattle.plan_box.specs.inner.Follows.{draws_of, follow}
+use Rattle.plan_box.specs.Follows.{draws_of, follow}
 use Rattle.cert_check.specs.inner.Knowns.{fixed_of, known_in}
 use Rattle.cert_check.specs.inner.Taken.{HaveDrawn}
 use Rattle.cert_check.proofs.filling.follow.Given as goal

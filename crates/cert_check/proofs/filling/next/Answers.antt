@@ -8,7 +8,7 @@ use Rattle.plan_trace.specs.Marks.{Place, begins, drawn, item_height}
 use Rattle.plan_box.specs.Decisions.{draw_at}
 use Rattle.plan_box.specs.Leasts.{fixed, next_known}
 use Rattle.plan_box.specs.Packed.{unpacked}
-use Rattle.plan_box.specs.inner.Follows.{draws_of}
+use Rattle.plan_box.specs.Follows.{draws_of}
 use Rattle.plan_box.proofs.Sizes.{cell_high, item_small, width_small}
 use Rattle.cert_check.specs.inner.Knowns.{known_in, place_in}
 use Rattle.cert_check.proofs.Placing.{cuts_are, level_is, place_is}

@@ -4,7 +4,7 @@ use Rattle.plan_box.specs.Decisions.{all_decided}
 use Rattle.plan_box.specs.Leasts.{Fixed, no_known}
 use Rattle.plan_box.specs.Packed.{unpacked}
 use Rattle.plan_box.specs.Reasons.{SomeFixed}
-use Rattle.plan_box.specs.inner.Facts.{FactOf}
+use Rattle.plan_box.specs.Facts.{FactOf}
 use Rattle.cert_check.specs.inner.Knowns.{fixed_of}
 use Rattle.cert_check.proofs.Somes.{whole_is}
 use Rattle.cert_check.proofs.refuting.is_fact.Goals as goal

@@ -3,7 +3,7 @@ use Rattle.plan_trace.specs.declared.level.Level.TheVariants.{NewPlate}
 use Rattle.plan_box.specs.Leasts.{no_known}
 use Rattle.plan_box.specs.Reasons.{SomeFixed}
 use Rattle.cert_check.specs.declared.steps.Decided.{Decided}
-use Rattle.plan_box.specs.inner.Facts.{FactOf}
+use Rattle.plan_box.specs.Facts.{FactOf}
 use Rattle.cert_check.specs.inner.Knowns.{fixed_of, known_in, levels_in, nothing}
 use Rattle.plan_box.proofs.PointTests.{not_both}
 use Rattle.cert_check.proofs.Somes.{rest_is, some_here, some_next, some_none}

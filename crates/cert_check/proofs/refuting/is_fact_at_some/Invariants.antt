@@ -2,7 +2,7 @@ use Rattle.std.proofs.Common.{◌↔◌, map, drop}
 use Rattle.plan_trace.specs.declared.level.Level.TheVariants.{NewPlate}
 use Rattle.plan_box.specs.Leasts.{no_known}
 use Rattle.plan_box.specs.Reasons.{SomeFixed}
-use Rattle.plan_box.specs.inner.Facts.{FactOf}
+use Rattle.plan_box.specs.Facts.{FactOf}
 use Rattle.cert_check.specs.inner.Knowns.{fixed_of, known_in}
 use Rattle.cert_check.proofs.refuting.is_fact_at_some.Given as goal
 

@@ -6,7 +6,7 @@ use Rattle.plan_trace.specs.Marks.{Draw, Place, begins, drawn, item_height}
 use Rattle.plan_box.specs.Decisions.{draw_at}
 use Rattle.plan_box.specs.Packed.{unpacked}
 use Rattle.box_bound.specs.inner.Drawn.{draw_in}
-use Rattle.plan_box.specs.inner.Follows.{draws_of}
+use Rattle.plan_box.specs.Follows.{draws_of}
 use Rattle.plan_box.proofs.Sizes.{cell_high, item_small}
 use Rattle.box_bound.proofs.kept.Kept.next.Goals as goal
 

@@ -6,11 +6,11 @@ use Rattle.plan_box.specs.Packed.{unpacked}
 use Rattle.plan_box.specs.Leasts.{no_known}
 use Rattle.box_bound.specs.declared.kept.Kept.{Kept}
 use Rattle.box_bound.specs.Kept.{late, late_fixed}
-use Rattle.plan_box.specs.inner.Follows.{follow}
+use Rattle.plan_box.specs.Follows.{follow}
 use Rattle.box_bound.specs.Leastings.{Leastings}
 use Rattle.box_bound.specs.inner.Drawn.{HaveLevels}
-use Rattle.box_bound.specs.inner.Seen.{AreSeen}
-use Rattle.plan_box.specs.inner.Within.{AreWithin}
+use Rattle.box_bound.specs.Seen.{AreSeen}
+use Rattle.plan_box.specs.Within.{AreWithin}
 use Rattle.box_bound.proofs.Filled.{filled, filled_within}
 use Rattle.box_bound.proofs.Seeing.{have_levels, seen_taken}
 use Rattle.box_bound.proofs.Sharing.{seen_kept}

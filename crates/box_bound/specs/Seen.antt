@@ -7,7 +7,7 @@ use Rattle.plan_box.specs.Leasts.{Fixed, fixed, Known, no_known}
 use Rattle.plan_box.specs.Ranges.{Ranges}
 use Rattle.plan_box.specs.Reasons.{Applies, fixed_levels, reason_number}
 use Rattle.plan_box.specs.declared.reason.Reason.{Reason}
-use Rattle.plan_box.specs.inner.Facts.{FactOf}
+use Rattle.plan_box.specs.Facts.{FactOf}
 use Rattle.box_bound.specs.declared.kept.Kept.{Kept}
 use Rattle.box_bound.specs.Kept.{blank}
 
