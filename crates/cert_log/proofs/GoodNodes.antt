@@ -18,11 +18,11 @@ use Rattle.cert_log.specs.Splits.{IsNoLargerThanFull}
 use Rattle.cert_log.specs.Trees.{Tree, halved, closed, waiting, nodes_of, is_left}
 
 -- one for a node that is no open one
-abbrev one : Node → ℕ
+abbrev pub one : Node → ℕ
 one node = cond (not (is_left node)) 1 0
 
 -- the nodes that are no open ones
-abbrev shut : List Node → ℕ
+abbrev pub shut : List Node → ℕ
 shut nodes = count_by (λ node. not (is_left node)) nodes
 
 tree_counts : (b : Problem) (rs : List Ranges) (t : Tree) → shut (nodes_of t) + length (open_bounds b rs t) ≡ length (nodes_of t)

@@ -21,4 +21,5 @@ pub mod Identities
 pub mod Totals
 pub mod GoodNodes
 pub mod Covers
+pub mod ShortTexts
 mod TraceEnds

@@ -45,7 +45,7 @@ pub other_than : (value a : ℕ) (text : List ℕ) → value < 2 ^ 64 → text �
 other_than value a text small e one two is f =
     let same = decimal_injective value a small (one_or_two_small a is) (sym e ∙ f) in elim is [ inl x ↦ one (same ∙ x) | inr y ↦ two (same ∙ y) ]
 
-reason_range : (r : Reason) → (0 < reason_number r) × (reason_number r < 8)
+pub reason_range : (r : Reason) → (0 < reason_number r) × (reason_number r < 8)
 reason_range Reason.R1 = (omega arith, omega arith)
 reason_range Reason.R2 = (omega arith, omega arith)
 reason_range Reason.R3 = (omega arith, omega arith)

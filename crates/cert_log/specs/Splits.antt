@@ -1,5 +1,5 @@
 -- Which boxes a certificate splits.
-use Rattle.std.specs.Prelude.{◌≡◌, ◌<◌, ◌+◌, ◌^◌, ℕ, List, length}
+use Rattle.std.specs.Prelude.{◌≡◌, ◌<◌, ◌≤◌, ◌+◌, ◌*◌, ◌^◌, ℕ, List, length, count_by, not}
 use Rattle.std.specs.List.{AllZip}
 use Rattle.glass_base.specs.Problem.{Problem, IsProblem}
 use Rattle.cut_model.specs.Lawful.{IsLawful}
@@ -11,8 +11,10 @@ use Rattle.plan_box.specs.Halves.{IsDepth, lower_half, upper_half, half_at}
 use Rattle.plan_box.specs.Ranges.{PlainBox, Ranges, root_of}
 use Rattle.plan_box.specs.Reasons.{IsRefuted}
 use Rattle.cert_log.specs.declared.certificate.Certificate.{Certificate}
-use Rattle.cert_log.specs.Good.{IsGood, Reaches}
-use Rattle.cert_log.specs.Trees.{Tree, halved, closed, waiting, nodes_of}
+use Rattle.cert_log.specs.Good.{IsGood, IsVersion, Reaches}
+use Rattle.cert_log.specs.Outcomes.{IsHead}
+use Rattle.cert_log.specs.Texts.{cert_text, head_of}
+use Rattle.cert_log.specs.Trees.{Tree, halved, closed, waiting, nodes_of, is_left}
 use Rattle.std.specs.Prelude.{Option}
 
 -- walking the tree from the box, each box that is split is not refuted, and its bound is below the loss that is to be beaten
@@ -45,3 +47,9 @@ abbrev pub IsNoLargerThanFull : Type 0
 IsNoLargerThanFull =
     (b : Problem) (id depth : ℕ) (loss : Option ℕ) (c : Certificate) → IsDepth (frame_of b) depth
     → IsGood b (root_of (frame_of b) id).ranges loss c → length c.nodes.items < 2 ^ (depth + 1)
+
+-- the text of a certificate that is right for the box of all plans has at most twelve bytes for each box that was closed or split, and 100
+abbrev pub HaveShortTexts : Type 0
+HaveShortTexts =
+    (b : Problem) (loss : Option ℕ) (c : Certificate) → IsProblem b → IsGood b (root_of (frame_of b) 0).ranges loss c → IsVersion 2 c → IsHead (head_of c)
+    → length (cert_text c) ≤ 12 * count_by (λ node. not (is_left node)) c.nodes.items + 100

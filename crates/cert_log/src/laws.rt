@@ -3,7 +3,7 @@
 ghost use Rattle.cert_log.specs.Good.{GoodSteps};
 ghost use Rattle.cert_log.specs.ReadAgain.{OneCertificate, OneReading, OneRefusal, ReadIsText, RoundTrip, WrittenIsRead};
 ghost use Rattle.cert_log.specs.Readings.{OneSpelling};
-ghost use Rattle.cert_log.specs.Splits.{BoundsEachPlan, IsNoLargerThanFull};
+ghost use Rattle.cert_log.specs.Splits.{BoundsEachPlan, HaveShortTexts, IsNoLargerThanFull};
 
 /// A text is that of one certificate alone, so what is written is read again as the same certificate.
 pub fn one_spelling()
@@ -53,4 +53,9 @@ pub fn good_certificates_bound_each_plan()
 /// A certificate that is right for the box of all plans has no more nodes than a full tree of the frame's depth.
 pub fn good_certificates_are_no_larger_than_full_trees()
     ensures { IsNoLargerThanFull }
+{}
+
+/// The text of a certificate that is right for the box of all plans has at most twelve bytes for each box that was closed or split, and 100.
+pub fn good_certificates_have_short_texts()
+    ensures { HaveShortTexts }
 {}
