@@ -1,5 +1,5 @@
 -- The arms of several workers, in the other order.
-use Rattle.std.proofs.Common.{◌≡◌, ℕ, ◌+◌, List, [], ◌∷◌, ◌++◌, length, reverse, refl, sym, ap, ◌∙◌, subst, arith, All}
+use Rattle.std.proofs.Common.{◌≡◌, ℕ, ◌+◌, List, [], ◌∷◌, ◌++◌, length, reverse, refl, sym, ap, ap₂, ◌∙◌, subst, arith, All}
 use Rattle.std.specs.Prelude.{sum_by}
 use Rattle.std.proofs.lemmas.List.{reverse-append, reverse-reverse}
 use Rattle.std.proofs.lemmas.List.Elements.{All-nil, All-cons, All-head, All-tail}
@@ -19,7 +19,7 @@ use Rattle.box_workers.specs.declared.hand.Hand.{Hand}
 use Rattle.box_workers.specs.declared.member.Member.{Member}
 use Rattle.box_workers.specs.inner.Dealing.{EachDealt, Deals, AreSetUp}
 use Rattle.box_workers.specs.inner.Hands as hands
-use Rattle.box_workers.specs.inner.Members.{IsUnused, IsNew, IsReady, EachDone, arms_of, share_of}
+use Rattle.box_workers.specs.inner.Members.{IsUnused, IsNew, IsReady, EachDone, arms_of, numbers_of, share_of}
 use Rattle.box_workers.proofs.Lists.{sum_reverse}
 
 stays_push : (xs ys : List ArmState) (x y : ArmState) → EachStays xs ys → Stays x y → EachStays (xs ++ x ∷ []) (ys ++ y ∷ [])
@@ -69,6 +69,12 @@ dealt_share (m ∷ ms) [] d = absurd d
 dealt_share (m ∷ ms) (n ∷ ns) d =
     let i = dealt_share ms ns d.1 in let e = ap (λ (u : Seated). share u.view) d.0.seat in
     let a = sum_by-cons (λ (z : Member). share z.seat.view) m ms in let c = sum_by-cons (λ (z : Member). share z.seat.view) n ns in omega arith
+
+pub dealt_numbers : (ms ns : List Member) → EachDealt ms ns → numbers_of ns ≡ numbers_of ms
+dealt_numbers [] [] d = refl
+dealt_numbers [] (n ∷ ns) d = absurd d
+dealt_numbers (m ∷ ms) [] d = absurd d
+dealt_numbers (m ∷ ms) (n ∷ ns) d = ap₂ (λ (k : Hand) (later : List ℕ). k.worker ∷ later) d.0.hand (dealt_numbers ms ns d.1)
 
 dealt_new : (b : Problem) (ms ns : List Member) → EachDealt ms ns → All (IsNew b) ms → All (IsNew b) ns
 dealt_new b [] [] d a = a

@@ -30,14 +30,15 @@ stage_none b w starts boxes v k unused fresh left = record {
   weighs = λ weight. (let a = all_sum weight [] (left_boxes k.left.items) in let e = ap (λ (ls : List Left). sum_by weight (left_boxes ls)) left in let turned = sum_reverse weight boxes in omega arith);
 }
 
-pub begun_none : (b : Problem) (w : Words) (starts : ℕ) (boxes : List PlainBox) (workers : ℕ) (s : Seated) (k : Hand) → s.view ≡ newcomer w.first → IsFresh b k → k.left.items ≡ [] → w.budget ≤ 10000000 → HasBegun b w starts boxes workers s s k k (reverse boxes)
-begun_none b w starts boxes workers s k new fresh left budget = record {
+pub begun_none : (b : Problem) (w : Words) (starts : ℕ) (boxes : List PlainBox) (workers : ℕ) (s : Seated) (k : Hand) → s.view ≡ newcomer w.first → IsFresh b k → k.left.items ≡ [] → w.budget ≤ 10000000 → workers ≡ 1 → HasBegun b w starts boxes workers s s k k (reverse boxes)
+begun_none b w starts boxes workers s k new fresh left budget one = record {
   events = [];
   spent = [];
   stage = stage_none b w starts boxes s.view k (newcomer_unused s.view w.first new) fresh left;
   share_is = refl;
   allowance = (let a = ap (λ (u : View). u.allowance) new in omega arith);
   one = λ _. (refl, refl, refl, refl, refl);
+  team = λ many. absurd (let e = one in omega arith);
 }
 
 -- the tickets that a worker over a list of boxes drew in vain

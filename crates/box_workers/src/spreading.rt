@@ -1,6 +1,7 @@
 //! The work is spread over several workers.
 ghost use Rattle.std.specs.Prelude.{◌≡◌, ℕ, ◌+◌, ◌≤◌, [], All, List, length, reverse, sum_by, IfOk, OnOk};
 ghost use Rattle.glass_base.specs.Problem.{Problem};
+ghost use Rattle.std.specs.List.{range_with_len};
 ghost use Rattle.plan_box.specs.declared.frame.Frame.{Frame as PlainFrame};
 ghost use Rattle.plan_box.specs.Frames.{frame_of};
 ghost use Rattle.plan_box.specs.Ranges.{PlainBox};
@@ -11,7 +12,7 @@ ghost use Rattle.shared_best.specs.Words.{newcomer, share};
 ghost use Rattle.box_workers.specs.declared.member.Member.{Member as MemberOf};
 ghost use Rattle.box_workers.specs.inner.Dealing.{AreSetUp};
 ghost use Rattle.box_workers.specs.inner.Hands.{IsFresh};
-ghost use Rattle.box_workers.specs.inner.Members.{IsNew, IsUnused, EachDone, arms_of, share_of};
+ghost use Rattle.box_workers.specs.inner.Members.{IsNew, IsUnused, EachDone, arms_of, numbers_of, share_of};
 ghost use Rattle.box_workers.specs.inner.Teamwork.{IsTeamwork, Collects, HasBegun};
 
 use crate::collecting::collect;
@@ -51,6 +52,7 @@ fn set_up(
     ensures unused { OnOk result (IsUnused seat.new.view) }
     ensures allowance { OnOk result (10000001 ≤ seat.new.view.allowance) }
     ensures share { IfOk result (λ ms. share seat.new.view + share_of ms.items ≡ share seat.old.view) }
+    ensures numbers { IfOk result (λ ms. numbers_of ms.items ≡ reverse (range_with_len 0 workers)) }
     ensures set { IfOk result (λ ms. AreSetUp instance.now shared.now start.items ms.items) }
 {
     let arms = ring(alloc, workers, Frame::of(instance))?;

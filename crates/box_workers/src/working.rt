@@ -1,5 +1,5 @@
 //! The work of one worker beside others.
-ghost use Rattle.std.specs.Prelude.{◌≡◌, ℕ, ◌+◌, ◌-◌, ◌≤◌, ◌<◌, ◌++◌, ◌∷◌, [], All, length, IfOk, OnErr, OnOk, IfSome, MatchBool, MatchOption, option_to_list};
+ghost use Rattle.std.specs.Prelude.{◌≡◌, ℕ, ◌+◌, ◌-◌, ◌≤◌, ◌<◌, ◌++◌, ◌∷◌, [], All, drop, length, IfOk, OnErr, OnOk, IfSome, MatchBool, MatchOption, option_to_list};
 ghost use Rattle.std.specs.VecDeque.{deque_len, deque_capacity};
 ghost use Rattle.plan_box.specs.Frames.{frame_of};
 ghost use Rattle.plan_box.specs.Ranges.{PlainBox};
@@ -62,6 +62,7 @@ fn push_oldest(arm: &mut Arm, at_hand: &mut VecDeque<PlanBox>) -> Result<(), Mem
     ensures moves { OnOk result (Moves at_hand.old.items at_hand.new.items [] arm.old arm.new) }
     ensures frames { All (λ (x : PlainBox). x.frame ≡ frame arm.new) at_hand.new.items }
     ensures len { deque_len at_hand.new ≡ deque_len at_hand.old - 1 }
+    ensures oldest { at_hand.new.items ≡ drop 1 at_hand.old.items }
     ensures misses { arm.new.misses ≡ arm.old.misses }
 {
     let Some(bx) = at_hand.pop_front() else {

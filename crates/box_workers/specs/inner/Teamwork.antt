@@ -1,5 +1,6 @@
 -- What several workers did, put together into one seat and one hand.
 use Rattle.std.specs.Prelude.{◌≡◌, ℕ, ◌+◌, ◌<◌, ◌≤◌, ◌⊎◌, List, [], ◌++◌, map, min, reverse, sum_by, All, Contains}
+use Rattle.std.specs.List.{range_with_len}
 use Rattle.glass_base.specs.Problem.{Problem}
 use Rattle.plan_box.specs.Bounds.{bound}
 use Rattle.plan_box.specs.Ranges.{PlainBox}
@@ -14,7 +15,7 @@ use Rattle.box_workers.specs.declared.hand.Hand.{Hand}
 use Rattle.box_workers.specs.declared.member.Member.{Member}
 use Rattle.box_workers.specs.Histories.{left_boxes}
 use Rattle.box_workers.specs.Runs.{least_loss, IsHandled}
-use Rattle.box_workers.specs.inner.Members.{arms_of, share_of}
+use Rattle.box_workers.specs.inner.Members.{EachDone, IsNew, arms_of, numbers_of, share_of}
 
 -- a box was handled rightly: what was seen with it is at least `lowest`, and the loss that its worker had then is at least `best`
 pub record Stands (b : Problem) (w : Words) (lowest best : ℕ) (e : Event) : Type 0 where
@@ -69,6 +70,16 @@ pub record IsStage (b : Problem) (w : Words) (starts : ℕ) (boxes : List PlainB
   pub teamwork : IsTeamwork b w v k es spent
   pub weighs : (weight : PlainBox → ℕ) → sum_by weight boxes + sum_by (λ (e : Event). sum_by weight (made_by starts e)) es ≡ sum_by weight (all_boxes es (left_boxes k.left.items)) + sum_by weight waiting
 
+-- so many workers, numbered from 0 on, have worked, each with a seat and a hand of its own; all that they did is put together into this seat and this hand
+pub record IsTeam (b : Problem) (w : Words) (starts workers : ℕ) (s : Seated) (k : Hand) : Type 0 where
+  pub olds : List Member
+  pub news : List Member
+  pub numbers : numbers_of olds ≡ reverse (range_with_len 0 workers)
+  pub new : All (IsNew b) olds
+  pub done : EachDone b w starts olds news
+  pub first : Seated
+  pub collected : Collects b w starts olds news first s k
+
 -- several workers have worked, and the caller's turn is next; or it is to be the only one, and nothing was done
 pub record HasBegun (b : Problem) (w : Words) (starts : ℕ) (boxes : List PlainBox) (workers : ℕ) (s t : Seated) (old new : Hand) (waiting : List PlainBox) : Type 0 where
   pub events : List Event
@@ -77,3 +88,4 @@ pub record HasBegun (b : Problem) (w : Words) (starts : ℕ) (boxes : List Plain
   pub share_is : share t.view ≡ share s.view
   pub allowance : w.budget < t.view.allowance
   pub one : workers ≡ 1 → (events ≡ []) × (spent ≡ []) × (t ≡ s) × (new ≡ old) × (waiting ≡ reverse boxes)
+  pub team : 2 ≤ workers → IsTeam b w starts workers t new

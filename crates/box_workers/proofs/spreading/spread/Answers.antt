@@ -1,4 +1,4 @@
-use Rattle.std.proofs.Common.{◌≡◌, All, subst, sym}
+use Rattle.std.proofs.Common.{◌≡◌, All, rules, subst, sym}
 use Rattle.plan_box.specs.Frames.{frame_of}
 use Rattle.plan_box.specs.Ranges.{PlainBox}
 use Rattle.box_workers.specs.inner.Teamwork.{HasBegun}
@@ -13,5 +13,5 @@ returns-then-workers-eq1-clause-frames g c =
 
 pub returns-then-workers-eq1-clause-begun : goal.returns-then-workers-eq1-clause-begun
 returns-then-workers-eq1-clause-begun g c =
-    let begun = begun_none c.args.instance.now c.args.shared.now _ c.args.start.items c.args.workers c.args.seat.now c.args.hand.now c.requires.newcomer c.requires.hand.0 c.requires.hand.1 c.requires.budget in
+    let begun = begun_none c.args.instance.now c.args.shared.now _ c.args.start.items c.args.workers c.args.seat.now c.args.hand.now c.requires.newcomer c.requires.hand.0 c.requires.hand.1 c.requires.budget (search rules) in
     subst (HasBegun c.args.instance.now c.args.shared.now _ c.args.start.items c.args.workers c.args.seat.now c.args.seat.now c.args.hand.now c.args.hand.now) (sym c.reverse.ensures.items) begun
