@@ -1,4 +1,4 @@
-//! Laws: one certificate has one spelling; a right one splits at steps of its box, bounds each plan and has few nodes. The functions do nothing: their contracts are the laws.
+//! Laws: one certificate has one spelling; a right one splits at steps of its box, bounds each plan, has few nodes and a short text. The functions do nothing: their contracts are the laws.
 
 ghost use Rattle.cert_log.specs.Good.{GoodSteps};
 ghost use Rattle.cert_log.specs.ReadAgain.{OneCertificate, OneReading, OneRefusal, ReadIsText, RoundTrip, WrittenIsRead};

@@ -1,19 +1,30 @@
 use Rattle.std.proofs.Common.{◌≤◌, ℕ, List, subst}
+use Rattle.std.specs.Prelude.{Option, Some, None, IfSome, Result, Ok, Err, MatchResult}
+use Rattle.std.specs.Result.{result_ok}
 use Rattle.glass_base.specs.Problem.{Problem}
 use Rattle.cut_model.specs.declared.steps.Step.{Step}
+use Rattle.cut_model.specs.declared.steps.Trace.{Trace}
 use Rattle.cut_model.specs.Steps.{length_of}
 use Rattle.first_plan.specs.FirstPlans.{IsFirstPlan}
+use Rattle.first_plan.specs.inner.Betters.{IsBetterOf}
 use Rattle.plan_draft.specs.Drafts.{HasNoDraft, IsDraft}
 use Rattle.plan_draft.proofs.Ones.{draft_or_none, drafts_one}
 use Rattle.plan_trace.specs.Claims.{IsComplete}
 
 -- what is no longer than one draft is no longer than any, since there is one at the most
-pub is_first : (b : Problem) (steps drafted : List Step) → IsComplete b steps → IsDraft b drafted → length_of b steps ≤ length_of b drafted → IsFirstPlan b steps
+is_first : (b : Problem) (steps drafted : List Step) → IsComplete b steps → IsDraft b drafted → length_of b steps ≤ length_of b drafted → IsFirstPlan b steps
 is_first b steps drafted complete is_draft no_longer = record {
   complete = complete;
   no_longer = λ other other_is. subst (λ d. length_of b steps ≤ length_of b d) (drafts_one b drafted other is_draft other_is) no_longer;
 }
 
 -- where there is no draft, any complete trace will do
-pub is_first_without : (b : Problem) (number : ℕ) (steps : List Step) → HasNoDraft b number → IsComplete b steps → IsFirstPlan b steps
+is_first_without : (b : Problem) (number : ℕ) (steps : List Step) → HasNoDraft b number → IsComplete b steps → IsFirstPlan b steps
 is_first_without b number steps none complete = record { complete = complete; no_longer = λ other other_is. absurd (draft_or_none b other number other_is none) }
+
+-- the better of a draft and a complete trace is a first plan
+pub shorter_is_first : (b : Problem) (drafted : Result Trace ℕ) (found better : Option Trace) → MatchResult drafted (λ trace. IsDraft b trace.steps.items) (HasNoDraft b)
+    → IfSome better (λ trace. IsComplete b trace.steps.items) → IsBetterOf b (result_ok drafted) found better → IfSome better (λ trace. IsFirstPlan b trace.steps.items)
+shorter_is_first b drafted found None is complete best = tt
+shorter_is_first b (Ok trace) found (Some better) is complete best = is_first b better.steps.items trace.steps.items complete is best.as_short_as_first
+shorter_is_first b (Err number) found (Some better) is complete best = is_first_without b number better.steps.items is complete

@@ -1,1 +1,2 @@
 pub mod FirstPlans
+pub mod inner

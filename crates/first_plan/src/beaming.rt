@@ -1,8 +1,11 @@
 //! The better plan of two beams.
 
+ghost use Rattle.std.specs.Option.{option_map};
 ghost use Rattle.std.specs.Prelude.{◌≡◌, IfOk, IfSome};
+ghost use Rattle.glass_base.specs.Problem.{IsProblem};
 ghost use Rattle.plan_trace.specs.Claims.{IsComplete};
 
+use crate::comparing::better_of;
 use cut_model::Trace;
 use defect_map::DefectMap;
 use glass_base::{Instance, Memory};
@@ -25,6 +28,13 @@ fn checked(instance: &Instance, map: &DefectMap, found: Option<Found>) -> Option
     }
 }
 
+/// The trace that was found, if one was.
+fn trace_in(found: Option<Found>) -> Option<Trace>
+    ensures { result ≡ option_map (λ found. found.trace) found }
+{
+    Some(found?.trace)
+}
+
 /// The better trace of two beams that has a step for each item and meets the rules, if they find one: of a narrow beam, which takes a
 /// sixteenth of the ticks, and of a wide one.
 pub(crate) fn beam_plan(
@@ -33,6 +43,7 @@ pub(crate) fn beam_plan(
     map: &DefectMap,
     ticks: u64,
 ) -> Result<Option<Trace>, Memory>
+    requires problem { IsProblem instance.now }
     requires map { map.now ≡ instance.now.defects }
     ensures { IfOk result (λ found. IfSome found (λ trace. IsComplete instance.now trace.steps.items)) }
 {
@@ -45,8 +56,6 @@ pub(crate) fn beam_plan(
         None => None,
     };
     let second = beams.second(alloc, instance, lost, ticks.saturating_sub(narrow))?;
-    match checked(instance, map, second).or(first) {
-        Some(found) => Ok(Some(found.trace)),
-        None => Ok(None),
-    }
+    let second = checked(instance, map, second);
+    Ok(better_of(instance, trace_in(first), trace_in(second)))
 }

@@ -1,19 +1,19 @@
 //! The choice between the plan of the beams and the draft.
 
-ghost use Rattle.std.specs.Prelude.{◌≡◌, ℕ, IfNone, IfOk, IfSome};
+ghost use Rattle.std.specs.Prelude.{◌≡◌, ℕ, IfNone, IfOk, IfSome, MatchResult};
+ghost use Rattle.std.specs.Result.{result_ok};
 ghost use Rattle.glass_base.specs.Problem.{IsProblem};
-ghost use Rattle.cut_model.specs.Steps.{length_of};
 ghost use Rattle.first_plan.specs.FirstPlans.{IsFirstPlan};
+ghost use Rattle.first_plan.specs.inner.Betters.{IsBetterOf};
 ghost use Rattle.plan_draft.specs.Drafts.{HasNoDraft, IsDraft};
 ghost use Rattle.plan_trace.specs.Claims.{IsComplete};
 
 use crate::beaming::beam_plan;
+use crate::comparing::better_of;
 use cut_model::Trace;
 use defect_map::DefectMap;
 use glass_base::{Instance, Memory};
-use loss_area::length;
 use plan_draft::draft;
-use plan_trace::laws::traces_keep_their_kinds;
 use std::alloc::Global;
 
 /// The effort of the beams for so many items, in ticks of about 30 ns: one second up to 100 items, eight for 800.
@@ -30,33 +30,17 @@ fn effort(items: usize) -> u64 {
     }
 }
 
-/// How much glass a trace takes that has a step for each item and meets the rules, in mm.
-fn length_of_plan(instance: &Instance, trace: &Trace) -> u64
-    requires problem { IsProblem instance.now }
-    requires complete { IsComplete instance.now trace.now.steps.items }
-    ensures { result ≡ length_of instance.now trace.now.steps.items }
-{
-    traces_keep_their_kinds();
-    length(instance, trace)
-}
-
-/// The plan of the beams, if they found one, or the draft where that is shorter.
-fn shorter(instance: &Instance, found: Option<Trace>, drafted: Trace) -> Trace
+/// The plan of the beams or the draft: the one that takes less glass, or the only one.
+fn shorter(instance: &Instance, found: Option<Trace>, drafted: Result<Trace, u32>) -> Option<Trace>
     requires problem { IsProblem instance.now }
     requires found { IfSome found (λ trace. IsComplete instance.now trace.steps.items) }
-    requires complete { IsComplete instance.now drafted.steps.items }
-    requires drafted { IsDraft instance.now drafted.steps.items }
-    ensures { IsFirstPlan instance.now result.steps.items }
+    requires drafted { IfOk drafted (λ trace. IsComplete instance.now trace.steps.items) }
+    ensures complete { IfSome result (λ trace. IsComplete instance.now trace.steps.items) }
+    ensures better { IsBetterOf instance.now (result_ok drafted) found result }
 {
-    match found {
-        Some(trace) => {
-            if length_of_plan(instance, &trace) <= length_of_plan(instance, &drafted) {
-                trace
-            } else {
-                drafted
-            }
-        }
-        None => drafted,
+    match drafted {
+        Ok(drafted) => better_of(instance, Some(drafted), found),
+        Err(_) => found,
     }
 }
 
@@ -76,8 +60,6 @@ pub fn first_plan(
 {
     let ticks = effort(instance.items().len());
     let found = beam_plan(alloc, instance, map, ticks)?;
-    match draft(alloc, instance, map)? {
-        Ok(drafted) => Ok(Some(shorter(instance, found, drafted))),
-        Err(_) => Ok(found),
-    }
+    let drafted = draft(alloc, instance, map)?;
+    Ok(shorter(instance, found, drafted))
 }

@@ -3,5 +3,6 @@
 
 mod beaming;
 mod choosing;
+mod comparing;
 
 pub use choosing::first_plan;

@@ -1,8 +1,6 @@
-use Rattle.std.proofs.lemmas.Option.{IfSome_then}
-use Rattle.first_plan.proofs.Choices.{is_first_without}
+use Rattle.first_plan.proofs.Choices.{shorter_is_first}
 use Rattle.first_plan.proofs.choosing.first_plan.Goals as goal
 
-pub returns-in-Err-clause-plan : goal.returns-in-Err-clause-plan
-returns-in-Err-clause-plan c =
-    let none = rw c.in-Err.is at c.in_ok-drafted.ensures.drafted in
-    IfSome_then c.in_ok-found.found c.in_ok-found.ensures (λ trace. is_first_without c.args.instance.now c.in-Err.field-0 trace.steps.items none)
+pub returns-clause-plan : goal.returns-clause-plan
+returns-clause-plan c =
+    shorter_is_first c.args.instance.now c.in_ok-drafted.drafted c.in_ok-found.found c.shorter.result c.in_ok-drafted.ensures.drafted c.shorter.ensures.complete c.shorter.ensures.better

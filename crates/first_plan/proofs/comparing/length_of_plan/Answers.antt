@@ -1,5 +1,5 @@
 use Rattle.std.proofs.Common.{arith}
-use Rattle.first_plan.proofs.choosing.length_of_plan.Goals as goal
+use Rattle.first_plan.proofs.comparing.length_of_plan.Goals as goal
 
 pub length-requires-clause-some : goal.length-requires-clause-some
 length-requires-clause-some c = omega (arith, c.requires.problem.some, c.requires.complete.each_item)

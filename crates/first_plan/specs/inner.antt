@@ -1,0 +1,2 @@
+-- Definitions that only this crate's own functions speak of.
+pub mod Betters
