@@ -8,7 +8,7 @@ mod AcceptedRows
 mod OwnRows
 mod GrownTree
 mod RowsInRange
-mod ShortTexts
+pub mod ShortTexts
 pub mod AddedUp
 pub mod ReadAgain
 mod FieldsInRange
