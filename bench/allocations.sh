@@ -1,21 +1,94 @@
 #!/usr/bin/env bash
-# Refuses each allocation of a draft in turn, and prints how the runs end: with status 8 and OUT absent or whole, or done.
-# It builds the program anew for each, which takes some 20 s; the number of allocations to try may be given.
+# Refuses each allocation of `plan`, `verify`, `resume`, `freeze` and `sheet` on an instance of one item in turn, and tells of each command
+# how many were refused and how the runs ended: with status 8, each file that is stored being absent, as before or whole; or as ever, where
+# the program does without that memory. Anything else is printed and ends the script with 1. The program is built once, as `glass` builds it;
+# a library that is loaded before the system's counts the allocations.
 set -eu
 top=$(cd "$(dirname "$(readlink -f "$0")")/.." && pwd)
-most=${1:-60}
 work=$(mktemp -d)
 trap 'rm -rf "$work"' EXIT
-batch=$top/examples/tiny/batch.csv
-"$top/glass" draft "$batch" "$work/whole.csv" > "$work/printed"
-cd "$top/crates/glass_program"
-for ((n = 1; n <= most; n++)); do
-  rm -f "$work/out.csv"
-  status=$(rt try --fail-alloc "$n" -- draft "$batch" "$work/out.csv" 2>&1 | sed -n 's/.*run=ended status=\([0-9]*\).*/\1/p')
-  stored=absent
-  if [ -f "$work/out.csv" ]; then
-    stored=part
-    if cmp -s "$work/out.csv" "$work/whole.csv"; then stored=whole; fi
-  fi
-  echo "allocation $n refused: status $status, OUT $stored"
-done
+cat > "$work/refuse.c" <<'C'
+#define _GNU_SOURCE
+#include <errno.h>
+#include <stdatomic.h>
+#include <stddef.h>
+#include <stdio.h>
+#include <stdlib.h>
+extern void *__libc_malloc(size_t);
+extern void *__libc_calloc(size_t, size_t);
+extern void *__libc_realloc(void *, size_t);
+extern void *__libc_memalign(size_t, size_t);
+static atomic_long asked;
+static long refused;
+static int begun;
+__attribute__((constructor)) static void begin(void) {
+  const char *at = getenv("REFUSED");
+  refused = at ? atol(at) : 0;
+  begun = 1;
+}
+__attribute__((destructor)) static void end(void) {
+  const char *name = getenv("ASKED");
+  begun = 0;
+  if (name) {
+    FILE *f = fopen(name, "w");
+    if (f) { fprintf(f, "%ld\n", atomic_load(&asked)); fclose(f); }
+  }
+}
+static int refuses(void) { return begun && atomic_fetch_add(&asked, 1) + 1 == refused; }
+void *malloc(size_t n) { if (refuses()) { errno = ENOMEM; return NULL; } return __libc_malloc(n); }
+void *calloc(size_t n, size_t m) { if (refuses()) { errno = ENOMEM; return NULL; } return __libc_calloc(n, m); }
+void *realloc(void *p, size_t n) { if (refuses()) { errno = ENOMEM; return NULL; } return __libc_realloc(p, n); }
+void *aligned_alloc(size_t a, size_t n) { if (refuses()) { errno = ENOMEM; return NULL; } return __libc_memalign(a, n); }
+void *memalign(size_t a, size_t n) { if (refuses()) { errno = ENOMEM; return NULL; } return __libc_memalign(a, n); }
+int posix_memalign(void **p, size_t a, size_t n) { if (refuses()) return ENOMEM; *p = __libc_memalign(a, n); return *p ? 0 : ENOMEM; }
+C
+gcc -O2 -shared -fPIC -o "$work/refuse.so" "$work/refuse.c"
+cd "$work"
+printf 'ITEM_ID;LENGTH_ITEM;WIDTH_ITEM;STACK;SEQUENCE\n0;500;300;0;1\n' > one.csv
+printf 'ITEM_ID;LENGTH_ITEM;WIDTH_ITEM;STACK;SEQUENCE\n0;500;300;0;1\n1;3000;3210;1;1\n2;3000;3210;2;1\n' > three.csv
+printf 'DEFECT_ID;PLATE_ID;X;Y;WIDTH;HEIGHT\n' > none.csv
+"$top/glass" plan one.csv none.csv plan.csv cert.txt --workers=1 > printed || [ $? -eq 0 ]
+"$top/glass" plan one.csv none.csv part.csv part.txt --workers=1 --budget=3 > printed || [ $? -eq 1 ]
+"$top/glass" plan three.csv none.csv two.csv two.txt --workers=1 --budget=1 > printed || [ $? -le 1 ]
+failed=0
+
+# try_all NAME "the files that it stores" WORDS..
+try_all() {
+  local name=$1 outs=$2
+  shift 2
+  local f status usual ended asked n eights=0 same=0
+  for f in $outs; do printf 'old\n' > "$f"; done
+  usual=0
+  ASKED=$work/asked LD_PRELOAD=$work/refuse.so "$top/glass" "$@" > usual || usual=$?
+  for f in $outs; do cp "$f" "$f.whole"; done
+  asked=$(cat asked)
+  for ((n = 1; n <= asked; n++)); do
+    for f in $outs; do printf 'old\n' > "$f"; done
+    status=0
+    REFUSED=$n LD_PRELOAD=$work/refuse.so "$top/glass" "$@" > printed || status=$?
+    ended=wrong
+    if [ "$status" -eq 8 ]; then
+      ended=eight
+      for f in $outs; do
+        if [ -e "$f" ] && ! cmp -s "$f" "$f.whole" && [ "$(cat "$f")" != old ]; then ended=wrong; fi
+      done
+      if [ -s printed ]; then ended=wrong; fi
+    elif [ "$status" -eq "$usual" ] && cmp -s printed usual; then
+      ended=same
+      for f in $outs; do cmp -s "$f" "$f.whole" || ended=wrong; done
+    fi
+    case $ended in
+      eight) eights=$((eights + 1)) ;;
+      same) same=$((same + 1)) ;;
+      wrong) failed=1; echo "$name: allocation $n refused: status $status, $(head -n 1 printed)" ;;
+    esac
+  done
+  echo "$name: $asked allocations refused in turn: $eights times status 8, $same times the usual outcome"
+}
+
+try_all plan "out.csv out.txt" plan one.csv none.csv out.csv out.txt --workers=1
+try_all verify "" verify one.csv none.csv plan.csv cert.txt
+try_all resume "out.csv out.txt" resume one.csv none.csv part.csv part.txt out.csv out.txt --workers=1
+try_all freeze "out.csv out.txt" freeze 1 three.csv none.csv two.csv out.csv out.txt --workers=1 --budget=5
+try_all sheet "out.sheet" sheet one.csv none.csv plan.csv out.sheet
+exit $failed

@@ -282,7 +282,7 @@ fn end_of<R: Threads + Wait + Sync>(
     let words = case.words.as_slice();
     let status = match case.program {
         Program::Glass => glass(rt, alloc, words, &mut files, &mut sink, &OpenGate),
-        Program::Picture => glass_picture(rt, alloc, words, &mut files, &mut sink),
+        Program::Picture => glass_picture(alloc, words, &mut files, &mut sink),
     };
     Ok(End {
         status,

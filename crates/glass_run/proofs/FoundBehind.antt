@@ -43,7 +43,7 @@ use Rattle.plan_csv.proofs.ReadAgain.{read_again}
 use Rattle.cut_model.specs.declared.broken.Broken.{Broken}
 use Rattle.glass_run.specs.inner.Searches.{Certifies, IsFoundBehind, IsHistoryFrom}
 use Rattle.glass_run.proofs.Searched.{known}
-use Rattle.glass_run.proofs.StoredTexts.{both_said, is_text}
+use Rattle.glass_run.proofs.StoredTexts.{both_said, cert_short, is_text}
 
 -- its best loss is known
 best_known : (b : Problem) (plan : Forest) (budget : ℕ) (h : History) → IsHistoryFrom b plan budget h → loss_of h.best ≡ Some h.best
@@ -51,21 +51,24 @@ best_known b plan budget h is = known h.best (omega (arith, is.lawful.best_first
 
 -- what the search found
 pub found_from : (b : Problem) (plan : Forest) (budget : ℕ) (h : History) (c : Certificate) (best : Forest) → IsProblem b → (is : IsHistoryFrom b plan budget h) →
-    Certifies b budget is.to_beat (loss_of h.best) c → HasLoss b (loss_of h.best) (Some best) → IsFoundFrom b plan budget c best
-found_from b plan budget h c best problem is certifies has =
+    Certifies b budget is.to_beat h c → IsHead (head_of c) → budget ≤ 10000000 → HasLoss b (loss_of h.best) (Some best) → IsFoundFrom b plan budget c best
+found_from b plan budget h c best problem is certifies head most has =
     let known_best = best_known b plan budget h is in
     let of : IsLawfulPlan b best × (plan_loss b best ≡ h.best) = subst (λ (o : Option ℕ). HasLoss b o (Some best)) known_best has in
     let loss = certifies.good.loss_is in
+    let good = subst (λ (o : Option ℕ). IsGood b (root_ranges b) o c) (sym loss) certifies.good in
     record {
-      good = subst (λ (o : Option ℕ). IsGood b (root_ranges b) o c) (sym loss) certifies.good;
+      good = good;
       version = certifies.version;
       lawful = of.0;
       loss_is = loss ∙ known_best ∙ ap Some (sym of.1);
+      readable = cert_short b c budget problem good certifies.version head certifies.in_budget most;
       bounds = bounds_each_plan b 0 (loss_of h.best) c problem certifies.good;
       in_budget = certifies.in_budget;
       spent = certifies.spent;
       to_beat = is.to_beat;
       searched = certifies.searched;
+      of_search = record { history = h; lawful = is.lawful; handled_is = certifies.handled_is; left_is = certifies.left_is; loss_is = loss };
       no_greater = is.no_greater;
       no_worse = omega (arith, of.1, is.lawful.best_first, is.no_greater);
     }

@@ -25,4 +25,5 @@ mod SheetHeadline
 mod Sheeted
 mod CheckRefusals
 mod Drawn
+mod Exited
 mod PictureHeadline

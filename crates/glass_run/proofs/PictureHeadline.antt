@@ -1,6 +1,6 @@
 -- What a user may conclude from how a run of the program that draws ended.
 use Rattle.std.proofs.Common.{◌≡◌, ℕ, List, Bool, true, false, sym, subst, if◌then◌else◌, refl, Option, Some, None}
-use Rattle.std.specs.Prelude.{Ok, Err, Result}
+use Rattle.std.specs.Prelude.{Ok, Err, IfSome, Result, option_map}
 use Rattle.glass_base.specs.Problem.{Problem}
 use Rattle.glass_base.specs.declared.role.Role.TheVariants as role
 use Rattle.glass_io.specs.Told.{Contents}
@@ -10,6 +10,8 @@ use Rattle.plan_csv.specs.declared.bad_plan.BadPlan.{BadPlan}
 use Rattle.glass_run.specs.Answers.{Answer}
 use Rattle.glass_run.specs.Commands.{AnswersInstance, out_of}
 use Rattle.command_line.specs.Grammar.{Line, is_line, line_with, picture_line_of}
+use Rattle.command_line.specs.Lines.{line_in}
+use Rattle.command_line.specs.declared.line.CommandLine.{CommandLine}
 use Rattle.glass_run.specs.PictureHeadlines.{PictureEnded, StoresPicture}
 use Rattle.glass_run.specs.Pictures.{Draws, DrawsSaid, DrawsText}
 use Rattle.glass_run.specs.Runs.{Completes, Prints, RunsTo, Stands, World}
@@ -27,6 +29,10 @@ same_verb made line false e = cc e
 -- a line of the program that draws is one of the command that draws
 draws_line : (words : List (List ℕ)) (line : Line) → picture_line_of words ≡ Some line → line.verb ≡ verb.Picture
 draws_line words line e = same_verb (line_with verb.Picture words) line (is_line (line_with verb.Picture words)) e
+
+pub draws_named : (words : List (List ℕ)) (named : Option CommandLine) → option_map line_in named ≡ picture_line_of words → IfSome named (λ line. (line_in line).verb ≡ verb.Picture)
+draws_named words None e = tt
+draws_named words (Some line) e = draws_line words (line_in line) (sym e)
 
 -- an answer that refuses nothing is one to the plan that was said
 said_drawn : (b : Problem) (name : List ℕ) (said : Result Forest BadPlan) (answer : Answer) → ¬ Refuses answer → DrawsSaid b name said answer → (plan : Forest) × (said ≡ Ok plan) × Draws b name plan answer

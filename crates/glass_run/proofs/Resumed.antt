@@ -28,9 +28,9 @@ use Rattle.cert_resume.specs.Joins.{AreRightParts, IsAtMost, IsJoined, KeepsRigh
 use Rattle.cert_resume.specs.OpenBoxes.{left_boxes_of, open_boxes}
 use Rattle.cert_resume.proofs.Numbered.{as_many, bound_for_each, by_ranges}
 use Rattle.glass_run.specs.Checks.{IsConverted, loss_in}
-use Rattle.glass_run.specs.Plans.{HasLoss, handled, root_ranges}
+use Rattle.glass_run.specs.Plans.{HasLoss, course_from, handled, root_ranges}
 use Rattle.glass_run.specs.Resumptions.{IsResumed}
-use Rattle.glass_run.specs.inner.Searches.{IsSaidByItsText, course_from}
+use Rattle.glass_run.specs.inner.Searches.{IsSaidByItsText}
 use Rattle.glass_run.proofs.Searched.{known}
 use Rattle.glass_run.proofs.StoredTexts.{both_said, is_text_of}
 
@@ -164,6 +164,10 @@ module _ (b : Problem) (budget to_beat : ℕ) (plan : Option Forest) (c named : 
         to_beat = to_beat;
         searched = s.searched;
         no_greater = at_most;
+        history = h;
+        lawful = s.lawful;
+        handled_is = all_handled;
+        left_is = omega (arith, s.joined.left_is, s.left);
         in_budget = omega (arith, all_handled, s.lawful.in_budget);
         spent = λ some. all_handled ∙ ap (λ (n : ℕ). handled c + n) (s.lawful.spent (left_some h.left.items (omega (arith, some, s.joined.left_is, s.left))));
       }

@@ -163,9 +163,11 @@ stores_search line held old new answer result search searches of end is s stored
             good = found.good;
             accepted = accepts_good s.b (root_ranges s.b) c.loss c found.good;
             verified = verified s.b p.1.plan c (can_be_read s.b budget c p.1.plan (rules_of line.verb line s.texts s.b s.reads.instance_is) p.0 found);
+            readable = found.readable;
             plan_is = found.plan_is;
             to_beat = found.to_beat;
             searched = found.searched;
+            of_search = found.of_search;
             no_greater = found.no_greater;
             bounds = found.bounds;
             ends = ended;

@@ -33,9 +33,9 @@ use Rattle.cert_log.specs.Texts.{head_of}
 use Rattle.cert_log.proofs.Covers.{bounds_each_plan}
 use Rattle.cert_log.proofs.GoodNodes.{good_counts}
 use Rattle.box_workers.specs.Runs.{first_loss}
-use Rattle.glass_run.specs.Plans.{AreTold, HasLoss, handled, most_work, root_ranges}
-use Rattle.glass_run.specs.inner.Searches.{AreWatched, Certifies, IsHistory, IsNoGreater, IsSaidByItsText, IsToldFound, IsWatchedHistory, course}
-use Rattle.glass_run.proofs.StoredTexts.{both_said, is_text}
+use Rattle.glass_run.specs.Plans.{AreTold, HasLoss, course, handled, root_ranges}
+use Rattle.glass_run.specs.inner.Searches.{AreWatched, Certifies, IsHistory, IsNoGreater, IsSaidByItsText, IsShortToo, IsToldFound, IsWatchedHistory}
+use Rattle.glass_run.proofs.StoredTexts.{both_said, cert_short, is_text}
 
 -- a number that is a loss
 pub known : (n : ℕ) → n < no_loss → loss_of n ≡ Some n
@@ -96,12 +96,14 @@ taken c d (x ∷ y ∷ rest) e = cc e
 -- the certificate of a lawful history, where it is the only one
 certified_one : (b : Problem) (budget to_beat : ℕ) (h : History) (c : Certificate) → IsLawful b (course b to_beat budget) h
     → IsGood b (root_ranges b) (loss_of h.best) c → IsSearched b to_beat (root_ranges b) c → IsVersion 2 c
-    → length c.nodes.items ≡ length h.log.items + length h.left.items → c.left ≡ length h.left.items → Certifies b budget to_beat (loss_of h.best) c
+    → length c.nodes.items ≡ length h.log.items + length h.left.items → c.left ≡ length h.left.items → Certifies b budget to_beat h c
 certified_one b budget to_beat h c lawful good searched version nodes left =
     let counts = good_counts b (root_ranges b) (loss_of h.best) c good in
     let logged : handled c ≡ length h.log.items = omega (arith, counts, nodes, left) in
     record {
       good = good;
+      handled_is = logged;
+      left_is = left;
       version = version;
       in_budget = omega (arith, logged, lawful.in_budget);
       spent = λ some. logged ∙ lawful.spent (left_some (h.left.items) (omega (arith, some, left)));
@@ -116,18 +118,18 @@ certified_one b budget to_beat h c lawful good searched version nodes left =
 pub certified : (b : Problem) (budget to_beat : ℕ) (h : History) (d : Certificate) (cs rest : List Certificate) → IsLawful b (course b to_beat budget) h
     → AreGood b (loss_of h.best) (course b to_beat budget).boxes cs → AreSearched b to_beat (course b to_beat budget).boxes cs
     → sum_by (λ (x : Certificate). length x.nodes.items) cs ≡ length h.log.items + length h.left.items → sum_by (λ (x : Certificate). x.left) cs ≡ length h.left.items
-    → All (IsVersion 2) cs → cs ≡ rest ++ d ∷ [] → Certifies b budget to_beat (loss_of h.best) d
+    → All (IsVersion 2) cs → cs ≡ rest ++ d ∷ [] → Certifies b budget to_beat h d
 certified b budget to_beat h d [] rest lawful good searched nodes left version from = absurd good
 certified b budget to_beat h d (c ∷ x ∷ cs) rest lawful good searched nodes left version from = absurd good.1
 certified b budget to_beat h d (c ∷ []) rest lawful good searched nodes left version from =
-    subst (Certifies b budget to_beat (loss_of h.best)) (sym (taken c d rest (sym from)))
+    subst (Certifies b budget to_beat h) (sym (taken c d rest (sym from)))
     (certified_one b budget to_beat h c lawful good.0 searched.0 (All-head (IsVersion 2) c [] version) (omega (arith, nodes)) (omega (arith, left)))
 
 -- what the search found, and its improvements
-pub found : (b : Problem) (budget : ℕ) (watch : Bool) (h : History) (c : Certificate) (plan : Option Forest) (told : Option (List ℕ)) → IsProblem b → budget ≤ most_work → (is : IsHistory b budget h)
-    → Certifies b budget is.to_beat (loss_of h.best) c → HasLoss b (loss_of h.best) plan → IsSaidByItsText b plan → IsHead (head_of c) → AreTold b is.to_beat c.loss watch told
+pub found : (b : Problem) (budget : ℕ) (watch : Bool) (h : History) (c : Certificate) (plan : Option Forest) (told : Option (List ℕ)) → IsProblem b → budget ≤ 10000000 → (is : IsHistory b budget h)
+    → Certifies b budget is.to_beat h c → HasLoss b (loss_of h.best) plan → IsSaidByItsText b plan → IsShortToo b plan → IsHead (head_of c) → AreTold b is.to_beat c.loss watch told
     → IsToldFound b budget watch c plan told
-found b budget watch h c plan told problem most is certifies has said head improvements =
+found b budget watch h c plan told problem most is certifies has said short head improvements =
     let loss = certifies.good.loss_is in
     let good = subst (λ (o : Option ℕ). IsGood b (root_ranges b) o c) (sym loss) certifies.good in
     record {
@@ -136,11 +138,13 @@ found b budget watch h c plan told problem most is certifies has said head impro
         version = certifies.version;
         plan_is = subst (λ (o : Option ℕ). HasLoss b o plan) (sym loss) has;
         said = both_said b plan c said (is_text b c problem good certifies.version (omega (arith, certifies.in_budget, most)) head);
+        readable = record { plan_short = short; cert_short = cert_short b c budget problem good certifies.version head certifies.in_budget most };
         bounds = bounds_each_plan b 0 (loss_of h.best) c problem certifies.good;
         in_budget = certifies.in_budget;
         spent = certifies.spent;
         to_beat = is.to_beat;
         searched = certifies.searched;
+        of_search = record { history = h; lawful = is.lawful; handled_is = certifies.handled_is; left_is = certifies.left_is; loss_is = loss };
         no_greater = λ draft drafted. (at_most draft drafted, (is.no_greater drafted.0 drafted.1).1);
         no_worse = λ draft drafted. subst (λ (o : Option ℕ). Reaches o (plan_loss b draft)) (sym loss) (reaches draft drafted);
       };

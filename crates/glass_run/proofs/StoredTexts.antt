@@ -3,6 +3,7 @@ use Rattle.std.proofs.Common.{◌≡◌, ℕ, ◌≤◌, List, length, inl, inr,
 use Rattle.std.specs.Prelude.{option_map}
 use Rattle.std.proofs.lemmas.List.Elements.{All-weaker}
 use Rattle.glass_base.specs.Problem.{Problem, IsProblem}
+use Rattle.glass_base.specs.declared.role.Role.TheVariants as role
 use Rattle.cut_model.specs.declared.plan.Plan.{Plan}
 use Rattle.cut_model.specs.Families.{families_of}
 use Rattle.cut_model.specs.Lawful.{IsLawful}
@@ -11,11 +12,12 @@ use Rattle.cut_model.specs.Tree.{Forest, tree}
 use Rattle.plan_trace.specs.Claims.{IsGoodPlan}
 use Rattle.plan_box.specs.Frames.{frame_of}
 use Rattle.plan_box.proofs.Shared.{root_is_box}
-use Rattle.plan_csv.specs.PlanTexts.{plan_said}
+use Rattle.plan_csv.specs.PlanTexts.{IsWritable, plan_said}
 use Rattle.plan_csv.specs.Solutions.{solution_text}
 use Rattle.plan_csv.specs.declared.bad_plan.BadPlan.{BadPlan}
 use Rattle.plan_csv.proofs.AddedUp.{plan_within}
 use Rattle.plan_csv.proofs.ReadAgain.{read_again}
+use Rattle.plan_csv.proofs.ShortTexts.{short_text}
 use Rattle.cert_log.specs.declared.bad_cert.BadCert.{BadCert}
 use Rattle.cert_log.specs.declared.certificate.Certificate.{Certificate}
 use Rattle.cert_log.specs.declared.certificate.Node.{Node}
@@ -28,18 +30,35 @@ use Rattle.cert_log.specs.Values.{IsNumber}
 use Rattle.cert_log.proofs.GoodNodes.{good_counts, good_left}
 use Rattle.cert_log.proofs.Naming.{good_steps}
 use Rattle.cert_log.proofs.RoundTrip.{round_trip}
+use Rattle.cert_log.proofs.ShortTexts.{short_texts}
 use Rattle.cert_log.proofs.Whole.{written_is_read}
 use Rattle.glass_run.specs.Answers.{Answer}
 use Rattle.glass_run.specs.Checks.{CertRefused, IsLawfulToo, NotAccepted, RefusesPlan, Verifies, accepted, loss_in}
 use Rattle.glass_run.specs.Checks.NotAccepted.{bad_cert as bad_certificate, bad_plan, bad_tree, broken_plan}
 use Rattle.glass_run.specs.Plans.{HasLoss, handled, most_work, root_ranges}
 use Rattle.glass_run.specs.Said.{IsPlanIn, SayBoth}
+use Rattle.glass_run.specs.Texts.{limit_of}
 
--- the text of the canonical plan of a trace is read again as this plan
-pub plan_again : (b : Problem) (plan : Plan) → IsProblem b → IsGoodPlan b (tree plan) → plan_said b (solution_text b (tree plan)) ≡ Ok (tree plan)
-plan_again b plan problem good =
+-- the canonical plan of a trace is writable
+writable : (b : Problem) (plan : Plan) → IsProblem b → IsGoodPlan b (tree plan) → IsWritable b (tree plan)
+writable b plan problem good =
     let adds_up = All-weaker (KeepsCutRules b) (λ f. AddsUp f f.sort) (λ f keeps. keeps.l1) (families_of b (tree plan)) good.lawful.cuts in
-    read_again b plan problem (record { fits = good.fits; within = plan_within b plan good.fits adds_up; few = omega (arith, good.few, problem.few_items) })
+    record { fits = good.fits; within = plan_within b plan good.fits adds_up; few = omega (arith, good.few, problem.few_items) }
+
+-- so its text is read again as this plan
+pub plan_again : (b : Problem) (plan : Plan) → IsProblem b → IsGoodPlan b (tree plan) → plan_said b (solution_text b (tree plan)) ≡ Ok (tree plan)
+plan_again b plan problem good = read_again b plan problem (writable b plan problem good)
+
+-- and is no longer than one that is read
+pub plan_short : (b : Problem) (plan : Plan) → IsProblem b → IsGoodPlan b (tree plan) → length (solution_text b (tree plan)) ≤ limit_of role.Plan
+plan_short b plan problem good =
+    let short = short_text b plan problem (writable b plan problem good) in omega (arith, short, good.few, problem.few_items)
+
+-- the text of a certificate of a search is no longer than one that is read
+pub cert_short : (b : Problem) (c : Certificate) (budget : ℕ) → IsProblem b → IsGood b (root_ranges b) c.loss c → IsVersion 2 c → IsHead (head_of c) → handled c ≤ budget → budget ≤ 10000000
+    → length (cert_text c) ≤ limit_of role.Cert
+cert_short b c budget problem good version head in_budget most =
+    let short = short_texts b c.loss c problem good version head in omega (arith, short, in_budget, most)
 
 few_steps : (steps : ℕ) → steps ≤ 800 → (node : Node) → StepBelow steps node → StepBelow 800 node
 few_steps steps few (Node.Split step v) below = omega arith

@@ -48,6 +48,14 @@ AnswersInstance verb.Sheet line texts b answer = SheetsText b (out_of line) (tex
 AnswersInstance verb.Replay line texts b answer = ReplaysText b (text_or_empty texts role.Sheet) answer
 AnswersInstance verb.Picture line texts b answer = DrawsText b (out_of line) (text_or_empty texts role.Plan) answer
 
+-- the command searches
+abbrev pub Searches : Verb → Type 0
+Searches verb.Plan = Unit {0}
+Searches verb.Gen = Unit {0}
+Searches verb.Resume = Unit {0}
+Searches verb.Freeze = Unit {0}
+Searches _ = ⊥
+
 -- the text of the defects that each command plans with; a draft is made on plates without defects
 abbrev pub flaws_of : Verb → Texts → Option (List ℕ)
 flaws_of verb.Draft texts = None

@@ -1,5 +1,5 @@
 -- What a user may conclude from how `freeze` ended.
-use Rattle.std.specs.Prelude.{◌≡◌, ◌≢◌, ◌↔◌, ◌+◌, ◌<◌, ◌≤◌, ℕ, zero, suc, Some, Ok, option_map, codes}
+use Rattle.std.specs.Prelude.{◌≡◌, ◌≢◌, ◌↔◌, ◌+◌, ◌<◌, ◌≤◌, ℕ, zero, suc, length, Some, Ok, option_map, codes}
 use Rattle.glass_base.specs.Problem.{Problem}
 use Rattle.glass_base.specs.declared.role.Role.TheVariants as role
 use Rattle.glass_io.specs.Told.{Contents}
@@ -29,9 +29,9 @@ use Rattle.glass_run.specs.Freezes.{frozen_planned, raised}
 use Rattle.glass_run.specs.FrozenChecks.{IsAcceptedBehind, VerifiesBehind, loss_behind}
 use Rattle.glass_run.specs.Headlines.{Accepts, FindsWrong, SaidBy}
 use Rattle.glass_run.specs.Said.{SayBoth}
-use Rattle.glass_run.specs.Plans.{handled, root_ranges, search_summary}
+use Rattle.glass_run.specs.Plans.{IsOfSearch, handled, root_ranges, search_summary}
 use Rattle.glass_run.specs.Runs.{Prints, Stands, World}
-use Rattle.glass_run.specs.Texts.{Texts, text_or_empty}
+use Rattle.glass_run.specs.Texts.{Texts, limit_of, text_or_empty}
 use Rattle.glass_run.specs.declared.status.Status.{Status}
 use Rattle.glass_run.specs.declared.status.Status.TheVariants as status
 
@@ -72,8 +72,12 @@ pub record StoresFreeze (line : Line) (held : Contents) (old new : World) (resul
   -- `verify` of the two stored texts accepts them where as many plates are said to be cut already, with the printed bound and this number of open boxes
   pub verified : (answer : Answer) → VerifiesBehind b (frozen_in line) (solution_text b (whole_of line plan tail)) (cert_text certificate) answer →
       answer ≡ accepted_answer (raised (frozen_loss b plan (frozen_in line)) certificate)
+  -- the text of CERT is no longer than one that is read
+  pub readable : length (cert_text certificate) ≤ limit_of role.Cert
   pub to_beat : ℕ
   pub searched : IsSearched rest to_beat (root_ranges rest) certificate
+  -- each box was handled once or is left open: the certificate is that of a lawful history of a search of all plans of that instance
+  pub of_search : IsOfSearch rest to_beat (count_in line count.Budget) certificate
   pub no_greater : to_beat ≤ loss_of rest (later_plates (frozen_in line) plan)
   -- `stopped` is printed exactly where a box is left open, and then as many boxes were closed or split as the budget says; else `optimal`, and
   -- the bound is the loss

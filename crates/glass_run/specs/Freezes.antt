@@ -17,8 +17,9 @@ use Rattle.plan_freeze.specs.Frozen.{first_plates, joined, later_plates}
 use Rattle.plan_freeze.specs.Rests.{IsRest, frozen_loss}
 use Rattle.glass_run.specs.Answers.{Answer, bad_input}
 use Rattle.glass_run.specs.Judgements.{IsFirstBroken, PlanRefused, unlawful}
-use Rattle.glass_run.specs.Plans.{ending, handled, most_work, root_ranges, search_summary}
+use Rattle.glass_run.specs.Plans.{IsOfSearch, ending, handled, most_work, root_ranges, search_summary}
 use Rattle.glass_run.specs.Said.{SayBoth}
+use Rattle.glass_run.specs.Texts.{limit_of}
 
 -- the answer where all plates of the plan are to stay, and no plate is left to be planned
 abbrev pub all_frozen : ℕ → Forest → Answer
@@ -31,6 +32,8 @@ pub record IsFoundFrom (b : Problem) (plan : Forest) (budget : ℕ) (c : Certifi
   pub version : IsVersion 2 c
   pub lawful : IsLawful b best
   pub loss_is : c.loss ≡ Some (loss_of b best)
+  -- the text of the certificate has no more bytes than one that is read
+  pub readable : length (cert_text c) ≤ limit_of role.Cert
   -- every lawful plan loses at least the bound
   pub bounds : (other : Forest) → IsLawful b other → Reaches c.bound (loss_of b other)
   -- no more boxes were closed or split than that, and exactly so many where one was left open
@@ -39,6 +42,7 @@ pub record IsFoundFrom (b : Problem) (plan : Forest) (budget : ℕ) (c : Certifi
   -- no box was split that is refuted, or whose bound reaches this loss; it is no greater than that of the plan from which the search went on
   pub to_beat : ℕ
   pub searched : IsSearched b to_beat (root_ranges b) c
+  pub of_search : IsOfSearch b to_beat budget c
   pub no_greater : to_beat ≤ loss_of b plan
   pub no_worse : loss_of b best ≤ loss_of b plan
 

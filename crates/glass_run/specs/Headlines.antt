@@ -26,7 +26,7 @@ use Rattle.glass_run.specs.Commands.{HasInstance, out_of, second_out_of}
 use Rattle.glass_run.specs.Drafts.{no_draft_line, summary}
 use Rattle.command_line.specs.Grammar.{Line, count_in, files_of, flag_in, line_of}
 use Rattle.glass_run.specs.Judgements.{IsFirstBroken, lawful_line, unlawful_line}
-use Rattle.glass_run.specs.Plans.{HasLoss, ending, handled, planned, root_ranges, search_lines, search_summary, AreTold}
+use Rattle.glass_run.specs.Plans.{AreReadable, HasLoss, IsOfSearch, ending, handled, planned, root_ranges, search_lines, search_summary, AreTold}
 use Rattle.glass_run.specs.Resumptions.{IsResumed}
 use Rattle.glass_run.specs.Runs.{Prints, RunsTo, Stands, World}
 use Rattle.glass_run.specs.Said.{SayBoth}
@@ -141,12 +141,16 @@ pub record StoresSearch (line : Line) (held : Contents) (old new : World) (resul
   pub accepted : (verdict : Verdict) → CheckAnswers b (root_ranges b) certificate.loss certificate verdict → verdict ≡ Verdict.Accept certificate.bound certificate.left
   -- `verify` of the two texts, if there is a plan, and else of the certificate alone, accepts them, and prints this bound and this number of open boxes
   pub verified : (answer : Answer) → Verifies b (option_map (solution_text b) plan) (cert_text certificate) answer → answer ≡ accepted_answer certificate
+  -- both texts are no longer than those that are read
+  pub readable : AreReadable (option_map (solution_text b) plan) (cert_text certificate)
   -- a printed plan is lawful and has the printed loss
   pub plan_is : HasLoss b certificate.loss plan
   -- no box was split that is refuted, or whose bound reaches the loss that was to be beaten: that of the plan from which the search went on,
   -- which is no greater than the draft's, where there is a draft
   pub to_beat : ℕ
   pub searched : IsSearched b to_beat (root_ranges b) certificate
+  -- each box was handled once or is left open: the certificate is that of a lawful history of a search of all plans
+  pub of_search : IsOfSearch b to_beat (count_in line count.Budget) certificate
   pub no_greater : (draft : Forest) → IsDraftPlan b draft → (to_beat ≤ loss_of b draft) × (to_beat < no_loss)
   -- each printed improvement is the loss of a lawful plan and less than those before it; the first one is the loss that was to be beaten, where
   -- there was one, and the last one is the printed loss

@@ -6,6 +6,7 @@ pub mod Drafts
 pub mod Said
 pub mod Plans
 pub mod Judgements
+pub mod Verdicts
 pub mod Pictures
 pub mod Sheets
 pub mod Replays

@@ -12,6 +12,7 @@ use Rattle.glass_run.specs.Headlines.{SaidBy}
 use Rattle.glass_run.specs.Pictures.{Draws}
 use Rattle.glass_run.specs.Runs.{Prints, RunsTo, World}
 use Rattle.glass_run.specs.Texts.{Texts, text_or_empty}
+use Rattle.glass_run.specs.Verdicts.{verdict_line}
 use Rattle.glass_run.specs.declared.status.Status.{Status}
 
 -- these words are a line of the program that draws, the files told what they held, and the run ended so
@@ -20,7 +21,7 @@ pub record PictureEnded (words : List (List ℕ)) (line : Line) (held : Contents
   pub told : old.shelf.contents ≡ Some held
   pub runs : RunsTo (picture_line_of words) old new result
 
--- OUT holds a picture of the plan that PLAN says, and what is printed is the plan's loss where it is lawful, and else its first breach
+-- OUT holds a picture of the plan that PLAN says, and of what was found of it: its loss where it is lawful, and else its first breach; and this is printed
 pub record StoresPicture (line : Line) (held : Contents) (old new : World) : Type 0 where
   pub texts : Texts
   pub b : Problem
@@ -30,4 +31,4 @@ pub record StoresPicture (line : Line) (held : Contents) (old new : World) : Typ
   pub said : plan_said b (text_or_empty texts role.Plan) ≡ Ok plan
   pub draws : Draws b (out_of line) plan answer
   pub stored : Stored (out_of line) draws.picture old.shelf.contents new.shelf.contents
-  pub prints : Prints draws.lines old.paper new.paper
+  pub prints : Prints (verdict_line draws.found) old.paper new.paper

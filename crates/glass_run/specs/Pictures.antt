@@ -1,30 +1,28 @@
 -- What the program that draws answers to an instance and the text of a plan.
-use Rattle.std.specs.Prelude.{◌≡◌, ◌⊎◌, ℕ, List, [], ◌∷◌, Result, Ok, Err}
+use Rattle.std.specs.Prelude.{◌≡◌, ℕ, List, [], ◌∷◌, Result, Ok, Err}
 use Rattle.glass_base.specs.Problem.{Problem}
-use Rattle.cut_model.specs.declared.broken.Broken.{Broken}
-use Rattle.cut_model.specs.Lawful.{IsLawful}
-use Rattle.cut_model.specs.Loss.{loss_of}
 use Rattle.cut_model.specs.Tree.{Forest}
 use Rattle.plan_csv.specs.PlanTexts.{plan_said}
 use Rattle.plan_csv.specs.declared.bad_plan.BadPlan.{BadPlan}
+use Rattle.plan_picture.specs.declared.verdict.Verdict.{Verdict}
 use Rattle.plan_picture.specs.Pictures.{IsPicture}
 use Rattle.glass_run.specs.Answers.{Answer}
-use Rattle.glass_run.specs.Judgements.{IsFirstBroken, PlanRefused, lawful_line, unlawful_line}
+use Rattle.glass_run.specs.Judgements.{PlanRefused}
+use Rattle.glass_run.specs.Verdicts.{IsVerdict, verdict_line}
 use Rattle.glass_run.specs.declared.status.Status.TheVariants as status
 
 -- a picture is stored under this name, and these lines are printed
 abbrev pub pictured : List ℕ → List ℕ → List ℕ → Answer
 pictured name picture lines = record { status = status.Done; stores = record { name = name; bytes = picture } ∷ []; lines = lines }
 
--- the answer to a plan: a picture of it is stored, and its loss is printed exactly where it is lawful, else its first breach
+-- the answer to a plan: a picture of it and of what was found of it is stored, and what was found is printed: its loss exactly where it is
+-- lawful, else its first breach
 pub record Draws (b : Problem) (name : List ℕ) (plan : Forest) (answer : Answer) : Type 0 where
   pub picture : List ℕ
-  pub lines : List ℕ
-  pub is_picture : IsPicture b plan picture
-  pub judged :
-      (IsLawful b plan × (lines ≡ lawful_line (loss_of b plan)))
-      ⊎ ((broken : Broken) × (¬ IsLawful b plan) × IsFirstBroken b plan broken × (lines ≡ unlawful_line broken))
-  pub answer_is : answer ≡ pictured name picture lines
+  pub found : Verdict
+  pub judged : IsVerdict b plan found
+  pub is_picture : IsPicture b plan found picture
+  pub answer_is : answer ≡ pictured name picture (verdict_line found)
 
 -- the answer to the plan that was said, or to its refusal
 abbrev pub DrawsSaid : Problem → List ℕ → Result Forest BadPlan → Answer → Type 0

@@ -1,5 +1,5 @@
 -- What `plan` answers to an instance.
-use Rattle.std.specs.Prelude.{◌≡◌, ◌≤◌, ◌<◌, ◌*◌, ◌==◌, ◌⊎◌, ◌++◌, ℕ, List, [], ◌∷◌, length, count_by, not, Bool, true, false, All, AllPairs, codes, if◌then◌else◌, is_some, option_map, Option, Some, None}
+use Rattle.std.specs.Prelude.{◌≡◌, ◌≤◌, ◌<◌, ◌*◌, ◌==◌, ◌⊎◌, ◌++◌, ℕ, List, [], ◌∷◌, length, count_by, not, Bool, true, false, All, AllPairs, codes, if◌then◌else◌, is_some, option_map, IfSome, Option, Some, None}
 use Rattle.std.specs.Fmt.{decimal}
 use Rattle.glass_base.specs.Problem.{Problem}
 use Rattle.glass_base.specs.declared.role.Role.TheVariants as role
@@ -7,10 +7,11 @@ use Rattle.cut_model.specs.Lawful.{IsLawful}
 use Rattle.cut_model.specs.Loss.{loss_of}
 use Rattle.cut_model.specs.Tree.{Forest, neighbour_count}
 use Rattle.plan_box.specs.Frames.{frame_of}
-use Rattle.plan_box.specs.Ranges.{Ranges, root_of}
+use Rattle.plan_box.specs.Ranges.{PlainBox, Ranges, root_of}
 use Rattle.cert_log.specs.declared.certificate.Certificate.{Certificate}
 use Rattle.cert_log.specs.Good.{IsGood, IsVersion, Reaches}
-use Rattle.cert_log.specs.Lawful.{no_loss}
+use Rattle.cert_log.specs.declared.history.History.{History}
+use Rattle.cert_log.specs.Lawful.{Course, IsLawful as IsLawfulHistory, loss_of as known_loss, no_loss}
 use Rattle.cert_log.specs.Splits.{IsSearched}
 use Rattle.cert_log.specs.Texts.{cert_text, loss_text}
 use Rattle.cert_log.specs.Trees.{is_left}
@@ -20,6 +21,7 @@ use Rattle.glass_run.specs.declared.status.Status.{Status}
 use Rattle.glass_run.specs.declared.status.Status.TheVariants as status
 use Rattle.glass_run.specs.Answers.{Answer, Store, bad_input}
 use Rattle.glass_run.specs.Said.{SayBoth}
+use Rattle.glass_run.specs.Texts.{limit_of}
 
 -- the ranges of the box that holds every lawful plan
 abbrev pub root_ranges : Problem → List Ranges
@@ -35,6 +37,28 @@ HasLoss b None None = Unit {0}
 HasLoss b (Some loss) (Some plan) = IsLawful b plan × (loss_of b plan ≡ loss)
 HasLoss b _ _ = ⊥
 
+-- a search from these boxes, that is to beat this loss and may handle so many boxes
+abbrev pub course_from : List PlainBox → ℕ → ℕ → Course
+course_from boxes to_beat budget = record { boxes = boxes; first = to_beat; budget = budget }
+
+-- one from the box of all plans
+abbrev pub course : Problem → ℕ → ℕ → Course
+course b to_beat budget = course_from (root_of (frame_of b) 0 ∷ []) to_beat budget
+
+-- the certificate is that of a lawful history of a search of all plans, in which each box was handled once or is left open: it tells of as many
+-- boxes as were handled, and of those that were left
+pub record IsOfSearch (b : Problem) (to_beat budget : ℕ) (c : Certificate) : Type 0 where
+  pub history : History
+  pub lawful : IsLawfulHistory b (course b to_beat budget) history
+  pub handled_is : handled c ≡ length history.log.items
+  pub left_is : c.left ≡ length history.left.items
+  pub loss_is : c.loss ≡ known_loss history.best
+
+-- the texts of a plan, if there is one, and of a certificate have no more bytes than those that are read
+pub record AreReadable (plan_text : Option (List ℕ)) (cert : List ℕ) : Type 0 where
+  pub plan_short : IfSome plan_text (λ text. length text ≤ limit_of role.Plan)
+  pub cert_short : length cert ≤ limit_of role.Cert
+
 -- what a search found that may close or split this many boxes: a certificate, and the best plan
 pub record IsFound (b : Problem) (budget : ℕ) (c : Certificate) (plan : Option Forest) : Type 0 where
   -- the certificate is right for the box that holds every lawful plan, and for the loss of the plan; each closed box has its cause
@@ -43,6 +67,7 @@ pub record IsFound (b : Problem) (budget : ℕ) (c : Certificate) (plan : Option
   pub plan_is : HasLoss b c.loss plan
   -- the texts of both, if there is a plan, are read again as this plan and this certificate
   pub said : SayBoth b (option_map (solution_text b) plan) (cert_text c) plan c
+  pub readable : AreReadable (option_map (solution_text b) plan) (cert_text c)
   -- every lawful plan loses at least the bound; where there is no bound, there is no lawful plan
   pub bounds : (other : Forest) → IsLawful b other → Reaches c.bound (loss_of b other)
   -- no more boxes were closed or split than that, and exactly so many where one was left open
@@ -51,6 +76,7 @@ pub record IsFound (b : Problem) (budget : ℕ) (c : Certificate) (plan : Option
   -- no box was split that is refuted, or whose bound reaches this loss; it is no greater than the draft's, where there is a draft
   pub to_beat : ℕ
   pub searched : IsSearched b to_beat (root_ranges b) c
+  pub of_search : IsOfSearch b to_beat budget c
   pub no_greater : (draft : Forest) → IsDraftPlan b draft → (to_beat ≤ loss_of b draft) × (to_beat < no_loss)
   -- where there is a draft, there is a plan that loses no more
   pub no_worse : (draft : Forest) → IsDraftPlan b draft → Reaches c.loss (loss_of b draft)

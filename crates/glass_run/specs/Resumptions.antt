@@ -6,7 +6,9 @@ use Rattle.cut_model.specs.Lawful.{IsLawful}
 use Rattle.cut_model.specs.Loss.{loss_of}
 use Rattle.cut_model.specs.Tree.{Forest}
 use Rattle.cert_log.specs.declared.certificate.Certificate.{Certificate}
+use Rattle.cert_log.specs.declared.history.History.{History}
 use Rattle.cert_log.specs.Good.{IsGood, Reaches}
+use Rattle.cert_log.specs.Lawful.{IsLawful as IsLawfulHistory}
 use Rattle.cert_log.specs.Splits.{AreSearched}
 use Rattle.cert_log.specs.Texts.{cert_text}
 use Rattle.cert_log.specs.Values.{IsNumber}
@@ -15,7 +17,7 @@ use Rattle.cert_resume.specs.OpenBoxes.{left_boxes_of}
 use Rattle.plan_csv.specs.Solutions.{solution_text}
 use Rattle.glass_run.specs.Answers.{Answer, bad_input}
 use Rattle.glass_run.specs.Checks.{IsAccepted, IsConverted, NotAccepted, loss_in}
-use Rattle.glass_run.specs.Plans.{HasLoss, handled, most_work, planned, root_ranges}
+use Rattle.glass_run.specs.Plans.{HasLoss, course_from, handled, most_work, planned, root_ranges}
 use Rattle.glass_run.specs.Said.{SayBoth}
 use Rattle.glass_run.specs.Texts.{limit_of}
 
@@ -40,6 +42,11 @@ pub record IsResumed (b : Problem) (budget : ℕ) (plan : Option Forest) (c j : 
   pub to_beat : ℕ
   pub searched : AreSearched b to_beat (left_boxes_of b names.good.tree) parts
   pub no_greater : IsAtMost (Some to_beat) (loss_in b plan)
+  -- they are those of a lawful history of a search from the open boxes, in which each box was handled once or is left open
+  pub history : History
+  pub lawful : IsLawfulHistory b (course_from (left_boxes_of b names.good.tree) to_beat budget) history
+  pub handled_is : handled j ≡ handled c + length history.log.items
+  pub left_is : j.left ≡ length history.left.items
   -- no more boxes were closed or split than the budget says beside those of the certificate, and exactly so many where one is left open
   pub in_budget : handled j ≤ handled c + budget
   pub spent : 0 < j.left → handled j ≡ handled c + budget

@@ -6,7 +6,7 @@ ghost use Rattle.cut_model.specs.Fits.{Fits};
 ghost use Rattle.cut_model.specs.Tree.{tree};
 ghost use Rattle.glass_run.specs.Pictures.{Draws, DrawsText};
 ghost use Rattle.glass_run.specs.inner.Forms.{answer_in};
-ghost use Rattle.glass_run.specs.inner.Verdicts.{verdict_line as verdict_line_of};
+ghost use Rattle.glass_run.specs.Verdicts.{verdict_line as verdict_line_of};
 
 use crate::drafting::one_output;
 use crate::judging::{plan_refused, verdict_on};

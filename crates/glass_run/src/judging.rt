@@ -7,7 +7,7 @@ ghost use Rattle.cut_model.specs.Rules.{KeepsCutRules};
 ghost use Rattle.cut_model.specs.Tree.{tree};
 ghost use Rattle.glass_run.specs.inner.Breaches.{IsBreachIfAny};
 ghost use Rattle.glass_run.specs.inner.Forms.{notice_in};
-ghost use Rattle.glass_run.specs.inner.Verdicts.{IsVerdict};
+ghost use Rattle.glass_run.specs.Verdicts.{IsVerdict};
 ghost use Rattle.glass_run.specs.Judgements.{Judges, JudgesText, PlanRefused, lawful as lawful_of, unlawful as unlawful_of};
 
 use crate::lines::{lawful_line, unlawful_line};

@@ -1,6 +1,7 @@
 //! The commands of Glass, over files and a sink that may be real or in memory.
 #![tactic(auto)]
 
+mod answering;
 mod checking;
 mod checking_behind;
 mod drafting;

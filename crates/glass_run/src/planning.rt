@@ -9,9 +9,9 @@ ghost use Rattle.cert_log.specs.Lawful.{IsBest, IsLawful, loss_of as known_loss,
 ghost use Rattle.cert_log.specs.Outcomes.{IsHead};
 ghost use Rattle.cert_log.specs.Texts.{cert_text, head_of};
 ghost use Rattle.box_workers.specs.Runs.{IsFirst, first_loss as first_loss_of};
-ghost use Rattle.glass_run.specs.Plans.{HasLoss, PlansWithin, ending as ending_of, ending_word as ending_word_of, handled as handled_of, plan_stores, planned};
+ghost use Rattle.glass_run.specs.Plans.{HasLoss, PlansWithin, course, course_from, ending as ending_of, ending_word as ending_word_of, handled as handled_of, plan_stores, planned};
 ghost use Rattle.glass_run.specs.inner.Forms.{answer_in, store_in};
-ghost use Rattle.glass_run.specs.inner.Searches.{AreWatched, Certifies, FitsToo, IsSaidByItsText, IsToldFound, IsWatchedHistory, course, course_from, losses_in};
+ghost use Rattle.glass_run.specs.inner.Searches.{AreWatched, Certifies, FitsToo, IsSaidByItsText, IsShortToo, IsToldFound, IsWatchedHistory, losses_in};
 
 use crate::lines::search_lines;
 use crate::notices::{bad_input, reply_with};
@@ -220,7 +220,7 @@ pub(crate) fn certificate_of(
     history: &History,
 ) -> Result<Certificate, Memory>
     requires { (budget : ℕ) × (to_beat : ℕ) × IsLawful instance.now (course instance.now to_beat budget) history.now }
-    ensures certifies { IfOk result (λ c. (budget to_beat : ℕ) → IsLawful instance.now (course instance.now to_beat budget) history.now → Certifies instance.now budget to_beat (known_loss history.now.best) c) }
+    ensures certifies { IfOk result (λ c. (budget to_beat : ℕ) → IsLawful instance.now (course instance.now to_beat budget) history.now → Certifies instance.now budget to_beat history.now c) }
     ensures head { IfOk result (λ c. IsHead (head_of c)) }
 {
     let mut certificates = assemble(alloc, instance, history)?;
@@ -239,6 +239,7 @@ pub(crate) fn best_plan(
     requires { IsBest instance.now history.now.best history.now.plan }
     ensures loss { IfOk result (λ plan. HasLoss instance.now (known_loss history.now.best) (option_map tree plan)) }
     ensures said { IfOk result (λ plan. IsSaidByItsText instance.now (option_map tree plan)) }
+    ensures short { IfOk result (λ plan. IsShortToo instance.now (option_map tree plan)) }
     ensures fits { IfOk result FitsToo }
     ensures few { IfOk result (λ plan. IfSome (option_map tree plan) (λ t. count t ≤ 12 * length instance.now.items)) }
 {

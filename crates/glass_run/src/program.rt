@@ -1,10 +1,10 @@
 //! What the program does behind its runtime.
 
-ghost use Rattle.std.specs.Prelude.{◌≡◌, [], IfErr, IfOk, IfSome, MatchOption, map};
+ghost use Rattle.std.specs.Prelude.{◌≡◌, ℕ, List, [], IfErr, IfOk, IfSome, MatchOption, map};
 ghost use Rattle.std.specs.String.{string_bytes};
 ghost use Rattle.glass_run.specs.Exits.{Exits};
 ghost use Rattle.command_line.specs.Grammar.{line_of, picture_line_of};
-ghost use Rattle.glass_run.specs.Runs.{world};
+ghost use Rattle.glass_run.specs.Runs.{World, world};
 
 use crate::run::{glass, glass_picture};
 use crate::status::Status;
@@ -52,8 +52,7 @@ pub fn exit_code<R: Threads + Wait + Sync, F: Files, S: Sink>(
 }
 
 /// The code that the program that draws ends with, as [`exit_code`] is that of `glass`.
-pub fn picture_exit_code<R: Threads + Wait + Sync, F: Files, S: Sink>(
-    rt: &R,
+pub fn picture_exit_code<F: Files, S: Sink>(
     alloc: Global,
     words: io::Result<Vec<String>>,
     files: &mut F,
@@ -63,7 +62,7 @@ pub fn picture_exit_code<R: Threads + Wait + Sync, F: Files, S: Sink>(
     ensures wrong { IfErr words (λ _. Exits (picture_line_of []) (world (F.shelf files.old) (S.paper out.old)) (world (F.shelf files.new) (S.paper out.new)) result) }
 {
     let ended = match words_taken(&words) {
-        Some(words) => glass_picture(rt, alloc, words, files, out),
+        Some(words) => glass_picture(alloc, words, files, out),
         None => Status::Memory,
     };
     ended.code()
@@ -77,7 +76,9 @@ fn words(rt: &(impl Env + AllocGlobal)) -> io::Result<Vec<String>> {
 }
 
 /// Runs the words of `glass` over the files of the system and standard output, and gives the code that the program ends with.
-pub fn run_program<R: Env + Print + rt::Files + AllocGlobal + Threads + Wait + Sync>(rt: &R) -> u8 {
+pub fn run_program<R: Env + Print + rt::Files + AllocGlobal + Threads + Wait + Sync>(rt: &R) -> u8
+    ensures { (words : List (List ℕ)) × (old : World) × (new : World) × Exits (line_of words) old new result }
+{
     let alloc = rt.alloc();
     let mut files = StdFiles::new(rt, alloc);
     let mut out = StdSink::new(rt);
@@ -85,9 +86,11 @@ pub fn run_program<R: Env + Print + rt::Files + AllocGlobal + Threads + Wait + S
 }
 
 /// Runs the words of the program that draws, as [`run_program`] runs those of `glass`.
-pub fn run_picture<R: Env + Print + rt::Files + AllocGlobal + Threads + Wait + Sync>(rt: &R) -> u8 {
+pub fn run_picture<R: Env + Print + rt::Files + AllocGlobal>(rt: &R) -> u8
+    ensures { (words : List (List ℕ)) × (old : World) × (new : World) × Exits (picture_line_of words) old new result }
+{
     let alloc = rt.alloc();
     let mut files = StdFiles::new(rt, alloc);
     let mut out = StdSink::new(rt);
-    picture_exit_code(rt, alloc, words(rt), &mut files, &mut out)
+    picture_exit_code(alloc, words(rt), &mut files, &mut out)
 }

@@ -11,11 +11,11 @@ ghost use Rattle.cert_log.specs.Texts.{cert_text};
 ghost use Rattle.cert_resume.specs.Joins.{IsAtMost};
 ghost use Rattle.box_workers.specs.Runs.{IsFirst, first_loss as first_loss_of};
 ghost use Rattle.glass_run.specs.Checks.{IsLawfulToo, loss_in};
-ghost use Rattle.glass_run.specs.Plans.{planned, root_ranges};
+ghost use Rattle.glass_run.specs.Plans.{course_from, planned, root_ranges};
 ghost use Rattle.glass_run.specs.Resumptions.{GoesOnWithin, IsResumed, Resumes, too_long_to_read};
 ghost use Rattle.glass_run.specs.Texts.{limit_of};
 ghost use Rattle.glass_run.specs.inner.Forms.{answer_in};
-ghost use Rattle.glass_run.specs.inner.Searches.{FitsToo, course_from};
+ghost use Rattle.glass_run.specs.inner.Searches.{FitsToo};
 
 use crate::checking::{Checked, accepted_texts};
 use crate::notices::{bad_input, reply_at, reply_with};

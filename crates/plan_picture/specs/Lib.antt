@@ -1,4 +1,6 @@
 pub mod Words
 pub mod Marks
+pub mod Told
+pub mod Texts
 pub mod Pictures
 pub mod inner

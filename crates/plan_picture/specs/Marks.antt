@@ -1,6 +1,7 @@
 -- The SVG text of each element of a picture.
 use Rattle.std.specs.Prelude.{ℕ, ◌-◌, ◌%◌, List, ◌++◌, Bool, true, false, Option, Some, None, codes}
 use Rattle.std.specs.Fmt.{decimal}
+use Rattle.std.specs.List.{flat_map}
 use Rattle.glass_base.specs.declared.item.Defect.{Defect}
 use Rattle.cut_model.specs.declared.family.Row.{Row}
 use Rattle.plan_picture.specs.declared.mark.Fill.{Fill}
@@ -110,7 +111,6 @@ label_text l =
 
 -- the text of an element
 abbrev pub mark_text : Mark → List ℕ
-mark_text (mark.Head frame) = head_text frame
 mark_text (mark.Plate number x y) = plate_text number x y
 mark_text (mark.Piece row how) = piece_text row how
 mark_text (mark.Cut line) = cut_text line
@@ -120,4 +120,7 @@ mark_text (mark.Ring x y) = ring_text x y
 mark_text mark.PlateEnd = codes "</g>\n"
 mark_text (mark.Sample x y how) = sample_text x y how
 mark_text (mark.Label label) = label_text label
-mark_text mark.End = codes "</svg>\n"
+
+-- the text of a picture
+abbrev pub picture_text : Frame → List Mark → List ℕ
+picture_text frame marks = head_text frame ++ flat_map mark_text marks ++ codes "</svg>\n"

@@ -1,7 +1,6 @@
 -- What the lines of text in a picture say.
 use Rattle.std.specs.Prelude.{ℕ, ◌/◌, ◌%◌, List, ◌++◌, Bool, true, false, codes}
 use Rattle.std.specs.Fmt.{decimal}
-use Rattle.cut_model.specs.declared.broken.Broken.{Broken}
 use Rattle.cut_model.specs.declared.broken.Rule.{Rule}
 use Rattle.cut_model.specs.Words.{breach_text}
 use Rattle.plan_picture.specs.declared.mark.Key.{Key}

@@ -1,2 +1,5 @@
 -- Definitions that only this crate's own functions speak of.
-pub mod Groups
+pub mod Adding
+pub mod Layouts
+pub mod Sketches
+pub mod Surveys

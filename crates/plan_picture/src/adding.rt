@@ -1,51 +1,24 @@
 //! Elements that are added to a picture.
 
-ghost use Rattle.std.specs.Prelude.{◌≡◌, [], ◌∷◌, ◌++◌, OnOk, OnErr, Some, None};
-ghost use Rattle.plan_picture.specs.Pictures.{pieces_from};
-ghost use Rattle.plan_picture.specs.inner.Groups.{AddsTrims, IsTrim, group_after};
+ghost use Rattle.std.specs.Prelude.{◌≡◌, [], ◌∷◌, ◌++◌, OnOk, option_to_list};
+ghost use Rattle.plan_picture.specs.Pictures.{defects_on, part_on};
+ghost use Rattle.plan_picture.specs.Told.{tell, told};
+ghost use Rattle.plan_picture.specs.inner.Adding.{with_defects, with_outlines, with_rings, with_texts, words_in};
 
-use crate::mark::{Label, Line, Look, Mark};
+use crate::mark::{Label, Line, Mark};
 use cut_model::Row;
 use glass_base::{Defect, Instance, Memory, Run, append};
 
-/// Adds an element that draws no row, and neither begins nor ends a group.
+/// Adds an element.
 pub(crate) fn add(marks: &mut Run<Mark>, mark: Mark) -> Result<(), Memory>
-    requires { IsTrim mark }
-    ensures { AddsTrims marks.old.items marks.new.items }
+    ensures { OnOk result (told marks.new.items ≡ tell (told marks.old.items) mark) }
 {
     append(marks, mark)
 }
 
-/// Begins the group of a plate, whose lower left corner stands at (x, y). No group is open.
-pub(crate) fn begin_group(marks: &mut Run<Mark>, number: u32, x: u64, y: u64) -> Result<(), Memory>
-    requires { group_after None marks.old.items ≡ None }
-    ensures pieces { pieces_from None marks.new.items ≡ pieces_from None marks.old.items }
-    ensures ok { OnOk result (group_after None marks.new.items ≡ Some number) }
-    ensures err { OnErr result (group_after None marks.new.items ≡ group_after None marks.old.items) }
-{
-    append(marks, Mark::Plate { number, x, y })
-}
-
-/// Ends the group that is open.
-pub(crate) fn end_group(marks: &mut Run<Mark>) -> Result<(), Memory>
-    ensures pieces { pieces_from None marks.new.items ≡ pieces_from None marks.old.items }
-    ensures ok { OnOk result (group_after None marks.new.items ≡ None) }
-    ensures err { OnErr result (group_after None marks.new.items ≡ group_after None marks.old.items) }
-{
-    append(marks, Mark::PlateEnd)
-}
-
-/// Draws a row in the group that is open.
-pub(crate) fn add_piece(marks: &mut Run<Mark>, row: Row, look: Look) -> Result<(), Memory>
-    ensures pieces { OnOk result (pieces_from None marks.new.items ≡ pieces_from None marks.old.items ++ record { plate = group_after None marks.old.items; row = row; how = look } ∷ []) }
-    ensures group { group_after None marks.new.items ≡ group_after None marks.old.items }
-{
-    append(marks, Mark::Piece(row, look))
-}
-
 /// Adds the cuts of this level.
 fn add_cuts_of(marks: &mut Run<Mark>, cuts: &[Line], level: u32) -> Result<(), Memory>
-    ensures { AddsTrims marks.old.items marks.new.items }
+    ensures { OnOk result (told marks.new.items ≡ told marks.old.items) }
 {
     for cut in cuts {
         if cut.level == level {
@@ -57,7 +30,7 @@ fn add_cuts_of(marks: &mut Run<Mark>, cuts: &[Line], level: u32) -> Result<(), M
 
 /// Adds cuts, those of the outer levels over the others.
 pub(crate) fn add_cuts(marks: &mut Run<Mark>, cuts: &[Line]) -> Result<(), Memory>
-    ensures { AddsTrims marks.old.items marks.new.items }
+    ensures { OnOk result (told marks.new.items ≡ told marks.old.items) }
 {
     add_cuts_of(marks, cuts, 4)?;
     add_cuts_of(marks, cuts, 3)?;
@@ -65,16 +38,58 @@ pub(crate) fn add_cuts(marks: &mut Run<Mark>, cuts: &[Line]) -> Result<(), Memor
     add_cuts_of(marks, cuts, 1)
 }
 
-/// The part of a defect that lies within these sides of its plate, if there is one.
-fn defect_within(defect: &Defect, width: u32, height: u32) -> Option<Defect> {
-    if defect.x0 >= width || defect.y0 >= height {
-        return None;
+/// Adds a ring around a defect, if there is one.
+fn add_ring(marks: &mut Run<Mark>, struck: Option<Defect>) -> Result<(), Memory>
+    ensures { OnOk result (told marks.new.items ≡ with_rings (told marks.old.items) (option_to_list struck)) }
+{
+    match struck {
+        None => Ok(()),
+        Some(defect) => {
+            let x = defect.x0 / 2 + defect.x1 / 2;
+            let y = defect.y0 / 2 + defect.y1 / 2;
+            add(marks, Mark::Ring { x, y })
+        }
     }
-    Some(Defect {
-        x1: defect.x1.min(width),
-        y1: defect.y1.min(height),
-        ..*defect
-    })
+}
+
+/// Outlines pieces that break a rule, and puts a ring around the defect by which they do, if it is by one.
+pub(crate) fn add_outlines(
+    marks: &mut Run<Mark>,
+    outlined: &[Row],
+    struck: Option<Defect>,
+) -> Result<(), Memory>
+    ensures { OnOk result (told marks.new.items ≡ with_outlines (told marks.old.items) (option_to_list struck) outlined.now) }
+{
+    for row in outlined {
+        add(marks, Mark::Outline(*row))?;
+        add_ring(marks, struck)?;
+    }
+    Ok(())
+}
+
+/// The part of a defect that lies within these sides of its plate, if there is one.
+fn defect_within(defect: &Defect, width: u32, height: u32) -> Option<Defect>
+    ensures { option_to_list result ≡ part_on width height defect.now }
+{
+    if defect.x0 < width && defect.y0 < height {
+        Some(Defect {
+            x1: defect.x1.min(width),
+            y1: defect.y1.min(height),
+            ..*defect
+        })
+    } else {
+        None
+    }
+}
+
+/// Adds a part of a defect, if there is one.
+fn add_part(marks: &mut Run<Mark>, part: Option<Defect>) -> Result<(), Memory>
+    ensures { OnOk result (told marks.new.items ≡ with_defects (told marks.old.items) (option_to_list part)) }
+{
+    match part {
+        None => Ok(()),
+        Some(defect) => add(marks, Mark::Defect(defect)),
+    }
 }
 
 /// Adds the defects of a plate, as far as they lie on it.
@@ -83,15 +98,13 @@ pub(crate) fn add_defects(
     instance: &Instance,
     plate: u32,
 ) -> Result<(), Memory>
-    ensures { AddsTrims marks.old.items marks.new.items }
+    ensures { OnOk result (told marks.new.items ≡ with_defects (told marks.old.items) (defects_on instance.now plate)) }
 {
     let width = instance.width(plate);
     let height = instance.params().height;
     for defect in instance.defects() {
         if defect.plate == plate {
-            if let Some(part) = defect_within(defect, width, height) {
-                add(marks, Mark::Defect(part))?;
-            }
+            add_part(marks, defect_within(defect, width, height))?;
         }
     }
     Ok(())
@@ -99,7 +112,7 @@ pub(crate) fn add_defects(
 
 /// Adds texts.
 pub(crate) fn add_labels(marks: &mut Run<Mark>, labels: &[Label]) -> Result<(), Memory>
-    ensures { AddsTrims marks.old.items marks.new.items }
+    ensures { OnOk result (told marks.new.items ≡ with_texts (told marks.old.items) (words_in labels.now)) }
 {
     for label in labels {
         add(marks, Mark::Label(*label))?;

@@ -1,16 +1,19 @@
 //! The elements of a picture, as far as it is drawn.
 
-ghost use Rattle.std.specs.Prelude.{◌≡◌, [], ◌∷◌, ◌++◌, OnOk, IfOk, Some, None};
+ghost use Rattle.std.specs.Prelude.{◌≡◌, OnOk, None, []};
+ghost use Rattle.cut_model.specs.Tree.{type_number};
 ghost use Rattle.cut_model.specs.Visits.{IsSmall};
-ghost use Rattle.plan_picture.specs.Pictures.{Drawn, pieces_from};
-ghost use Rattle.plan_picture.specs.inner.Groups.{AddsTrims, group_after};
+ghost use Rattle.plan_picture.specs.Pictures.{defects_on, look_of, struck_by};
+ghost use Rattle.plan_picture.specs.Told.{told, untold};
+ghost use Rattle.plan_picture.specs.inner.Adding.{with_defects, with_outlines};
+ghost use Rattle.plan_picture.specs.inner.Sketches.{HasDrawn, closed, opened, sketch, turned_to};
 
-use crate::adding::{add, add_cuts, add_defects, add_labels, add_piece, begin_group, end_group};
-use crate::mark::{Frame, Look, Mark};
+use crate::adding::{add, add_cuts, add_defects, add_labels, add_outlines};
+use crate::mark::Mark;
 use crate::over::Over;
 use crate::sheet::Sheet;
-use cut_model::{Family, Row};
-use glass_base::{Instance, Memory, Run};
+use cut_model::Family;
+use glass_base::{Memory, Run};
 use std::alloc::Global;
 use std::mem;
 
@@ -20,107 +23,80 @@ pub(crate) struct Canvas {
     pub marks: Run<Mark>,
     pub plate: Option<u32>,
     pub over: Over,
-    ghost group: { group_after None marks.items ≡ plate },
-}
-
-/// Outlines the piece that breaks a rule, and puts a ring around the defect by which it does.
-fn add_breach(marks: &mut Run<Mark>, over: &Over) -> Result<(), Memory>
-    ensures { AddsTrims marks.old.items marks.new.items }
-{
-    if let Some(row) = over.broken {
-        add(marks, Mark::Outline(row))?;
-    }
-    match over.struck {
-        None => Ok(()),
-        Some(defect) => {
-            let x = defect.x0 / 2 + defect.x1 / 2;
-            let y = defect.y0 / 2 + defect.y1 / 2;
-            add(marks, Mark::Ring { x, y })
-        }
-    }
 }
 
 /// Adds what is drawn over the pieces of a plate, in its group.
-fn add_over(
-    marks: &mut Run<Mark>,
-    over: &Over,
-    instance: &Instance,
-    plate: u32,
-) -> Result<(), Memory>
-    ensures { AddsTrims marks.old.items marks.new.items }
+fn add_over(marks: &mut Run<Mark>, over: &Over, sheet: &Sheet<'_>, plate: u32) -> Result<(), Memory>
+    ensures { let b = sheet.now.instance.now in OnOk result (told marks.new.items ≡ with_defects (with_outlines (told marks.old.items) (struck_by b sheet.now.broken) over.now.outlined.items) (defects_on b plate)) }
 {
     add_cuts(marks, over.cuts.as_slice())?;
-    add_breach(marks, over)?;
-    add_defects(marks, instance, plate)
+    add_outlines(marks, over.outlined.as_slice(), sheet.struck())?;
+    add_defects(marks, sheet.instance, plate)
 }
 
 impl Canvas {
-    /// The beginning of a picture.
-    pub fn new(alloc: Global, frame: Frame) -> Result<Canvas, Memory>
-        ensures { IfOk result (λ canvas. pieces_from None canvas.marks.items ≡ []) }
+    /// No elements.
+    pub fn new(alloc: Global) -> Canvas
+        ensures { sketch result ≡ record { tells = untold; plate = None; words = []; outlined = [] } }
     {
-        let mut marks = Run::new(alloc);
-        add(&mut marks, Mark::Head(frame))?;
-        Ok(Canvas {
-            marks,
+        Canvas {
+            marks: Run::new(alloc),
             plate: None,
             over: Over::new(alloc),
-        })
+        }
     }
 
     /// Ends the group that is open, if one is: draws over its pieces, and behind the group the texts.
-    pub fn close(&mut self, alloc: Global, instance: &Instance) -> Result<(), Memory>
-        ensures pieces { OnOk result (pieces_from None self.new.marks.items ≡ pieces_from None self.old.marks.items) }
-        ensures plate { OnOk result (self.new.plate ≡ None) }
+    pub fn close(&mut self, alloc: Global, sheet: &Sheet<'_>) -> Result<(), Memory>
+        ensures { OnOk result (sketch self.new ≡ record { tells = closed sheet.now.instance.now sheet.now.broken (sketch self.old); plate = None; words = []; outlined = [] }) }
     {
         let over = mem::replace(&mut self.over, Over::new(alloc));
         let Some(plate) = self.plate else {
             return Ok(());
         };
-        add_over(&mut self.marks, &over, instance, plate)?;
-        end_group(&mut self.marks)?;
+        add_over(&mut self.marks, &over, sheet, plate)?;
+        add(&mut self.marks, Mark::PlateEnd)?;
         self.plate = None;
         add_labels(&mut self.marks, over.labels.as_slice())
     }
 
-    /// Begins the group of a plate. None is open.
+    /// Begins the group of a plate. None is open, and nothing is noted.
     fn open(&mut self, sheet: &Sheet<'_>, plate: u32) -> Result<(), Memory>
-        requires { self.old.plate ≡ None }
-        ensures pieces { OnOk result (pieces_from None self.new.marks.items ≡ pieces_from None self.old.marks.items) }
-        ensures plate { OnOk result (self.new.plate ≡ Some plate) }
+        requires words { (sketch self.old).words ≡ [] }
+        requires outlined { (sketch self.old).outlined ≡ [] }
+        ensures { OnOk result (sketch self.new ≡ opened sheet.now.instance.now sheet.now.layout (told self.old.marks.items) plate) }
     {
         let layout = sheet.layout;
-        self.over
-            .begin(&layout, plate, sheet.instance.width(plate))?;
-        begin_group(&mut self.marks, plate, layout.left(), layout.bottom(plate))?;
+        self.over.begin(sheet, plate)?;
+        let begin = Mark::Plate {
+            number: plate,
+            x: layout.left(),
+            y: layout.bottom(plate),
+        };
+        add(&mut self.marks, begin)?;
         self.plate = Some(plate);
         Ok(())
     }
 
     /// Goes to the group of a plate: ends the one that is open and begins that of the plate, unless it is open already.
     pub fn turn_to(&mut self, alloc: Global, sheet: &Sheet<'_>, plate: u32) -> Result<(), Memory>
-        ensures pieces { OnOk result (pieces_from None self.new.marks.items ≡ pieces_from None self.old.marks.items) }
-        ensures plate { OnOk result (self.new.plate ≡ Some plate) }
+        ensures { OnOk result (sketch self.new ≡ turned_to sheet.now.instance.now sheet.now.broken sheet.now.layout (sketch self.old) plate) }
     {
         if self.plate == Some(plate) {
             return Ok(());
         }
-        self.close(alloc, sheet.instance)?;
+        self.close(alloc, sheet)?;
         self.open(sheet, plate)
     }
 
-    /// Draws a row in the group that is open.
-    pub fn draw(&mut self, row: Row, look: Look) -> Result<(), Memory>
-        ensures { OnOk result (pieces_from None self.new.marks.items ≡ pieces_from None self.old.marks.items ++ record { plate = self.old.plate; row = row; how = look } ∷ []) }
+    /// Draws a piece in the group that is open, and notes what is to be drawn over it.
+    pub fn draw(&mut self, sheet: &Sheet<'_>, family: &Family) -> Result<(), Memory>
+        requires small { IsSmall family.now }
+        requires named { family.now.row.kind ≡ type_number family.now.sort }
+        ensures { let b = sheet.now.instance.now in OnOk result (HasDrawn b sheet.now.broken family.now.row (look_of b family.now.sort) (sketch self.old) (sketch self.new)) }
     {
-        add_piece(&mut self.marks, row, look)
-    }
-
-    /// Notes what is to be drawn over a piece.
-    pub fn note(&mut self, sheet: &Sheet<'_>, family: &Family) -> Result<(), Memory>
-        requires { IsSmall family.now }
-        ensures { self.new.marks.items ≡ self.old.marks.items }
-    {
+        let look = sheet.look(family.sort);
+        add(&mut self.marks, Mark::Piece(family.row, look))?;
         self.over.note(sheet, family)
     }
 }

@@ -1,9 +1,14 @@
 //! The texts in the pieces of a picture. A letter is taken to be 0.6 times as wide as the size of its text, and a line 1.2 times as high.
 
-ghost use Rattle.std.specs.Prelude.{◌≤◌};
+ghost use Rattle.std.specs.Prelude.{◌≡◌, ◌≤◌, [], ◌∷◌, ◌++◌, OnOk};
+ghost use Rattle.cut_model.specs.declared.family.Sort.TheVariants.{Item as ItemOf, Residual as TheResidual};
+ghost use Rattle.cut_model.specs.Tree.{type_number};
+ghost use Rattle.plan_picture.specs.declared.mark.Words.TheVariants.{Sides};
+ghost use Rattle.plan_picture.specs.inner.Adding.{AddsTrue, words_in};
 
 use crate::layout::Layout;
 use crate::mark::{Label, Words};
+use crate::sheet::Sheet;
 use cut_model::Row;
 use glass_base::{Memory, Run, append};
 
@@ -47,7 +52,9 @@ fn is_legible(layout: &Layout, setting: Setting) -> bool {
 }
 
 /// A line of text in the middle of a piece, moved down by so many hundredths of its size, less 20.
-fn line(layout: &Layout, row: &Row, setting: Setting, down: u64, words: Words) -> Label {
+fn line(layout: &Layout, row: &Row, setting: Setting, down: u64, words: Words) -> Label
+    ensures { result.words ≡ words }
+{
     let (x, y) = layout.middle(row);
     let size = setting.size;
     let from = size.saturating_mul(20) / 100;
@@ -87,27 +94,40 @@ fn letters_of_sides(row: &Row) -> u32
     digits(row.width) + 3 + digits(row.height)
 }
 
-/// Adds a name and under it the sides of the piece, where both fit.
+/// Adds a line of text.
+pub(crate) fn add_line(labels: &mut Run<Label>, label: Label) -> Result<(), Memory>
+    ensures { OnOk result (words_in labels.new.items ≡ words_in labels.old.items ++ label.words ∷ []) }
+{
+    append(labels, label)
+}
+
+/// Adds a name and under it the sides of the piece.
 fn add_two_lines(
     labels: &mut Run<Label>,
     layout: &Layout,
     row: &Row,
     setting: Setting,
     name: Words,
-) -> Result<(), Memory> {
-    append(labels, line(layout, row, setting, 0, name))?;
+) -> Result<(), Memory>
+    ensures { OnOk result (words_in labels.new.items ≡ words_in labels.old.items ++ name ∷ Sides row.now.width row.now.height ∷ []) }
+{
+    add_line(labels, line(layout, row, setting, 0, name))?;
     let sides = Words::Sides(row.width, row.height);
-    append(labels, line(layout, row, setting, 115, sides))
+    add_line(labels, line(layout, row, setting, 115, sides))
 }
 
 /// Adds the number of an item and its sides: one over the other or in one line, where they fit, else the number alone, where it fits.
 pub(crate) fn add_item(
     labels: &mut Run<Label>,
-    layout: &Layout,
+    sheet: &Sheet<'_>,
     row: &Row,
     number: u32,
-    turned: bool,
-) -> Result<(), Memory> {
+) -> Result<(), Memory>
+    requires { row.now.kind ≡ type_number (ItemOf number) }
+    ensures { OnOk result (AddsTrue sheet.now.instance.now row.now labels.old.items labels.new.items) }
+{
+    let layout = &sheet.layout;
+    let turned = sheet.is_turned(row, number);
     let letters = if turned {
         digits(number) + 2
     } else {
@@ -122,12 +142,10 @@ pub(crate) fn add_item(
         add_two_lines(labels, layout, row, two, Words::Number(number, turned))
     } else if is_legible(layout, one) {
         let words = Words::Item(number, turned, row.width, row.height);
-        append(labels, line(layout, row, one, 56, words))
+        add_line(labels, line(layout, row, one, 56, words))
     } else if is_legible(layout, alone) {
-        append(
-            labels,
-            line(layout, row, alone, 56, Words::Number(number, turned)),
-        )
+        let words = Words::Number(number, turned);
+        add_line(labels, line(layout, row, alone, 56, words))
     } else {
         Ok(())
     }
@@ -136,9 +154,13 @@ pub(crate) fn add_item(
 /// Adds that a piece is the residual, and its sides, where they fit.
 pub(crate) fn add_residual(
     labels: &mut Run<Label>,
-    layout: &Layout,
+    sheet: &Sheet<'_>,
     row: &Row,
-) -> Result<(), Memory> {
+) -> Result<(), Memory>
+    requires { row.now.kind ≡ type_number TheResidual }
+    ensures { OnOk result (AddsTrue sheet.now.instance.now row.now labels.old.items labels.new.items) }
+{
+    let layout = &sheet.layout;
     let two = fitting(layout, row, letters_of_sides(row).max(8), 2);
     if is_legible(layout, two) {
         add_two_lines(labels, layout, row, two, Words::Residual)

@@ -1,5 +1,8 @@
 //! Where the parts of a picture stand.
 
+ghost use Rattle.std.specs.Prelude.{◌≡◌, ◌+◌, ◌*◌, ◌≤◌};
+ghost use Rattle.plan_picture.specs.inner.Layouts.{IsLayout};
+
 use crate::mark::{Frame, Label, Words};
 use cut_model::Row;
 
@@ -31,16 +34,24 @@ pub(crate) struct Layout {
     pub lines: u64,
     /// The height of a plate.
     pub height: u32,
+    ghost sizes: { IsLayout size lines height },
 }
 
 impl Layout {
+    ghost use Rattle.plan_picture.specs.declared.mark.Words.TheVariants.{Plate};
+    ghost use Rattle.plan_picture.specs.inner.Layouts.{bottom_at};
+
     /// The layout of plates of this height, the widest of which is so wide. A page is never much higher than wide.
-    pub fn new(widest: u32, height: u32) -> Layout {
+    pub fn new(widest: u32, height: u32) -> Layout
+        requires widest { widest ≤ 20000 }
+        requires height { height ≤ 20000 }
+        ensures { result.height ≡ height }
+    {
         let size = (u64::from(widest) / GLASS).max(u64::from(height) / HIGHEST) + 1;
         let lines = u64::from(height) / size + 1;
         Layout {
             size,
-            lines: lines.saturating_add(ABOVE + BELOW),
+            lines: lines + ABOVE + BELOW,
             height,
         }
     }
@@ -51,36 +62,40 @@ impl Layout {
     }
 
     /// The left side of the plates.
-    pub fn left(&self) -> u64 {
-        self.size.saturating_mul(LEFT)
+    pub fn left(&self) -> u64
+        ensures { result ≡ self.now.size * 2 }
+    {
+        self.size * LEFT
     }
 
     /// The upper side of a plate.
-    pub fn top(&self, plate: u32) -> u64 {
-        let lines = self.lines.saturating_mul(u64::from(plate));
-        self.size.saturating_mul(lines.saturating_add(ABOVE))
+    pub fn top(&self, plate: u32) -> u64
+        ensures { result ≡ self.now.size * (self.now.lines * plate + 6) }
+    {
+        self.size * (self.lines * u64::from(plate) + ABOVE)
     }
 
     /// The lower side of a plate.
-    pub fn bottom(&self, plate: u32) -> u64 {
-        self.top(plate).saturating_add(u64::from(self.height))
+    pub fn bottom(&self, plate: u32) -> u64
+        ensures { result ≡ bottom_at self.now.size self.now.lines self.now.height plate }
+    {
+        self.top(plate) + u64::from(self.height)
     }
 
     /// The sizes of a picture of so many plates.
     pub fn frame(&self, plates: u64) -> Frame {
         Frame {
-            width: self.size.saturating_mul(WIDTH),
-            height: self
-                .size
-                .saturating_mul(self.lines)
-                .saturating_mul(plates.max(1)),
+            width: self.size * WIDTH,
+            height: (self.size * self.lines).saturating_mul(plates.max(1)),
             size: self.size,
-            page: self.lines.saturating_mul(PX),
+            page: self.lines * PX,
         }
     }
 
     /// The text above a plate.
-    pub fn heading(&self, number: u32, width: u32) -> Label {
+    pub fn heading(&self, number: u32, width: u32) -> Label
+        ensures { result.words ≡ Plate number width self.now.height }
+    {
         Label {
             x: self.left(),
             y: self.top(number).saturating_sub(self.hundredths(50)),

@@ -1,12 +1,16 @@
 //! The legend of a picture.
 
-ghost use Rattle.plan_picture.specs.inner.Groups.{AddsTrims};
+ghost use Rattle.std.specs.Prelude.{◌≡◌, [], ◌∷◌, ◌++◌, OnOk};
+ghost use Rattle.plan_picture.specs.declared.mark.Words.TheVariants.{Counts as CountsOf, Key as KeyOf};
+ghost use Rattle.plan_picture.specs.Texts.{thousandths as thousandths_of, verdict_words};
+ghost use Rattle.plan_picture.specs.Told.{told};
+ghost use Rattle.plan_picture.specs.inner.Adding.{key_words, with_texts};
 
 use crate::adding::add;
 use crate::layout::Layout;
 use crate::mark::{Fill, Key, Label, Line, Mark, Words};
 use crate::verdict::Verdict;
-use glass_base::{Memory, Run};
+use glass_base::{Instance, Memory, Run};
 
 /// What the lines of a legend stand on, in hundredths of the size of plain text: the verdict, the counts, the key.
 const VERDICT: u64 = 140;
@@ -23,14 +27,14 @@ const COLOURS: usize = 7;
 pub(crate) struct Counts {
     pub plates: u64,
     pub items: u64,
-    /// The area of all items, in mm².
-    pub area: u64,
 }
 
 /// The loss in thousandths of the glass that is used, rounded.
-fn thousandths(loss: u64, area: u64) -> u64 {
-    let glass = loss.saturating_add(area).max(1);
-    loss.saturating_mul(1000).saturating_add(glass / 2) / glass
+fn thousandths(loss: u64, area: u64) -> u64
+    ensures { result ≡ thousandths_of loss area }
+{
+    let glass = (u128::from(loss) + u128::from(area)).max(1);
+    ((u128::from(loss) * 1000 + glass / 2) / glass) as u64
 }
 
 /// Adds a text. Its place and its size are given in hundredths of the size of plain text.
@@ -42,7 +46,7 @@ fn add_words(
     size: u64,
     words: Words,
 ) -> Result<(), Memory>
-    ensures { AddsTrims marks.old.items marks.new.items }
+    ensures { OnOk result (told marks.new.items ≡ with_texts (told marks.old.items) (words ∷ [])) }
 {
     let label = Label {
         x: layout.hundredths(x),
@@ -56,14 +60,14 @@ fn add_words(
 
 /// Adds a word of the key.
 fn add_key(marks: &mut Run<Mark>, layout: &Layout, x: u64, key: Key) -> Result<(), Memory>
-    ensures { AddsTrims marks.old.items marks.new.items }
+    ensures { OnOk result (told marks.new.items ≡ with_texts (told marks.old.items) (KeyOf key ∷ [])) }
 {
     add_words(marks, layout, x, KEY, 100, Words::Key(key))
 }
 
 /// Adds a spot of the key.
 fn add_sample(marks: &mut Run<Mark>, layout: &Layout, x: u64, fill: Fill) -> Result<(), Memory>
-    ensures { AddsTrims marks.old.items marks.new.items }
+    ensures { OnOk result (told marks.new.items ≡ told marks.old.items) }
 {
     let sample = Mark::Sample {
         x: layout.hundredths(x),
@@ -75,7 +79,7 @@ fn add_sample(marks: &mut Run<Mark>, layout: &Layout, x: u64, fill: Fill) -> Res
 
 /// Adds the colours of the stacks.
 fn add_colours(marks: &mut Run<Mark>, layout: &Layout) -> Result<(), Memory>
-    ensures { AddsTrims marks.old.items marks.new.items }
+    ensures { OnOk result (told marks.new.items ≡ told marks.old.items) }
 {
     for stack in 0..COLOURS {
         add_sample(marks, layout, 245 + 105 * stack as u64, Fill::Stack(stack))?;
@@ -85,7 +89,7 @@ fn add_colours(marks: &mut Run<Mark>, layout: &Layout) -> Result<(), Memory>
 
 /// Adds a line as a cut of this level is drawn.
 fn add_cut(marks: &mut Run<Mark>, layout: &Layout, level: u32) -> Result<(), Memory>
-    ensures { AddsTrims marks.old.items marks.new.items }
+    ensures { OnOk result (told marks.new.items ≡ told marks.old.items) }
 {
     let x = layout.hundredths(4900 + 60 * u64::from(level));
     let line = Line {
@@ -100,7 +104,7 @@ fn add_cut(marks: &mut Run<Mark>, layout: &Layout, level: u32) -> Result<(), Mem
 
 /// Adds lines as cuts are drawn.
 fn add_cuts(marks: &mut Run<Mark>, layout: &Layout) -> Result<(), Memory>
-    ensures { AddsTrims marks.old.items marks.new.items }
+    ensures { OnOk result (told marks.new.items ≡ told marks.old.items) }
 {
     for level in 1..5 {
         add_cut(marks, layout, level)?;
@@ -110,7 +114,7 @@ fn add_cuts(marks: &mut Run<Mark>, layout: &Layout) -> Result<(), Memory>
 
 /// Adds what the colours and the lines of the picture stand for.
 fn add_keys(marks: &mut Run<Mark>, layout: &Layout) -> Result<(), Memory>
-    ensures { AddsTrims marks.old.items marks.new.items }
+    ensures { OnOk result (told marks.new.items ≡ with_texts (told marks.old.items) key_words) }
 {
     add_colours(marks, layout)?;
     add_key(marks, layout, 960, Key::Stacks)?;
@@ -129,14 +133,14 @@ fn add_keys(marks: &mut Run<Mark>, layout: &Layout) -> Result<(), Memory>
 fn add_verdict(
     marks: &mut Run<Mark>,
     layout: &Layout,
+    instance: &Instance,
     verdict: &Verdict,
-    area: u64,
 ) -> Result<(), Memory>
-    ensures { AddsTrims marks.old.items marks.new.items }
+    ensures { OnOk result (told marks.new.items ≡ with_texts (told marks.old.items) (verdict_words instance.now verdict.now)) }
 {
     match *verdict {
         Verdict::Lawful(loss) => {
-            let words = Words::Loss(loss, thousandths(loss, area));
+            let words = Words::Loss(loss, thousandths(loss, instance.area()));
             add_words(marks, layout, 200, VERDICT, 120, words)
         }
         Verdict::Broken(broken) => {
@@ -150,12 +154,13 @@ fn add_verdict(
 pub(crate) fn add_legend(
     marks: &mut Run<Mark>,
     layout: &Layout,
+    instance: &Instance,
     verdict: &Verdict,
     counts: &Counts,
 ) -> Result<(), Memory>
-    ensures { AddsTrims marks.old.items marks.new.items }
+    ensures { OnOk result (told marks.new.items ≡ with_texts (told marks.old.items) (verdict_words instance.now verdict.now ++ CountsOf counts.now.plates counts.now.items ∷ key_words)) }
 {
-    add_verdict(marks, layout, verdict, counts.area)?;
+    add_verdict(marks, layout, instance, verdict)?;
     let words = Words::Counts(counts.plates, counts.items);
     add_words(marks, layout, 200, COUNTS, 100, words)?;
     add_keys(marks, layout)

@@ -3,11 +3,9 @@
 use cut_model::{Broken, Row, Rule};
 use glass_base::Defect;
 
-/// One element of a picture. All places and sizes are in mm. The y axis of a picture points down, that of a plate's group up.
+/// One element of a picture, between its beginning and its end. All places and sizes are in mm. The y axis of a picture points down, that of a plate's group up.
 #[derive(Clone, Copy)]
 pub enum Mark {
-    /// The beginning of the picture.
-    Head(Frame),
     /// The beginning of the group of a plate: its number, and where its lower left corner stands.
     Plate { number: u32, x: u64, y: u64 },
     /// The rectangle of a row.
@@ -26,8 +24,6 @@ pub enum Mark {
     Sample { x: u64, y: u64, fill: Fill },
     /// A line of text.
     Label(Label),
-    /// The end of the picture.
-    End,
 }
 
 /// The sizes of a picture.

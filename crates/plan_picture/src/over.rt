@@ -1,13 +1,17 @@
 //! What is drawn over the pieces of a plate.
 
+ghost use Rattle.std.specs.Prelude.{◌≡◌, [], ◌∷◌, ◌++◌, filter, OnOk};
+ghost use Rattle.cut_model.specs.Tree.{type_number};
 ghost use Rattle.cut_model.specs.Visits.{IsSmall};
+ghost use Rattle.plan_picture.specs.Pictures.{is_breach};
+ghost use Rattle.plan_picture.specs.Texts.{heading};
+ghost use Rattle.plan_picture.specs.inner.Adding.{AddsTrue, words_in};
 
-use crate::labels::{add_item, add_residual};
-use crate::layout::Layout;
+use crate::labels::{add_item, add_line, add_residual};
 use crate::mark::{Label, Line};
 use crate::sheet::Sheet;
 use cut_model::{Along, Family, Row, Sort};
-use glass_base::{Defect, Item, Memory, Run, append};
+use glass_base::{Memory, Run, append};
 use std::alloc::Global;
 
 /// What is drawn over the pieces of a plate, and beside them.
@@ -15,9 +19,8 @@ use std::alloc::Global;
 pub(crate) struct Over {
     pub cuts: Run<Line>,
     pub labels: Run<Label>,
-    /// The piece that breaks a rule, if it is on this plate, and the defect by which it does, if it is by one.
-    pub broken: Option<Row>,
-    pub struck: Option<Defect>,
+    /// The pieces that are outlined: the one that breaks a rule, if it is on this plate.
+    pub outlined: Run<Row>,
 }
 
 /// The cut between a piece and the neighbour before it, if there is one.
@@ -43,50 +46,70 @@ fn cut_before(family: &Family) -> Option<Line>
     })
 }
 
-/// Whether an item is turned: its sides are not its length and its width. An item that the batch does not have is not.
-fn is_turned(row: &Row, item: Option<Item>) -> bool {
-    match item {
-        None => false,
-        Some(item) => row.width != item.length || row.height != item.width,
+/// Adds the cut before a piece, if there is one.
+fn add_cut(cuts: &mut Run<Line>, family: &Family) -> Result<(), Memory>
+    requires { IsSmall family.now }
+{
+    match cut_before(family) {
+        None => Ok(()),
+        Some(cut) => append(cuts, cut),
+    }
+}
+
+/// Adds a row, if it is the piece that breaks a rule.
+fn add_breach(outlined: &mut Run<Row>, sheet: &Sheet<'_>, row: Row) -> Result<(), Memory>
+    ensures { OnOk result (outlined.new.items ≡ outlined.old.items ++ filter (is_breach sheet.now.broken) (row ∷ [])) }
+{
+    if sheet.is_breach(&row) {
+        append(outlined, row)
+    } else {
+        Ok(())
+    }
+}
+
+/// Adds the texts in a piece, as far as they fit.
+fn add_words(labels: &mut Run<Label>, sheet: &Sheet<'_>, family: &Family) -> Result<(), Memory>
+    requires { family.now.row.kind ≡ type_number family.now.sort }
+    ensures { OnOk result (AddsTrue sheet.now.instance.now family.now.row labels.old.items labels.new.items) }
+{
+    match family.sort {
+        Sort::Item(number) => add_item(labels, sheet, &family.row, number),
+        Sort::Residual => add_residual(labels, sheet, &family.row),
+        Sort::Waste | Sort::Branch => Ok(()),
     }
 }
 
 impl Over {
     /// Nothing.
-    pub fn new(alloc: Global) -> Over {
+    pub fn new(alloc: Global) -> Over
+        ensures labels { result.labels.items ≡ [] }
+        ensures outlined { result.outlined.items ≡ [] }
+    {
         Over {
             cuts: Run::new(alloc),
             labels: Run::new(alloc),
-            broken: None,
-            struck: None,
+            outlined: Run::new(alloc),
         }
     }
 
-    /// Notes the text above a plate of this number and width.
-    pub fn begin(&mut self, layout: &Layout, plate: u32, width: u32) -> Result<(), Memory> {
-        append(&mut self.labels, layout.heading(plate, width))
+    /// Notes the text above a plate.
+    pub fn begin(&mut self, sheet: &Sheet<'_>, plate: u32) -> Result<(), Memory>
+        ensures labels { OnOk result (words_in self.new.labels.items ≡ words_in self.old.labels.items ++ heading sheet.now.instance.now plate ∷ []) }
+        ensures outlined { self.new.outlined.items ≡ self.old.outlined.items }
+    {
+        let width = sheet.instance.width(plate);
+        add_line(&mut self.labels, sheet.layout.heading(plate, width))
     }
 
     /// Notes what is drawn over a piece.
     pub fn note(&mut self, sheet: &Sheet<'_>, family: &Family) -> Result<(), Memory>
-        requires { IsSmall family.now }
+        requires small { IsSmall family.now }
+        requires named { family.now.row.kind ≡ type_number family.now.sort }
+        ensures labels { OnOk result (AddsTrue sheet.now.instance.now family.now.row self.old.labels.items self.new.labels.items) }
+        ensures outlined { OnOk result (self.new.outlined.items ≡ self.old.outlined.items ++ filter (is_breach sheet.now.broken) (family.now.row ∷ [])) }
     {
-        let row = &family.row;
-        let layout = &sheet.layout;
-        if let Some(cut) = cut_before(family) {
-            append(&mut self.cuts, cut)?;
-        }
-        if let Some(breach) = sheet.breach_of(row) {
-            self.broken = Some(family.row);
-            self.struck = sheet.defect_of(&breach);
-        }
-        match family.sort {
-            Sort::Item(number) => {
-                let turned = is_turned(row, sheet.item(family.sort));
-                add_item(&mut self.labels, layout, row, number, turned)
-            }
-            Sort::Residual => add_residual(&mut self.labels, layout, row),
-            Sort::Waste | Sort::Branch => Ok(()),
-        }
+        add_cut(&mut self.cuts, family)?;
+        add_breach(&mut self.outlined, sheet, family.row)?;
+        add_words(&mut self.labels, sheet, family)
     }
 }

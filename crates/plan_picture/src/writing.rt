@@ -3,7 +3,7 @@
 ghost use Rattle.std.specs.Prelude.{◌≡◌, ◌++◌, ◌≤◌, OnOk, IfOk};
 ghost use Rattle.std.specs.List.{flat_map};
 ghost use Rattle.std.specs.String.{string_bytes};
-ghost use Rattle.plan_picture.specs.Marks.{cut_text, defect_text, fill_class, head_text, item_class, label_text, look_class, mark_text, name_text, outline_text, piece_text, place_text, plate_text, rect_text, ring_text, row_class, sample_text, spot_text, stack_class, title_text};
+ghost use Rattle.plan_picture.specs.Marks.{cut_text, defect_text, fill_class, head_text, item_class, label_text, look_class, mark_text, name_text, outline_text, picture_text, piece_text, place_text, plate_text, rect_text, ring_text, row_class, sample_text, spot_text, stack_class, title_text};
 ghost use Rattle.cut_model.specs.Words.{breach_text};
 ghost use Rattle.plan_picture.specs.Words.{number_text, share_text, sides_text, words_text};
 
@@ -355,7 +355,6 @@ fn write_mark(text: &mut String, mark: &Mark) -> Result<(), Memory>
     ensures { OnOk result (string_bytes text.new ≡ string_bytes text.old ++ mark_text mark.now) }
 {
     match *mark {
-        Mark::Head(frame) => write_head(text, &frame),
         Mark::Plate { number, x, y } => write_plate(text, number, x, y),
         Mark::Piece(row, look) => write_piece(text, &row, &look),
         Mark::Cut(line) => write_cut(text, &line),
@@ -365,7 +364,6 @@ fn write_mark(text: &mut String, mark: &Mark) -> Result<(), Memory>
         Mark::PlateEnd => Ok(text.push_str("</g>\n")?),
         Mark::Sample { x, y, fill } => write_sample(text, x, y, fill),
         Mark::Label(label) => write_label(text, &label),
-        Mark::End => Ok(text.push_str("</svg>\n")?),
     }
 }
 
@@ -379,11 +377,13 @@ fn write_marks(text: &mut String, marks: &[Mark]) -> Result<(), Memory>
     Ok(())
 }
 
-/// The text of these elements. It fails only where memory runs out.
-pub(crate) fn text_of(alloc: Global, marks: &[Mark]) -> Result<Run<u8>, Memory>
-    ensures { IfOk result (λ text. text.items ≡ flat_map mark_text marks.now) }
+/// The text of a picture with these elements. It fails only where memory runs out.
+pub(crate) fn text_of(alloc: Global, frame: &Frame, marks: &[Mark]) -> Result<Run<u8>, Memory>
+    ensures { IfOk result (λ text. text.items ≡ picture_text frame.now marks.now) }
 {
     let mut text = String::new(alloc);
+    write_head(&mut text, frame)?;
     write_marks(&mut text, marks)?;
+    text.push_str("</svg>\n")?;
     Ok(Run::from(text.into_bytes()))
 }

@@ -1,21 +1,20 @@
 -- The parts of what a search found.
-use Rattle.std.specs.Prelude.{◌≡◌, ◌≤◌, ◌<◌, ◌*◌, ℕ, length, List, [], ◌∷◌, Bool, true, false, map, option_map, Option, Some, None}
+use Rattle.std.specs.Prelude.{◌≡◌, ◌≤◌, ◌<◌, ◌*◌, ℕ, length, List, [], ◌∷◌, Bool, true, false, map, option_map, IfSome, Option, Some, None}
 use Rattle.glass_base.specs.Problem.{Problem}
 use Rattle.glass_base.specs.Run.{Listed}
+use Rattle.glass_base.specs.declared.role.Role.TheVariants as role
 use Rattle.cut_model.specs.declared.plan.Plan.{Plan}
 use Rattle.cut_model.specs.declared.steps.Step.{Step}
 use Rattle.cut_model.specs.Fits.{Fits}
 use Rattle.cut_model.specs.Loss.{loss_of as plan_loss}
 use Rattle.cut_model.specs.Tree.{Forest, count, tree}
-use Rattle.plan_box.specs.Frames.{frame_of}
-use Rattle.plan_box.specs.Ranges.{PlainBox, root_of}
 use Rattle.plan_draft.specs.Drafts.{IsDraft}
 use Rattle.best_board.specs.declared.entry.Entry.{Entry}
 use Rattle.best_board.specs.Improvements.{AreImprovements, Found, found_in, last_loss}
 use Rattle.cert_log.specs.declared.certificate.Certificate.{Certificate}
 use Rattle.cert_log.specs.declared.history.History.{History}
 use Rattle.cert_log.specs.Good.{IsGood, IsVersion}
-use Rattle.cert_log.specs.Lawful.{Course, IsLawful, loss_of, no_loss, trace_loss}
+use Rattle.cert_log.specs.Lawful.{IsLawful, loss_of, no_loss, trace_loss}
 use Rattle.cert_log.specs.Outcomes.{IsHead}
 use Rattle.cert_log.specs.Splits.{IsSearched}
 use Rattle.cert_log.specs.Texts.{head_of}
@@ -23,16 +22,9 @@ use Rattle.plan_csv.specs.Solutions.{solution_text}
 use Rattle.plan_freeze.specs.Frozen.{later_plates}
 use Rattle.plan_freeze.specs.Rests.{IsRest}
 use Rattle.glass_run.specs.Freezes.{IsFoundFrom}
-use Rattle.glass_run.specs.Plans.{AreTold, IsFound, handled, root_ranges}
+use Rattle.glass_run.specs.Plans.{AreTold, IsFound, course, handled, root_ranges}
 use Rattle.glass_run.specs.Said.{IsPlanIn}
-
--- a search from these boxes, that is to beat this loss and may handle so many boxes
-abbrev pub course_from : List PlainBox → ℕ → ℕ → Course
-course_from boxes to_beat budget = record { boxes = boxes; first = to_beat; budget = budget }
-
--- one from the box of all plans
-abbrev pub course : Problem → ℕ → ℕ → Course
-course b to_beat budget = course_from (root_of (frame_of b) 0 ∷ []) to_beat budget
+use Rattle.glass_run.specs.Texts.{limit_of}
 
 -- where there is a draft, the loss is known, and no greater than the draft's
 abbrev pub IsNoGreater : Problem → ℕ → Type 0
@@ -87,8 +79,10 @@ pub record IsFoundBehind (b : Problem) (plan : Forest) (k budget : ℕ) (c : Cer
   pub head : IsHead (head_of c)
 
 -- the certificate of a history
-pub record Certifies (b : Problem) (budget to_beat : ℕ) (loss : Option ℕ) (c : Certificate) : Type 0 where
-  pub good : IsGood b (root_ranges b) loss c
+pub record Certifies (b : Problem) (budget to_beat : ℕ) (h : History) (c : Certificate) : Type 0 where
+  pub good : IsGood b (root_ranges b) (loss_of h.best) c
+  pub handled_is : handled c ≡ length h.log.items
+  pub left_is : c.left ≡ length h.left.items
   pub version : IsVersion 2 c
   pub in_budget : handled c ≤ budget
   pub spent : 0 < c.left → handled c ≡ budget
@@ -97,6 +91,10 @@ pub record Certifies (b : Problem) (budget to_beat : ℕ) (loss : Option ℕ) (c
 -- the text of a plan says this plan, if there is one
 abbrev pub IsSaidByItsText : Problem → Option Forest → Type 0
 IsSaidByItsText b plan = IsPlanIn b (option_map (solution_text b) plan) plan
+
+-- the text of a plan, if there is one, has no more bytes than one that is read
+abbrev pub IsShortToo : Problem → Option Forest → Type 0
+IsShortToo b plan = IfSome (option_map (solution_text b) plan) (λ text. length text ≤ limit_of role.Plan)
 
 -- a plan fits, if there is one
 abbrev pub FitsToo : Option Plan → Type 0

@@ -1,7 +1,7 @@
 use Rattle.std.proofs.Common.{arith}
 use Rattle.cut_model.specs.Tree.{tree}
 use Rattle.glass_run.proofs.Searched.{best_plan}
-use Rattle.glass_run.proofs.StoredTexts.{plan_again}
+use Rattle.glass_run.proofs.StoredTexts.{plan_again, plan_short}
 use Rattle.glass_run.proofs.planning.best_plan.Goals as goal
 
 pub returns-in_ok-plan-in-Some-clause-loss : goal.returns-in_ok-plan-in-Some-clause-loss
@@ -12,3 +12,6 @@ returns-in_ok-plan-in-Some-clause-loss c =
 
 pub returns-in_ok-plan-in-Some-clause-said : goal.returns-in_ok-plan-in-Some-clause-said
 returns-in_ok-plan-in-Some-clause-said c = plan_again c.args.instance.now c.in_ok-plan-in-Some.plan c.items-items.ensures.rules c.in_ok-plan-in-Some.ensures.good
+
+pub returns-in_ok-plan-in-Some-clause-short : goal.returns-in_ok-plan-in-Some-clause-short
+returns-in_ok-plan-in-Some-clause-short c = plan_short c.args.instance.now c.in_ok-plan-in-Some.plan c.items-items.ensures.rules c.in_ok-plan-in-Some.ensures.good

@@ -4,7 +4,7 @@ use Rattle.std.proofs.lemmas.List.Elements.{All-contains, Contains-push}
 use Rattle.cert_log.specs.declared.certificate.Certificate.{Certificate}
 use Rattle.cert_log.specs.Outcomes.{IsHead}
 use Rattle.cert_log.specs.Texts.{head_of}
-use Rattle.glass_run.specs.inner.Searches.{course}
+use Rattle.glass_run.specs.Plans.{course}
 use Rattle.glass_run.proofs.Searched.{certified, no_certificate}
 use Rattle.glass_run.proofs.planning.certificate_of.Goals as goal
 

@@ -15,5 +15,5 @@ returns-clause-found g c =
     let is = c.in_ok-searched.ensures.history in
     let certifies = c.in_ok-certificate.ensures.certifies c.args.budget is.to_beat is.lawful in
     let improvements = told b is.to_beat searched.history.best c.in_ok-certificate.certificate.loss c.args.watch searched.improvements rules certifies.good.loss_is c.in_ok-searched.ensures.watched in
-    found b c.args.budget c.args.watch searched.history c.in_ok-certificate.certificate _ (losses_in searched.improvements) rules (omega (arith, c.requires.budget.1)) is
-    certifies c.in_ok-plan.ensures.loss c.in_ok-plan.ensures.said c.in_ok-certificate.ensures.head improvements
+    found b c.args.budget c.args.watch searched.history c.in_ok-certificate.certificate _ (losses_in searched.improvements) rules c.requires.budget.1 is
+    certifies c.in_ok-plan.ensures.loss c.in_ok-plan.ensures.said c.in_ok-plan.ensures.short c.in_ok-certificate.ensures.head improvements

@@ -8,7 +8,7 @@ use Rattle.cert_log.specs.Lawful.{loss_of, no_loss}
 use Rattle.cert_resume.proofs.Numbered.{can_be_walked, left_counted}
 use Rattle.box_workers.specs.Runs.{first_loss}
 use Rattle.glass_run.specs.Plans.{root_ranges}
-use Rattle.glass_run.specs.inner.Searches.{course_from}
+use Rattle.glass_run.specs.Plans.{course_from}
 use Rattle.glass_run.proofs.Resumed.{resumed, searched_on, small_too, zip_length}
 use Rattle.glass_run.proofs.resuming.go_on.Goals as goal
 

@@ -2,7 +2,7 @@ use Rattle.std.proofs.Common.{rules, ◌≡◌, List, [], sym, subst}
 use Rattle.plan_box.specs.Ranges.{PlainBox}
 use Rattle.cert_log.specs.Lawful.{IsLawful}
 use Rattle.box_workers.specs.Runs.{first_loss}
-use Rattle.glass_run.specs.inner.Searches.{course_from}
+use Rattle.glass_run.specs.Plans.{course_from}
 use Rattle.glass_run.proofs.resuming.history_of_boxes.Goals as goal
 
 pub returns-then-is_empty : goal.returns-then-is_empty

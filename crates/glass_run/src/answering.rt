@@ -1,0 +1,147 @@
+//! What the commands that do not search answer to their texts.
+
+ghost use Rattle.std.specs.Prelude.{◌≡◌, ◌↔◌, IfOk, IsTrue, MatchResult, option_map};
+ghost use Rattle.command_line.specs.Grammar.{Line, lead_in, stored_names};
+ghost use Rattle.command_line.specs.Lines.{line_in};
+ghost use Rattle.glass_gen.specs.Drawn.{IsDrawn};
+ghost use Rattle.glass_run.specs.Commands.{AnswersInstance, HasInstance, HasNoInstance, Searches, flaws_of};
+ghost use Rattle.glass_run.specs.inner.Asked.{IsAsked, MaySearch};
+ghost use Rattle.glass_run.specs.inner.Forms.{OnTold, answer_in, texts_in};
+
+use crate::checking::convert_texts;
+use crate::checking_behind::verify_from;
+use crate::drafting::draft_instance;
+use crate::drawing::draw_text;
+use crate::instances::instance_of;
+use crate::judging::judge_text;
+use crate::notices::{Stop, reply_at, reply_with};
+use crate::replaying::replay_text;
+use crate::reply::Reply;
+use crate::sheeting::sheet_text;
+use crate::texts::{Text, text_of_role, text_or_empty};
+use command_line::{CommandLine, Count, Lead, Verb};
+use glass_base::{Instance, Memory, Role, Run};
+use glass_gen::generate;
+use std::alloc::Global;
+
+/// What a command comes to without a search.
+#[derive(Drop)]
+pub(crate) enum Asked {
+    /// Its reply.
+    Reply(Reply),
+    /// A search in this instance, beside these texts.
+    Search {
+        instance: Instance,
+        texts: Run<Text>,
+    },
+}
+
+/// Whether a command searches.
+pub(crate) fn searches(verb: Verb) -> bool
+    ensures { IsTrue result ↔ Searches verb }
+{
+    matches!(verb, Verb::Plan | Verb::Gen | Verb::Resume | Verb::Freeze)
+}
+
+/// The reply of a command that does not search to the instance that its texts say.
+fn reply_at_once(
+    alloc: Global,
+    line: &CommandLine<'_>,
+    texts: &[Text],
+    instance: &Instance,
+) -> Result<Reply, Memory>
+    requires { Searches (line_in line.now).verb → ⊥ }
+    ensures { let said = line_in line.now in IfOk result (λ r. AnswersInstance said.verb said (texts_in texts.now) instance.now (answer_in (stored_names said) r)) }
+{
+    match line.verb {
+        Verb::Draft => draft_instance(alloc, instance),
+        Verb::Judge => {
+            let notice = judge_text(alloc, instance, text_or_empty(texts, Role::Plan))?;
+            Ok(reply_with(alloc, notice))
+        }
+        Verb::Verify => {
+            let plan = text_of_role(texts, Role::Plan);
+            let k = line.count(Count::Frozen);
+            verify_from(alloc, instance, plan, text_or_empty(texts, Role::Cert), k)
+        }
+        Verb::Convert => {
+            let plan = text_of_role(texts, Role::Plan);
+            convert_texts(alloc, instance, plan, text_or_empty(texts, Role::Cert))
+        }
+        Verb::Sheet => sheet_text(alloc, instance, text_or_empty(texts, Role::Plan)),
+        Verb::Replay => {
+            let notice = replay_text(alloc, instance, text_or_empty(texts, Role::Sheet))?;
+            Ok(reply_with(alloc, notice))
+        }
+        Verb::Picture => draw_text(alloc, instance, text_or_empty(texts, Role::Plan)),
+        Verb::Plan | Verb::Gen | Verb::Resume | Verb::Freeze => unreachable!(),
+    }
+}
+
+/// The text of the defects that a command plans with. A draft is made on plates without defects.
+fn flaws(verb: Verb, texts: &[Text]) -> Option<&[u8]>
+    ensures { option_map (λ bytes. bytes.now) result ≡ flaws_of verb (texts_in texts.now) }
+{
+    match verb {
+        Verb::Draft => None,
+        Verb::Plan
+        | Verb::Gen
+        | Verb::Judge
+        | Verb::Verify
+        | Verb::Convert
+        | Verb::Resume
+        | Verb::Freeze
+        | Verb::Sheet
+        | Verb::Replay
+        | Verb::Picture => text_of_role(texts, Role::Defects),
+    }
+}
+
+/// The instance that the numbers of a line give.
+fn drawn_instance(alloc: Global, line: &CommandLine<'_>) -> Result<Instance, Memory>
+    ensures { let said = line_in line.now in IfOk result (λ instance. IsDrawn instance (lead_in said Lead.Start) (lead_in said Lead.Items) (lead_in said Lead.Defects)) }
+{
+    let start = line.lead(Lead::Start);
+    let items = line.lead(Lead::Items);
+    let defects = line.lead(Lead::Defects);
+    generate(alloc, start, items, defects)
+}
+
+/// The instance of a line: the one that its texts say, or the one that its numbers give.
+fn instance_for(alloc: Global, line: &CommandLine<'_>, texts: &[Text]) -> Result<Instance, Stop>
+    ensures { let said = line_in line.now in MatchResult result (HasInstance said.verb said (texts_in texts.now)) (OnTold (HasNoInstance said.verb (texts_in texts.now))) }
+{
+    match line.verb {
+        Verb::Gen => Ok(drawn_instance(alloc, line)?),
+        Verb::Draft
+        | Verb::Plan
+        | Verb::Judge
+        | Verb::Verify
+        | Verb::Convert
+        | Verb::Resume
+        | Verb::Freeze
+        | Verb::Sheet
+        | Verb::Replay
+        | Verb::Picture => instance_of(alloc, texts, flaws(line.verb, texts)),
+    }
+}
+
+/// What a command comes to with its texts, as far as that takes no search.
+pub(crate) fn asked_of_texts(
+    alloc: Global,
+    line: &CommandLine<'_>,
+    texts: Run<Text>,
+) -> Result<Asked, Memory>
+    ensures asked { let said = line_in line.now in IfOk result (IsAsked said (texts_in texts.items)) }
+    ensures searches { IfOk result (MaySearch (line_in line.now)) }
+{
+    let instance = match instance_for(alloc, line, texts.as_slice()) {
+        Ok(instance) => instance,
+        Err(stop) => return Ok(Asked::Reply(reply_at(alloc, stop)?)),
+    };
+    if searches(line.verb) {
+        return Ok(Asked::Search { instance, texts });
+    }
+    let reply = reply_at_once(alloc, line, texts.as_slice(), &instance)?;
+    Ok(Asked::Reply(reply))
+}
