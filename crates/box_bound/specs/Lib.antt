@@ -1,4 +1,5 @@
 pub mod Kept
 pub mod Seen
 pub mod Leastings
+pub mod Spans
 pub mod inner

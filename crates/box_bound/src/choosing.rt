@@ -1,8 +1,9 @@
 //! The variable at which a box is split.
 
-ghost use Rattle.std.specs.Prelude.{◌≡◌, ◌<◌, IfSome, IsTrue, MatchOption, false, length, true};
+ghost use Rattle.std.specs.Prelude.{◌≡◌, ◌<◌, IsTrue, MatchOption, false, length, true};
 ghost use Rattle.plan_box.specs.Decisions.{IsPoint, decided as decided_of, is_discrete, is_free};
 ghost use Rattle.plan_box.specs.declared.var.Var.{Var as VarOf};
+ghost use Rattle.box_bound.specs.Spans.{IsWidest};
 
 use crate::cuts::{Cut, cuts_read};
 use crate::leasts::Leasts;
@@ -11,7 +12,7 @@ use plan_trace::TraceBroken;
 
 /// The first discrete number of a step that can be split.
 fn first_discrete(bx: &PlanBox, step: u32) -> Option<Var>
-    ensures { MatchOption result ((var : VarOf) → is_discrete var ≡ true → is_free bx.now.ranges step var ≡ false) (λ var. IsTrue (is_free bx.now.ranges step var)) }
+    ensures { MatchOption result ((var : VarOf) → is_discrete var ≡ true → is_free bx.now.ranges step var ≡ false) (λ var. IsTrue (is_free bx.now.ranges step var) × (is_discrete var ≡ true)) }
 {
     if bx.free(step, Var::Stack) {
         return Some(Var::Stack);
@@ -53,7 +54,7 @@ fn first_cut(bx: &PlanBox, step: u32) -> Option<Var>
 /// A variable that can be split, or none exactly where the box is a point. A discrete number of the first undecided step is
 /// taken before a cut of a decided one.
 pub fn choose(bx: &PlanBox) -> Option<(u32, Var)>
-    ensures { MatchOption result (IsPoint bx.now.ranges) (λ p. IsTrue (is_free bx.now.ranges p.0 p.1)) }
+    ensures { MatchOption result (IsPoint bx.now.ranges) (λ p. IsTrue (is_free bx.now.ranges p.0 p.1) × (is_discrete p.1 ≡ false → (var : VarOf) → is_discrete var ≡ true → is_free bx.now.ranges (length (decided_of bx.now.ranges)) var ≡ false)) }
 {
     let decided = bx.decided();
     if let Some(var) = first_discrete(bx, decided) {
@@ -69,7 +70,7 @@ pub fn choose(bx: &PlanBox) -> Option<(u32, Var)>
 
 /// Of these cuts the free one with the widest span from its least value to its high end, if one is free.
 fn widest_free(leasts: &Leasts, bx: &PlanBox, cuts: &[Cut]) -> Option<(u32, Var)>
-    ensures { IfSome result (λ p. IsTrue (is_free bx.now.ranges p.0 p.1)) }
+    ensures { IsWidest leasts.now bx.now.ranges cuts.now result }
 {
     let mut found = None;
     let mut widest = 0;

@@ -69,6 +69,7 @@ impl Leasts {
     ghost use Rattle.plan_box.specs.Decisions.{is_discrete};
     ghost use Rattle.box_bound.specs.Kept.{blank, late};
     ghost use Rattle.box_bound.specs.Leastings.{IsFor, IsOf, least_of};
+    ghost use Rattle.box_bound.specs.Spans.{span_at};
 
     /// Of this instance, with no step.
     pub fn new(alloc: Global, instance: &Instance) -> Result<Leasts, Memory>
@@ -144,7 +145,9 @@ impl Leasts {
     }
 
     /// How many numbers a cut can be from its least value to its high end; 0 where it can be nowhere, or the step is not kept.
-    pub(crate) fn span(&self, step: u32, var: Var) -> u32 {
+    pub(crate) fn span(&self, step: u32, var: Var) -> u32
+        ensures { result ≡ span_at self.now step var }
+    {
         let Some(kept) = self.kept().get(step as usize) else {
             return 0;
         };

@@ -1,7 +1,7 @@
 //! What the system's answers mean, and what a store does about them. Each decision takes plain values, so that its contract
 //! says the whole of it, and what is left to the calls themselves is trusted.
 
-ghost use Rattle.std.specs.Prelude.{◌≡◌, ◌↔◌, Contains, IfErr, IfOk, IsErrAnd, IsErrOf, IsOkAnd, IsTrue, MatchResult, option_map};
+ghost use Rattle.std.specs.Prelude.{◌≡◌, ◌↔◌, Contains, IfErr, IfOk, IsErrAnd, IsErrOf, IsTrue, MatchResult, option_map};
 ghost use Rattle.std.specs.IoError.{error_kind};
 ghost use Rattle.std.specs.Fs.{file_type};
 ghost use Rattle.std.specs.Path.{path_buf_bytes};
@@ -49,7 +49,7 @@ pub(crate) enum Way {
 }
 
 /// What a file is of which these bytes were read: all of it, or more of it than the limit.
-fn found(bytes: Vec<u8>, limit: u64) -> Fetched
+pub(crate) fn found(bytes: Vec<u8>, limit: u64) -> Fetched
     ensures { IsFound (Some bytes.items) limit result }
 {
     if bytes.len() as u64 > limit {
@@ -70,24 +70,13 @@ fn trouble(kind: ErrorKind) -> Trouble
 }
 
 /// What a call answers that ended in an error of this kind, where a name under which nothing stands is no fault.
-fn unread<T: Drop>(kind: ErrorKind, nothing: T) -> Result<T, Trouble>
+pub(crate) fn unread<T: Drop>(kind: ErrorKind, nothing: T) -> Result<T, Trouble>
     ensures { StandsFor ErrorKind.NotFound nothing kind result }
 {
     match kind {
         ErrorKind::NotFound => Ok(nothing),
         ErrorKind::OutOfMemory => Err(Trouble::Memory),
         _ => Err(Trouble::Failed),
-    }
-}
-
-/// What a fetch answers after this read, which took one byte more than the limit at the most.
-pub(crate) fn fetched(outcome: io::Result<Vec<u8>>, limit: u64) -> Result<Fetched, Trouble>
-    ensures read { IfOk outcome (λ bytes. IsOkAnd result (IsFound (Some bytes.items) limit)) }
-    ensures unread { IfErr outcome (λ error. StandsFor ErrorKind.NotFound Fetched.Absent (error_kind error) result) }
-{
-    match outcome {
-        Ok(bytes) => Ok(found(bytes, limit)),
-        Err(error) => unread(error.kind(), Fetched::Absent),
     }
 }
 
@@ -136,6 +125,14 @@ pub(crate) fn written<T>(outcome: io::Result<T>) -> Result<T, Trouble>
         Ok(value) => Ok(value),
         Err(_) => Err(Trouble::Failed),
     }
+}
+
+/// What a store answers after this write to what stands there, of which no new file comes.
+pub(crate) fn written_as_it_is(outcome: io::Result<()>) -> Result<Option<FileId>, Trouble>
+    ensures { MatchResult outcome (λ _. result ≡ Ok None) (λ _. IsErrOf result Failed) }
+{
+    written(outcome)?;
+    Ok(None)
 }
 
 /// What stands under a name of which this was found, and which file it is.

@@ -1,9 +1,13 @@
 //! A store among the files of the system that loses nothing: the bytes go to a new file beside the name, which takes the name
 //! only once it is whole. What the calls do is trusted; what they mean is decided in `decisions`.
 
+ghost use Rattle.std.specs.Prelude.{◌≡◌, OnOk, false, true};
+ghost use Rattle.std.specs.Fs.{asks_create, asks_create_new, asks_truncate, asks_write};
+ghost use Rattle.std.specs.Io.KnownBytes.{Appends};
+
 use crate::decisions::{
     FileId, Standing, Way, called, is_still, looked_up, made, name_beside, way_to_store,
-    what_stands, written,
+    what_stands, written, written_as_it_is,
 };
 use crate::files::Trouble;
 use std::alloc::Global;
@@ -53,13 +57,36 @@ fn behind_links<R: rt::Files>(rt: &R, alloc: Global, name: &str) -> Result<PathB
     Err(Trouble::Failed)
 }
 
+/// How a file is opened that has to let itself be written: as it is, where it is.
+fn to_look_at() -> OpenOptions
+    ensures written { asks_write result ≡ true }
+    ensures whole { asks_truncate result ≡ false }
+    ensures there { asks_create result ≡ false }
+{
+    let mut options = OpenOptions::new();
+    options.write(true);
+    options
+}
+
+/// How a new file is made: to be written, and under no name that is taken.
+fn to_make(mode: u32) -> OpenOptions
+    ensures written { asks_write result ≡ true }
+    ensures new { asks_create_new result ≡ true }
+{
+    let mut options = OpenOptions::new();
+    options.mode(mode);
+    options.write(true);
+    options.create_new(true);
+    options
+}
+
 /// The permissions of the file under this name, which has to be this very file and to let itself be written.
 fn permissions_of<R: rt::Files>(
     rt: &R,
     target: &PathBuf,
     id: FileId,
 ) -> Result<Permissions, Trouble> {
-    let file = called(OpenOptions::new().write(true).open(rt, target))?;
+    let file = called(to_look_at().open(rt, target))?;
     let found = called(file.metadata())?;
     if is_still(what_stands(&found, id_of(&found)), id) {
         Ok(found.permissions())
@@ -75,8 +102,7 @@ fn new_beside<R: rt::Files>(
     target: &PathBuf,
     mode: u32,
 ) -> Result<(PathBuf, R::File), Trouble> {
-    let mut options = OpenOptions::new();
-    options.write(true).create_new(true).mode(mode);
+    let options = to_make(mode);
     for number in 0..NAMES_TRIED {
         let Some(name) = name_beside(alloc, target, number)? else {
             return Err(Trouble::Failed);
@@ -89,11 +115,13 @@ fn new_beside<R: rt::Files>(
 }
 
 /// Gives a new file its permissions, where they are not those that it was made with, and its bytes, and says which file it is.
-fn fill<F: Write + OpenFile + Drop>(
-    mut file: F,
+fn fill<F: Write + OpenFile>(
+    file: &mut F,
     permissions: Option<Permissions>,
     bytes: &[u8],
-) -> io::Result<FileId> {
+) -> io::Result<FileId>
+    ensures { OnOk result (Appends (F.contents file.old) (F.contents file.new) bytes.now) }
+{
     if let Some(permissions) = permissions {
         file.set_permissions(permissions)?;
     }
@@ -117,8 +145,9 @@ fn replace<R: rt::Files>(
     } else {
         SHARED
     };
-    let (name, file) = new_beside(rt, alloc, target, mode)?;
-    let filled = fill(file, permissions, bytes);
+    let (name, mut file) = new_beside(rt, alloc, target, mode)?;
+    let filled = fill(&mut file, permissions, bytes);
+    drop(file);
     let outcome = match filled {
         Ok(id) => fs::rename(rt, &name, target).map(|_| id),
         Err(error) => Err(error),
@@ -138,10 +167,7 @@ pub(crate) fn store_under<R: rt::Files>(
     bytes: &[u8],
 ) -> Result<Option<FileId>, Trouble> {
     match way_to_store(standing_under(rt, name)?, used) {
-        Way::AsItIs => {
-            written(fs::write(rt, name, bytes))?;
-            Ok(None)
-        }
+        Way::AsItIs => written_as_it_is(fs::write(rt, name, bytes)),
         Way::Make => {
             let target = behind_links(rt, alloc, name)?;
             Ok(Some(replace(rt, alloc, &target, None, bytes)?))

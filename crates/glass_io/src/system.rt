@@ -1,17 +1,20 @@
 //! The files of the system and standard output. They do not tell what they hold: what a real file keeps is trusted.
 
-ghost use Rattle.std.specs.Prelude.{◌≡◌, ◌≤◌, [], ◌∷◌, ◌++◌, None, OnOk};
+ghost use Rattle.std.specs.Prelude.{◌≡◌, ◌<◌, ◌≤◌, ◌+◌, ◌-◌, ◌^◌, [], ◌∷◌, ◌++◌, None, Some, IfErr, IfOk, IfSome, OnOk, min, take};
+ghost use Rattle.std.specs.IoError.{error_kind};
+ghost use Rattle.glass_io.specs.Fetching.{IsFound};
+ghost use Rattle.glass_io.specs.Storing.{StandsFor};
 ghost use Rattle.glass_io.specs.declared.decisions.FileId.{FileId};
 ghost use Rattle.glass_io.specs.Held.{shelf_of};
 
-use crate::decisions::{FileId, fetched, written};
+use crate::decisions::{FileId, called, found, unread, written};
 use crate::faults::{count_read, one_more};
 use crate::files::{Fetched, Files, Sink, Trouble};
 use crate::storing::{id_of, store_under};
 use glass_base::{Role, Run};
 use std::alloc::Global;
 use std::fs::OpenFile;
-use std::io::{Read, Write};
+use std::io::{ErrorKind, Read, Write};
 use std::{fs, io, rt};
 
 /// The files of the system, by their paths.
@@ -53,22 +56,41 @@ impl<'a, R> StdFiles<'a, R> {
     }
 }
 
-/// The bytes of a file, of which one more than the limit is read at the most. The file is noted as soon as it is open.
-fn read_all<R: rt::Files>(
-    rt: &R,
-    alloc: Global,
-    used: &mut Run<FileId>,
-    name: &str,
-    limit: u64,
-) -> io::Result<Vec<u8>>
+/// The bytes of an open file, of which one more than the limit is read at the most.
+fn read_up_to<F: Read + Drop>(alloc: Global, file: F, limit: u64) -> io::Result<Vec<u8>>
+    ensures { IfOk result (λ bytes. IfSome (F.remaining file) (λ all. bytes.items ≡ take (min (limit + 1) (2 ^ 64 - 1)) all)) }
+{
+    let mut bytes = Vec::new(alloc);
+    file.take(limit.saturating_add(1)).read_to_end(&mut bytes)?;
+    Ok(bytes)
+}
+
+/// A file that is open to be read, and is noted as soon as it is.
+fn open_noted<R: rt::Files>(rt: &R, used: &mut Run<FileId>, name: &str) -> io::Result<R::File>
     requires { 1 ≤ used.old.spare }
     ensures { OnOk result ((id : FileId) × (used.new.items ≡ used.old.items ++ id ∷ [])) }
 {
-    let mut bytes = Vec::new(alloc);
     let file = fs::open(rt, name)?;
     used.put(id_of(&file.metadata()?));
-    file.take(limit.saturating_add(1)).read_to_end(&mut bytes)?;
-    Ok(bytes)
+    Ok(file)
+}
+
+/// What a fetch answers of the file that was opened so: all that it holds, or that this is more than the limit.
+fn answered<F: Read + Drop>(
+    alloc: Global,
+    opened: io::Result<F>,
+    limit: u64,
+) -> Result<Fetched, Trouble>
+    ensures read { IfOk opened (λ file. IfSome (F.remaining file) (λ all. limit < 2 ^ 64 - 1 → IfOk result (IsFound (Some all) limit))) }
+    ensures unread { IfErr opened (λ error. StandsFor ErrorKind.NotFound Fetched.Absent (error_kind error) result) }
+{
+    match opened {
+        Ok(file) => {
+            let bytes = called(read_up_to(alloc, file, limit))?;
+            Ok(found(bytes, limit))
+        }
+        Err(error) => unread(error.kind(), Fetched::Absent),
+    }
 }
 
 impl<'a, R: rt::Files> Files for StdFiles<'a, R> {
@@ -78,8 +100,8 @@ impl<'a, R: rt::Files> Files for StdFiles<'a, R> {
 
     fn fetch(&mut self, role: Role, name: &str, limit: u64) -> Result<Fetched, Trouble> {
         self.used.reserve(1)?;
-        let outcome = read_all(self.rt, self.alloc, &mut self.used, name, limit);
-        let answer = fetched(outcome, limit);
+        let opened = open_noted(self.rt, &mut self.used, name);
+        let answer = answered(self.alloc, opened, limit);
         if let Err(Trouble::Failed) = answer {
             count_read(&mut self.read_faults, role);
         }

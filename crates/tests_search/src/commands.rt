@@ -30,11 +30,11 @@ fn put(
     Ok(())
 }
 
-/// The batch and the defects.
-fn files(alloc: Global) -> Result<MemFiles, Memory> {
+/// A batch and its defects.
+pub(crate) fn files(alloc: Global, batch: &str, defects: &str) -> Result<MemFiles, Memory> {
     let mut files = BTreeMap::new(alloc);
-    put(alloc, &mut files, "batch", BATCH)?;
-    put(alloc, &mut files, "defects", DEFECTS)?;
+    put(alloc, &mut files, "batch", batch)?;
+    put(alloc, &mut files, "defects", defects)?;
     Ok(MemFiles {
         alloc,
         files,
@@ -55,7 +55,7 @@ fn words(alloc: Global, line: &str) -> Result<Vec<String>, Memory> {
 }
 
 /// Runs a command line: how it ends, and whether what it prints begins with this text and ends with the number of open boxes, which is 0.
-fn run<R: Threads + Wait + Sync, G: Gate + Sync>(
+pub(crate) fn run<R: Threads + Wait + Sync, G: Gate + Sync>(
     rt: &R,
     alloc: Global,
     line: &str,
@@ -79,7 +79,7 @@ fn run<R: Threads + Wait + Sync, G: Gate + Sync>(
 #[test]
 fn two_workers_share_the_work(rt: HostRuntime) -> Result<(), Fail> {
     let alloc = rt.alloc();
-    let mut files = files(alloc)?;
+    let mut files = files(alloc, BATCH, DEFECTS)?;
     let gate = HeldGate::new()?;
     let plan = "plan batch defects out cert --workers=2";
     let ended = run(&rt, alloc, plan, &mut files, &gate, OPTIMAL)?;
@@ -94,7 +94,7 @@ fn two_workers_share_the_work(rt: HostRuntime) -> Result<(), Fail> {
 
 #[test]
 fn one_worker_finds_the_same_loss(rt: HostRuntime) -> Result<(), Fail> {
-    let mut files = files(rt.alloc())?;
+    let mut files = files(rt.alloc(), BATCH, DEFECTS)?;
     let plan = "plan batch defects out cert --workers=1";
     let ended = run(&rt, rt.alloc(), plan, &mut files, &OpenGate, OPTIMAL)?;
     assert_eq!(rt; ended, (Status::Optimal, true));

@@ -1,9 +1,9 @@
 //! What a search by one worker or several handles, and what it leaves.
 ghost use Rattle.std.specs.Prelude.{◌≤◌};
 
-use crate::searched::{notes_of, searched, small};
+use crate::searched::{each_once, searched, small};
 use box_workers::{OpenGate, start_boxes};
-use cert_log::{History, Left, Note};
+use cert_log::{History, Left};
 use glass_base::{Instance, Memory};
 use std::alloc::Global;
 use std::sync::Wait;
@@ -23,11 +23,6 @@ fn search_all<R: Threads + Wait + Sync>(
 {
     let start = start_boxes(alloc, instance)?;
     searched(rt, alloc, instance, start, workers, budget, &OpenGate)
-}
-
-/// Whether no two notes name one box.
-fn each_once(log: &[Note]) -> bool {
-    log.iter().all(|note| notes_of(log, note.id) == 1)
 }
 
 /// The loss of the best plan, how many boxes were handled, whether each of them once, and how many are left.

@@ -8,7 +8,11 @@ mod commands;
 #[cfg(test)]
 mod counts;
 #[cfg(test)]
+mod passes;
+#[cfg(test)]
 mod searched;
+#[cfg(test)]
+mod shares;
 #[cfg(test)]
 mod turns;
 #[cfg(test)]

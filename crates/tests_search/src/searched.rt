@@ -57,3 +57,8 @@ pub(crate) fn searched<R: Threads + Wait + Sync, G: Gate + Sync>(
 pub(crate) fn notes_of(log: &[Note], id: u64) -> usize {
     log.iter().filter(|note| note.id == id).count()
 }
+
+/// Whether no two notes name one box.
+pub(crate) fn each_once(log: &[Note]) -> bool {
+    log.iter().all(|note| notes_of(log, note.id) == 1)
+}

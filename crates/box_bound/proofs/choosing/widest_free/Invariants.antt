@@ -1,7 +1,7 @@
-use Rattle.std.specs.Prelude.{IfSome, IsTrue}
-use Rattle.plan_box.specs.Decisions.{is_free}
+use Rattle.std.specs.Prelude.{◌≡◌, IfSome, take}
+use Rattle.box_bound.specs.Spans.{IsWidest, span_at}
 use Rattle.box_bound.proofs.choosing.widest_free.Given as goal
 
--- what is found is free
+-- what is found is the widest of the cuts so far, and its span is kept
 abbrev pub invariant-loop-cut : goal.invariant-loop-cut
-invariant-loop-cut l = IfSome l.found (λ p. IsTrue (is_free l.bx.ranges p.0 p.1))
+invariant-loop-cut l = IsWidest l.leasts l.bx.ranges (take l.cut-index l.cuts) l.found × IfSome l.found (λ p. l.widest ≡ span_at l.leasts p.0 p.1)
