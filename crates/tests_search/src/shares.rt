@@ -1,10 +1,11 @@
 //! A search by four workers and one by eight: each of them is there, and handles boxes.
 
 ghost use Rattle.std.specs.Prelude.{◌≤◌};
+ghost use Rattle.glass_base.specs.Items.{IsItemInRange};
 
 use crate::searched::{each_once, searched};
 use box_workers::{Gate, PatientGate, start_boxes};
-use glass_base::{Instance, Item, Params, Run, append};
+use glass_base::{Instance, Item, Params, Run};
 use std::alloc::Global;
 use std::sync::Wait;
 use std::sync::atomic::{AtomicBool, AtomicU32, Ordering};
@@ -92,7 +93,10 @@ impl Gate for Muster {
 }
 
 /// An item of these sides that is alone in its stack.
-fn item(number: u32, length: u32, width: u32) -> Item {
+fn item(number: u32, length: u32, width: u32) -> Item
+    requires { (number ≤ 999999999) × (length ≤ 20000) × (width ≤ 20000) }
+    ensures { IsItemInRange result }
+{
     Item {
         id: number,
         length,
@@ -104,10 +108,7 @@ fn item(number: u32, length: u32, width: u32) -> Item {
 
 /// Three items in three stacks: a search without a first plan splits thousands of boxes.
 fn three(alloc: Global) -> Result<Instance, Fail> {
-    let mut items = Run::new(alloc);
-    append(&mut items, item(0, 500, 300))?;
-    append(&mut items, item(1, 400, 200))?;
-    append(&mut items, item(2, 700, 600))?;
+    let items = Run::from(vec![in alloc; item(0, 500, 300), item(1, 400, 200), item(2, 700, 600)]?);
     Ok(Instance::new(alloc, Params::usual(), items, Run::new(alloc))?)
 }
 
