@@ -1,0 +1,104 @@
+#!/usr/bin/env python3
+"""Counts what a law stands on: the definitions that have to be believed with it, and their lines.
+
+    bench/believed.py              a line for each law of docs/BELIEVED.md
+    bench/believed.py NAME ..      the definitions that NAME stands on, those that others stand on first
+
+A definition stands on those that its text names, by the imports of its file. Counted are its lines without comments, blanks and imports. Not
+opened is `RunsTo`: a law reads `Ended .. -> conclusion`, and `Ended` has it only so that the law speaks of what `glass` promises, whose contract
+has the very same words. Types that are declared in the sources (structs, enums) are not counted, nor is what std defines.
+"""
+import os
+import re
+import sys
+
+TOP = os.path.join(os.path.dirname(os.path.abspath(__file__)), "..", "crates")
+CUT = {("glass_run", "Runs", "RunsTo")}
+LAWS = [
+    ("plans_are_lawful_and_bounded", "FindsPlan"), ("resumed_plans_are_lawful_and_bounded", "ResumesPlan"),
+    ("frozen_plans_are_lawful_and_bounded", "FindsPlanBehind"), ("accepted_plans_are_lawful_and_bounded", "AcceptsPlan"),
+    ("done_drafts_are_lawful", "StoresLawfulPlan"), ("done_judgements_are_lawful", "FindsLawful"), ("unlawful_judgements_are_true", "FindsUnlawful"),
+    ("done_replays_are_true", "FollowsSheet"), ("done_sheets_make_their_plans", "StoresSheet"), ("done_pictures_are_true", "StoresPicture"),
+    ("searches_are_right", "StoresSearch"), ("resumptions_are_right", "StoresResumed"), ("searches_behind_first_plates_are_right", "StoresFreeze"),
+    ("done_checks_are_right", "Accepts"), ("refused_checks_are_true", "FindsWrong"), ("done_conversions_are_right", "StoresConverted"),
+]
+HEAD = re.compile(r"^(?:abbrev |unfoldable )?pub (?:record |data )?([^\s:({]+)")
+WORD = re.compile(r"[^\s(){}\[\],;]+")
+
+
+def read():
+    """All definitions, by crate, module and name: their lines, and what they name."""
+    imports, texts = {}, {}
+    for crate in sorted(os.listdir(TOP)):
+        specs = os.path.join(TOP, crate, "specs")
+        for folder, _, files in os.walk(specs):
+            for file in files:
+                if not file.endswith(".antt"):
+                    continue
+                module = os.path.relpath(os.path.join(folder, file), specs)[:-5].replace(os.sep, ".")
+                names, current = {}, None
+                for line in open(os.path.join(folder, file), encoding="utf-8"):
+                    line = line.rstrip("\n")
+                    used = re.match(r"^(?:pub )?use Rattle\.(\w+)\.specs\.([\w.]+?)\.\{(.*)\}", line)
+                    if used:
+                        for part in used.group(3).split(","):
+                            name, _, alias = part.strip().partition(" as ")
+                            names[alias or name] = (used.group(1), used.group(2), name)
+                        continue
+                    if line.startswith("use ") or line.startswith("pub use ") or line.startswith("pub mod "):
+                        continue
+                    head = HEAD.match(line)
+                    if head:
+                        current = (crate, module, head.group(1))
+                        texts[current] = []
+                        names[head.group(1)] = current
+                    elif not line.strip():
+                        current = None
+                    if current and line.strip() and not line.strip().startswith("--"):
+                        texts[current].append(line)
+                imports[(crate, module)] = names
+    return imports, texts
+
+
+def stands_on(start, imports, texts):
+    """The definitions that this one stands on, each behind those that it names, and itself last."""
+    order, seen = [], set()
+
+    def visit(key):
+        if key in seen or key not in texts:
+            return
+        seen.add(key)
+        if key not in CUT:
+            names = imports[key[:2]]
+            for line in texts[key]:
+                for word in WORD.findall(line.split("--")[0]):
+                    for name in {word, word.split(".")[0]}:
+                        if name in names and names[name] != key:
+                            visit(names[name])
+        order.append(key)
+
+    visit(start)
+    return order
+
+
+def main():
+    imports, texts = read()
+    by_name = {}
+    for key in texts:
+        by_name.setdefault(key[2], []).append(key)
+    if len(sys.argv) > 1:
+        for name in sys.argv[1:]:
+            for start in by_name.get(name, []):
+                for key in stands_on(start, imports, texts):
+                    print("%4d  %s/specs/%s.antt  %s" % (len(texts[key]), key[0], key[1].replace(".", "/"), key[2]))
+        return
+    ended = set(stands_on(("glass_run", "Headlines", "Ended"), imports, texts))
+    for law, name in LAWS:
+        start = [key for key in by_name[name] if key[0] in ("glass_run", "plain_laws")][0]
+        own = stands_on(start, imports, texts)
+        both = set(own) | ended
+        print("%-42s %-18s %4d definitions %5d lines, with its premise %4d and %5d" % (
+            law, name, len(own), sum(len(texts[key]) for key in own), len(both), sum(len(texts[key]) for key in both)))
+
+
+main()
