@@ -1,4 +1,4 @@
-//! What `plan` answers to an instance.
+//! What `plan` and `gen` answer to an instance.
 
 ghost use Rattle.std.specs.Prelude.{◌≡◌, ◌≤◌, ◌*◌, ◌++◌, ◌∷◌, [], ℕ, List, All, IfOk, IfSome, OnOk, length, map, option_map, slice_index_or};
 ghost use Rattle.cut_model.specs.Tree.{count, neighbour_count, tree};

@@ -238,13 +238,16 @@ fn run_picture_line<F: Files, S: Sink>(
 
 /// Runs a command line, its words being those after the program's name.
 ///
-/// `draft BATCH OUT` stores the plan of the draft of the batch, on plates without defects, and prints its loss and the number
-/// of its plates. `plan BATCH DEFECTS OUT CERT` searches for a plan that loses little, closing or splitting as many boxes as
-/// `--budget=` says at the most; it stores the best plan and the certificate of the search, and prints how the search ended, the loss,
-/// the bound on the loss of every lawful plan, the number of plates, and how many boxes were handled and are open; with `--watch` also the
-/// losses of the plans that it came by, each less than the one before. `judge BATCH DEFECTS PLAN` judges anybody's solution file: it prints the loss of a lawful plan, or the first
-/// rule that the plan breaks. The parameters are the challenge's, or those of the file that the option `--params=FILE` names; each
-/// plate is as wide as they say, or as the file of the option `--plates=FILE` says of it. All is computed before anything is
+/// `draft` stores the plan of the draft of a batch, on plates without defects. `plan` searches for a plan that loses little, closing or splitting
+/// as many boxes as `--budget=` says at the most, with as many workers as `--workers=` says; it stores the best plan and the certificate of the
+/// search, and prints how the search ended, the loss, the bound on the loss of every lawful plan, the number of plates, and how many boxes were
+/// handled and are open; with `--watch` also the losses of the plans that it came by. `gen` does the same with an instance that is drawn from
+/// numbers. `resume` goes on from a certificate, `freeze` plans anew what stands behind the first plates of a plan. `judge` judges anybody's
+/// solution file: it prints the loss of a lawful plan, or the first rule that the plan breaks. `verify` checks a plan and a certificate, and
+/// `convert` names the causes in one. `sheet` stores by which instructions a table cuts a plan, and `replay` follows such instructions.
+///
+/// The parameters are the challenge's, or those of the file that `--params=FILE` names; each plate is as wide as they say, or as the file of
+/// `--plates=FILE` says of it. All is computed before anything is
 /// stored, and a run writes once at the most. A refusal stores nothing and prints its one line.
 ///
 /// Only the commands that search, `plan`, `gen`, `resume` and `freeze`, start threads and may wait for them.
