@@ -2,47 +2,49 @@
 # Refuses each allocation of `plan`, `verify`, `resume`, `freeze` and `sheet` on an instance of one item in turn, and tells of each command
 # how many were refused and how the runs ended: with status 8, each file that is stored being absent, as before or whole; or as ever, where
 # the program does without that memory. Anything else is printed and ends the script with 1. The program is built once, as `glass` builds it;
-# a library that is loaded before the system's counts the allocations.
+# a library that is loaded before the system's counts the allocations and refuses one.
 set -eu
 top=$(cd "$(dirname "$(readlink -f "$0")")/.." && pwd)
 work=$(mktemp -d)
 trap 'rm -rf "$work"' EXIT
 cat > "$work/refuse.c" <<'C'
-#define _GNU_SOURCE
 #include <errno.h>
+#include <fcntl.h>
 #include <stdatomic.h>
 #include <stddef.h>
-#include <stdio.h>
 #include <stdlib.h>
+#include <unistd.h>
 extern void *__libc_malloc(size_t);
 extern void *__libc_calloc(size_t, size_t);
 extern void *__libc_realloc(void *, size_t);
 extern void *__libc_memalign(size_t, size_t);
 static atomic_long asked;
 static long refused;
-static int begun;
 __attribute__((constructor)) static void begin(void) {
   const char *at = getenv("REFUSED");
   refused = at ? atol(at) : 0;
-  begun = 1;
 }
-__attribute__((destructor)) static void end(void) {
-  const char *name = getenv("ASKED");
-  begun = 0;
-  if (name) {
-    FILE *f = fopen(name, "w");
-    if (f) { fprintf(f, "%ld\n", atomic_load(&asked)); fclose(f); }
-  }
+/* Whether this allocation is the one that is refused; then the file `reached` says so. */
+static int refuses(void) {
+  if (refused == 0 || atomic_fetch_add(&asked, 1) + 1 != refused) return 0;
+  int file = open("reached", O_CREAT | O_WRONLY, 0600);
+  if (file >= 0) close(file);
+  errno = ENOMEM;
+  return 1;
 }
-static int refuses(void) { return begun && atomic_fetch_add(&asked, 1) + 1 == refused; }
-void *malloc(size_t n) { if (refuses()) { errno = ENOMEM; return NULL; } return __libc_malloc(n); }
-void *calloc(size_t n, size_t m) { if (refuses()) { errno = ENOMEM; return NULL; } return __libc_calloc(n, m); }
-void *realloc(void *p, size_t n) { if (refuses()) { errno = ENOMEM; return NULL; } return __libc_realloc(p, n); }
-void *aligned_alloc(size_t a, size_t n) { if (refuses()) { errno = ENOMEM; return NULL; } return __libc_memalign(a, n); }
-void *memalign(size_t a, size_t n) { if (refuses()) { errno = ENOMEM; return NULL; } return __libc_memalign(a, n); }
-int posix_memalign(void **p, size_t a, size_t n) { if (refuses()) return ENOMEM; *p = __libc_memalign(a, n); return *p ? 0 : ENOMEM; }
+void *malloc(size_t n) { return refuses() ? NULL : __libc_malloc(n); }
+void *calloc(size_t n, size_t m) { return refuses() ? NULL : __libc_calloc(n, m); }
+void *realloc(void *p, size_t n) { return refuses() ? NULL : __libc_realloc(p, n); }
+void *aligned_alloc(size_t a, size_t n) { return refuses() ? NULL : __libc_memalign(a, n); }
+void *memalign(size_t a, size_t n) { return refuses() ? NULL : __libc_memalign(a, n); }
+int posix_memalign(void **p, size_t a, size_t n) {
+  if (refuses()) return ENOMEM;
+  *p = __libc_memalign(a, n);
+  return *p ? 0 : ENOMEM;
+}
 C
 gcc -O2 -shared -fPIC -o "$work/refuse.so" "$work/refuse.c"
+program=$top/crates/glass_program/out/glass_program
 cd "$work"
 printf 'ITEM_ID;LENGTH_ITEM;WIDTH_ITEM;STACK;SEQUENCE\n0;500;300;0;1\n' > one.csv
 printf 'ITEM_ID;LENGTH_ITEM;WIDTH_ITEM;STACK;SEQUENCE\n0;500;300;0;1\n1;3000;3210;1;1\n2;3000;3210;2;1\n' > three.csv
@@ -56,16 +58,17 @@ failed=0
 try_all() {
   local name=$1 outs=$2
   shift 2
-  local f status usual ended asked n eights=0 same=0
+  local f status usual ended n eights=0 same=0
   for f in $outs; do printf 'old\n' > "$f"; done
   usual=0
-  ASKED=$work/asked LD_PRELOAD=$work/refuse.so "$top/glass" "$@" > usual || usual=$?
+  "$program" "$@" > usual || usual=$?
   for f in $outs; do cp "$f" "$f.whole"; done
-  asked=$(cat asked)
-  for ((n = 1; n <= asked; n++)); do
+  for ((n = 1; ; n++)); do
     for f in $outs; do printf 'old\n' > "$f"; done
+    rm -f reached
     status=0
-    REFUSED=$n LD_PRELOAD=$work/refuse.so "$top/glass" "$@" > printed || status=$?
+    REFUSED=$n LD_PRELOAD=$work/refuse.so "$program" "$@" > printed || status=$?
+    if [ ! -e reached ]; then break; fi
     ended=wrong
     if [ "$status" -eq 8 ]; then
       ended=eight
@@ -83,7 +86,7 @@ try_all() {
       wrong) failed=1; echo "$name: allocation $n refused: status $status, $(head -n 1 printed)" ;;
     esac
   done
-  echo "$name: $asked allocations refused in turn: $eights times status 8, $same times the usual outcome"
+  echo "$name: $((n - 1)) allocations refused in turn: $eights times status 8, $same times the usual outcome"
 }
 
 try_all plan "out.csv out.txt" plan one.csv none.csv out.csv out.txt --workers=1
