@@ -5,7 +5,7 @@
     bench/believed.py NAME ..      the definitions that NAME stands on, those that others stand on first
 
 A definition stands on those that its text names, by the imports of its file. Counted are its lines without comments, blanks and imports. Not
-opened is `RunsTo`: a law reads `Ended .. -> conclusion`, and `Ended` has it only so that the law speaks of what `glass` promises, whose contract
+opened is `RunsTo Answers`: a law reads `Ended .. -> conclusion`, and `Ended` has it only so that the law speaks of what `glass` promises, whose contract
 has the very same words. Types that are declared in the sources (structs, enums) are not counted, nor is what std defines.
 """
 import os
@@ -13,7 +13,7 @@ import re
 import sys
 
 TOP = os.path.join(os.path.dirname(os.path.abspath(__file__)), "..", "crates")
-CUT = {("glass_run", "Runs", "RunsTo")}
+CUT = {("run_frame", "Runs", "RunsTo"), ("glass_run", "Commands", "Answers"), ("picture_run", "Pictures", "Answers")}
 LAWS = [
     ("plans_are_lawful_and_bounded", "FindsPlan"), ("resumed_plans_are_lawful_and_bounded", "ResumesPlan"),
     ("frozen_plans_are_lawful_and_bounded", "FindsPlanBehind"), ("accepted_plans_are_lawful_and_bounded", "AcceptsPlan"),
@@ -94,7 +94,7 @@ def main():
         return
     ended = set(stands_on(("glass_run", "Headlines", "Ended"), imports, texts))
     for law, name in LAWS:
-        start = [key for key in by_name[name] if key[0] in ("glass_run", "plain_laws")][0]
+        start = [key for key in by_name[name] if key[0] in ("glass_run", "picture_run", "plain_laws")][0]
         own = stands_on(start, imports, texts)
         both = set(own) | ended
         print("%-42s %-18s %4d definitions %5d lines, with its premise %4d and %5d" % (

@@ -1,6 +1,6 @@
 //! What a search tells as it goes on.
 
-/// Is told of each box before it is handled, and of each turn without a box. Its calls answer nothing and change nothing of
+/// Is told of each box before it is handled, with the loss of the plan that its worker holds, and of each turn without a box. Its calls answer nothing and change nothing of
 /// the search.
 pub trait Gate {
     /// This worker is about to handle the box of this identity.
@@ -8,6 +8,9 @@ pub trait Gate {
 
     /// This worker found no box.
     fn idle(&self, worker: u32);
+
+    /// A plan of this loss in mm² is known; `u64::MAX` is none. A gate that does not say otherwise takes no notice.
+    fn sees(&self, _loss: u64) {}
 }
 
 /// A gate that does nothing.

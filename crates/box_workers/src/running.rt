@@ -58,6 +58,7 @@ fn turn<G: Gate, Q: Poster>(
 {
     waiting.reserve(2)?;
     gate.pass(hand.worker, bx.id());
+    gate.sees(hand.loss);
     let before = hand.loss;
     match handle(alloc, instance, map, shared, seat, hand, starts, bx) {
         Ok(Done::Closed) => {

@@ -157,6 +157,7 @@ fn turn<G: Gate, Q: Poster>(
 {
     at_hand.reserve(2)?;
     gate.pass(hand.worker, bx.id());
+    gate.sees(hand.loss);
     let before = hand.loss;
     match handle(alloc, instance, map, shared, seat, hand, starts, bx) {
         Ok(Done::Closed) => {

@@ -348,6 +348,20 @@ is_count_served line of = not (list_any (is_count of) line.options) || option_ma
 abbrev pub stored_names : Line → List (List ℕ)
 stored_names line = drop (length (pattern_of line.verb).reads) line.names
 
+-- what can be stored, by its order
+abbrev pub product_place : Product → ℕ
+product_place product.Plan = 0
+product_place product.Certificate = 1
+product_place product.Sheet = 2
+product_place product.Picture = 3
+
+abbrev pub is_product : Product → Product → Bool
+is_product of other = product_place of == product_place other
+
+-- the name under which a line stores this; it is empty where its command does not store it
+abbrev pub stored_as : Line → Product → List ℕ
+stored_as line of = unwrap_or (option_and_then (λ place. slice_get (stored_names line) place) (position (λ other. is_product of other) (pattern_of line.verb).stores)) []
+
 -- whether a word is an option of this role that names this file
 abbrev pub is_option_for : Role → List ℕ → List ℕ → Bool
 is_option_for of name word = option_map_or (λ n. bytes_eq n name) (option_name of word) false

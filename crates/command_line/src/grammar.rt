@@ -45,6 +45,30 @@ pub enum Product {
     Picture,
 }
 
+impl Product {
+    ghost use Rattle.std.specs.Prelude.{◌≡◌};
+    ghost use Rattle.command_line.specs.Grammar.{is_product, product_place};
+
+    /// Its place in the order of what can be stored, from 0.
+    fn place(self) -> usize
+        ensures { result ≡ product_place self }
+    {
+        match self {
+            Product::Plan => 0,
+            Product::Certificate => 1,
+            Product::Sheet => 2,
+            Product::Picture => 3,
+        }
+    }
+
+    /// Whether this is the same as another one.
+    pub(crate) fn is(self, other: Product) -> bool
+        ensures { result ≡ is_product self other }
+    {
+        self.place() == other.place()
+    }
+}
+
 /// A number that stands before the names.
 #[derive(Clone, Copy, Debug, PartialEq, Eq)]
 pub enum Lead {

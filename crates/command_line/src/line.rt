@@ -1,6 +1,6 @@
 //! A command line, and the one parser of words.
 
-ghost use Rattle.std.specs.Prelude.{◌≡◌, ◌+◌, ◌≤◌, true, map, count_by, take, drop, option_map, is_some};
+ghost use Rattle.std.specs.Prelude.{◌≡◌, ◌+◌, ◌≤◌, true, map, count_by, position, slice_get, take, drop, option_and_then, option_map, is_some};
 ghost use Rattle.std.specs.List.{list_all};
 ghost use Rattle.std.specs.Option.{option_map_or};
 ghost use Rattle.std.specs.Str.{bytes_eq};
@@ -8,10 +8,13 @@ ghost use Rattle.std.specs.String.{string_bytes};
 ghost use Rattle.command_line.specs.Grammar.{count_least as count_least_of, count_most as count_most_of, count_needs as count_needs_of, lead_least as lead_least_of, lead_most as lead_most_of, line_if, line_of, line_with, picture_line_of, verb_of};
 ghost use Rattle.command_line.specs.Lines.{line_in};
 
-use crate::grammar::{Count, Flag, Lead, VERBS, Verb, count_needs, count_usual, lead_least};
+use crate::grammar::{
+    Count, Flag, Lead, Product, VERBS, Verb, count_needs, count_usual, lead_least,
+};
 use crate::words::{
     are_names, are_names_or_dashes, are_options, count_set, first_option, has_flag, is_among,
-    lead_among, lead_value, name_said, option_name, option_names, place_among, sets_count, word_at,
+    lead_among, lead_value, name_said, option_name, option_names, place_among, product_among,
+    sets_count, word_at,
 };
 use glass_base::Role;
 
@@ -26,7 +29,7 @@ pub struct CommandLine<'a> {
 
 impl<'a> CommandLine<'a> {
     ghost use Rattle.command_line.specs.Lines.{line_in};
-    ghost use Rattle.command_line.specs.Grammar.{are_files_named, are_leads_said, is_count_served, is_line, is_named_once, is_read_named, lead_at, lead_in, name_at, name_by_option, name_of, option_names as option_names_of, pattern_of, count_in, flag_in, stored_names};
+    ghost use Rattle.command_line.specs.Grammar.{are_files_named, are_leads_said, is_count_served, is_line, is_named_once, is_product, is_read_named, lead_at, lead_in, name_at, name_by_option, name_of, option_names as option_names_of, pattern_of, count_in, flag_in, stored_as, stored_names};
 
     /// The number of this kind that the line says before its names.
     fn lead_at(&self, lead: Lead) -> Option<u32>
@@ -84,11 +87,29 @@ impl<'a> CommandLine<'a> {
     }
 
     /// The names under which the command stores.
-    pub fn stored(&self) -> &'a [String]
+    fn stored(&self) -> &'a [String]
         ensures { map string_bytes result.now ≡ stored_names (line_in self.now) }
     {
         let reads = self.verb.form().reads.len();
         self.names.get(reads..).unwrap_or(&[])
+    }
+
+    /// The name under which the command stores this, if it does.
+    fn stored_at(&self, product: Product) -> Option<&'a str>
+        ensures { option_map (λ name. name.now) result ≡ option_and_then (slice_get (stored_names (line_in self.now))) (position (is_product product) (pattern_of self.now.verb).stores) }
+    {
+        let place = product_among(product, self.verb.form().stores)?;
+        word_at(self.stored(), place)
+    }
+
+    /// The name under which the command stores this, empty where it does not.
+    pub fn stored_as(&self, product: Product) -> &'a str
+        ensures { result.now ≡ stored_as (line_in self.now) product }
+    {
+        match self.stored_at(product) {
+            Some(name) => name,
+            None => "",
+        }
     }
 
     /// Whether each name under which the command stores is named once.

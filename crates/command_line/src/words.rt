@@ -5,11 +5,11 @@ ghost use Rattle.std.specs.Char.{is_ascii_digit};
 ghost use Rattle.std.specs.List.{list_all, list_any};
 ghost use Rattle.std.specs.String.{string_bytes};
 ghost use Rattle.glass_base.specs.Roles.{is_role};
-ghost use Rattle.command_line.specs.Grammar.{count_most as count_most_of, are_options as are_options_of, has_leading_zero as has_leading_zero_of, is_command_option as is_command_option_of, is_flag as is_flag_of, is_flag_once, is_some_flag as is_some_flag_of, is_number as is_number_of, is_count as is_count_of, is_count_once, is_some_count as is_some_count_of, is_dash as is_dash_of, is_lead, lead_value as lead_value_of, name_said as name_said_of, number_within as number_within_of, count_value as count_value_of, is_once, is_option_for as is_option_for_of, is_some_option as is_some_option_of, is_name as is_name_of, is_option as is_option_of, option_name as option_name_of, option_names as option_names_of};
+ghost use Rattle.command_line.specs.Grammar.{count_most as count_most_of, are_options as are_options_of, has_leading_zero as has_leading_zero_of, is_command_option as is_command_option_of, is_flag as is_flag_of, is_flag_once, is_some_flag as is_some_flag_of, is_number as is_number_of, is_count as is_count_of, is_count_once, is_some_count as is_some_count_of, is_dash as is_dash_of, is_lead, is_product, lead_value as lead_value_of, name_said as name_said_of, number_within as number_within_of, count_value as count_value_of, is_once, is_option_for as is_option_for_of, is_some_option as is_some_option_of, is_name as is_name_of, is_option as is_option_of, option_name as option_name_of, option_names as option_names_of};
 ghost use Rattle.command_line.specs.inner.Forms.{pattern_in};
 
 use crate::grammar::{
-    Count, Flag, Form, Lead, count_front, count_most, flag_word, lead_least, lead_most,
+    Count, Flag, Form, Lead, Product, count_front, count_most, flag_word, lead_least, lead_most,
     option_front,
 };
 use glass_base::Role;
@@ -304,6 +304,13 @@ pub(crate) fn lead_among(lead: Lead, leads: &[Lead]) -> Option<usize>
     ensures { result ≡ position (is_lead lead) leads.now }
 {
     leads.iter().position(|other| lead.is(*other))
+}
+
+/// The place of what is stored among others.
+pub(crate) fn product_among(product: Product, products: &[Product]) -> Option<usize>
+    ensures { result ≡ position (is_product product) products.now }
+{
+    products.iter().position(|other| product.is(*other))
 }
 
 /// The word at a place, if there is one.

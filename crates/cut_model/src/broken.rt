@@ -1,4 +1,4 @@
-//! Which rule a plan breaks.
+//! Which rule a plan breaks, and what is found of a plan.
 
 ghost use Rattle.std.specs.Prelude.{◌≡◌};
 ghost use Rattle.cut_model.specs.Words.{rule_word};
@@ -68,4 +68,13 @@ pub struct Broken {
     pub node: u64,
     pub left: u64,
     pub right: u64,
+}
+
+/// What is found of a plan.
+#[derive(Clone, Copy)]
+pub enum Verdict {
+    /// The plan is lawful and loses this much glass, in mm².
+    Lawful(u64),
+    /// The plan is not lawful: its first breach.
+    Broken(Broken),
 }

@@ -15,7 +15,7 @@ pub mod steps;
 pub mod traversal;
 pub mod visitor;
 
-pub use broken::{Broken, Rule};
+pub use broken::{Broken, Rule, Verdict};
 pub use family::{Along, Area, Children, Family, Row, Sort};
 pub use listing::rows;
 pub use numbered::item_numbered;

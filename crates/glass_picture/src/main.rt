@@ -1,7 +1,7 @@
 //! The program `glass_picture`.
 #![tactic(auto)]
 
-use glass_run::run_picture;
+use picture_run::run_picture;
 use std::process::ExitCode;
 
 fn main(rt: HostRuntime) -> ExitCode {

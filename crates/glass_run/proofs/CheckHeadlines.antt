@@ -8,23 +8,26 @@ use Rattle.cert_log.specs.declared.certificate.Certificate.{Certificate}
 use Rattle.cert_log.specs.Texts.{cert_text}
 use Rattle.cert_log.proofs.Covers.{bounds_each_plan}
 use Rattle.plan_freeze.specs.Claims.{IsFrozen}
-use Rattle.glass_run.specs.Answers.{Answer}
-use Rattle.glass_run.specs.Checks.{Converts, IsAccepted, NotAccepted, Verifies, loss_in}
+use Rattle.run_frame.specs.Answers.{Answer}
+use Rattle.run_checks.specs.Checks.{Converts, IsAccepted, NotAccepted, Verifies, loss_in}
 use Rattle.glass_run.specs.FreezeHeadlines.{AcceptsBehind, AcceptsFrom, cut_already}
-use Rattle.glass_run.specs.FrozenChecks.{NotAcceptedBehind, VerifiesBehind, VerifiesFrom, loss_behind}
-use Rattle.glass_run.specs.Checks.NotAccepted.{bad_cert, bad_plan, bad_tree, broken_plan}
-use Rattle.glass_run.specs.Commands.{AnswersInstance, out_of}
+use Rattle.run_checks.specs.FrozenChecks.{NotAcceptedBehind, VerifiesBehind, VerifiesFrom, loss_behind}
+use Rattle.run_checks.specs.Checks.NotAccepted.{bad_cert, bad_plan, bad_tree, broken_plan}
+use Rattle.glass_run.specs.Commands.{Answers, AnswersInstance, cert_name}
 use Rattle.command_line.specs.Grammar.{Line, count_in}
 use Rattle.command_line.specs.declared.grammar.Count.TheVariants as count
 use Rattle.glass_run.specs.Headlines.{Accepts, Ended, FindsRight, SaidBy, StoresConverted}
-use Rattle.glass_run.specs.Runs.{Completes, Prints, RunsTo, Stands, World}
-use Rattle.glass_run.specs.Texts.{Texts, text_for, text_or_empty}
+use Rattle.run_frame.specs.Runs.{Completes, Prints, RunsTo, Stands, World}
+use Rattle.run_frame.specs.Texts.{Texts, text_for, text_or_empty}
 use Rattle.command_line.specs.declared.grammar.Verb.{Verb}
 use Rattle.command_line.specs.declared.grammar.Verb.TheVariants as verb
-use Rattle.glass_run.specs.declared.status.Status.TheVariants as status
-use Rattle.glass_run.proofs.FoundBehind.{bounds_behind}
-use Rattle.glass_run.proofs.Headlines.{Says, completed_says, one_stored, rules_of, unchanged}
-use Rattle.glass_run.proofs.Statuses.{IsRefused, cert_refused, plan_refused}
+use Rattle.run_frame.specs.declared.status.Status.TheVariants as status
+use Rattle.run_checks.proofs.RaisedBounds.{bounds_behind}
+use Rattle.run_frame.proofs.Stores.{one_stored, unchanged}
+use Rattle.glass_run.proofs.Headlines.{Says, completed_says, rules_of}
+use Rattle.run_frame.proofs.Statuses.{IsRefused}
+use Rattle.run_plans.proofs.Statuses.{plan_refused}
+use Rattle.run_checks.proofs.Statuses.{cert_refused}
 
 -- an answer to what is not accepted has none of the statuses of what is
 never_done : (b : Problem) (plan_text : Option (List ℕ)) (text : List ℕ) (answer : Answer) → status.Done ≡ answer.status → NotAccepted b plan_text text answer → ⊥
@@ -98,7 +101,7 @@ accepts_from (suc k) line held old new answer texts b reads is verifies stored p
 converts : (line : Line) (held : Contents) (old new : World) (answer : Answer) → line.verb ≡ verb.Convert → status.Done ≡ answer.status → Says line held answer →
     Stands answer.stores old.shelf.contents new.shelf.contents → Prints answer.lines old.paper new.paper → StoresConverted line held old new
 converts line held old new answer of is s stored prints =
-    let converts : Converts s.b (text_for s.texts role.Plan) (text_or_empty s.texts role.Cert) (out_of line) answer = subst (λ (v : Verb). AnswersInstance v line s.texts s.b answer) of s.answers in
+    let converts : Converts s.b (text_for s.texts role.Plan) (text_or_empty s.texts role.Cert) (cert_name line) answer = subst (λ (v : Verb). AnswersInstance v line s.texts s.b answer) of s.answers in
     elim converts [
       | inl v ↦ record {
         texts = s.texts;
@@ -107,7 +110,7 @@ converts line held old new answer of is s stored prints =
         converted = v.2;
         right = finds_right line held s.texts s.b v.0 v.1 s.reads v.3;
         names = v.4;
-        stored = one_stored (record { name = out_of line; bytes = cert_text v.2 }) old.shelf.contents new.shelf.contents (subst (λ (a : Answer). Stands a.stores old.shelf.contents new.shelf.contents) v.5 stored);
+        stored = one_stored (record { name = cert_name line; bytes = cert_text v.2 }) old.shelf.contents new.shelf.contents (subst (λ (a : Answer). Stands a.stores old.shelf.contents new.shelf.contents) v.5 stored);
         prints = subst (λ (a : Answer). Prints a.lines old.paper new.paper) v.5 prints;
       }
       | inr other ↦ absurd (never_done s.b (text_for s.texts role.Plan) (text_or_empty s.texts role.Cert) answer is other)
@@ -115,7 +118,7 @@ converts line held old new answer of is s stored prints =
 
 pub done_check : (words : List (List ℕ)) (line : Line) (held : Contents) (old new : World) → Ended words verb.Verify line held old new status.Done → AcceptsFrom (cut_already verb.Verify line) line held old new
 done_check words line held old new e =
-    let c : Completes line old new status.Done = subst (λ (o : Option Line). RunsTo o old new status.Done) e.line_is e.runs in
+    let c : Completes Answers line old new status.Done = subst (λ (o : Option Line). RunsTo Answers o old new status.Done) e.line_is e.runs in
     let s = completed_says line held old new status.Done e.told (λ h. h) c in
     let verifies : VerifiesFrom (count_in line count.Frozen) s.b (text_for s.texts role.Plan) (text_or_empty s.texts role.Cert) c.answer =
     subst (λ (v : Verb). AnswersInstance v line s.texts s.b c.answer) e.verb_is s.answers in
@@ -123,5 +126,5 @@ done_check words line held old new e =
 
 pub done_conversion : (words : List (List ℕ)) (line : Line) (held : Contents) (old new : World) → Ended words verb.Convert line held old new status.Done → StoresConverted line held old new
 done_conversion words line held old new e =
-    let c : Completes line old new status.Done = subst (λ (o : Option Line). RunsTo o old new status.Done) e.line_is e.runs in
+    let c : Completes Answers line old new status.Done = subst (λ (o : Option Line). RunsTo Answers o old new status.Done) e.line_is e.runs in
     converts line held old new c.answer e.verb_is c.status_is (completed_says line held old new status.Done e.told (λ h. h) c) c.stored c.prints

@@ -10,29 +10,32 @@ use Rattle.cut_model.specs.Lawful.{IsLawful}
 use Rattle.cert_log.specs.declared.certificate.Certificate.{Certificate}
 use Rattle.cert_log.specs.Texts.{cert_text}
 use Rattle.plan_csv.specs.PlanTexts.{plan_said}
-use Rattle.glass_run.specs.Answers.{Answer}
-use Rattle.glass_run.specs.Checks.{Converts, NotAccepted}
+use Rattle.run_frame.specs.Answers.{Answer}
+use Rattle.run_checks.specs.Checks.{Converts, NotAccepted}
 use Rattle.glass_run.specs.FreezeHeadlines.{FindsWrongBehind, FindsWrongFrom, cut_already}
-use Rattle.glass_run.specs.FrozenChecks.{NotAcceptedBehind, VerifiesFrom}
-use Rattle.glass_run.specs.Checks.NotAccepted.{bad_cert, bad_plan, bad_tree, broken_plan}
-use Rattle.glass_run.specs.Commands.{AnswersInstance, out_of, second_out_of}
+use Rattle.run_checks.specs.FrozenChecks.{NotAcceptedBehind, VerifiesFrom}
+use Rattle.run_checks.specs.Checks.NotAccepted.{bad_cert, bad_plan, bad_tree, broken_plan}
+use Rattle.glass_run.specs.Commands.{Answers, AnswersInstance, cert_name, plan_name}
 use Rattle.command_line.specs.Grammar.{Line, count_in}
 use Rattle.command_line.specs.declared.grammar.Count.TheVariants as count
-use Rattle.glass_run.specs.Judgements.{IsFirstBroken, unlawful as unlawful_of}
+use Rattle.run_plans.specs.Judgements.{IsFirstBroken, unlawful as unlawful_of}
 use Rattle.glass_run.specs.Headlines.{Ended, FindsUnlawful, FindsWrong, IsCheck, IsJudging, SaidBy}
-use Rattle.glass_run.specs.Plans.{planned}
-use Rattle.glass_run.specs.Resumptions.{GoesOn, GoesOnWithin, Resumes, too_long_to_read}
-use Rattle.glass_run.specs.Runs.{Completes, Prints, RunsTo, Stands, World}
-use Rattle.glass_run.specs.Said.{IsPlanIn}
-use Rattle.glass_run.specs.Texts.{Texts, limit_of, text_for, text_or_empty}
+use Rattle.run_search.specs.Plans.{planned}
+use Rattle.run_search.specs.Resumptions.{GoesOn, GoesOnWithin, Resumes, too_long_to_read}
+use Rattle.run_frame.specs.Runs.{Completes, Prints, RunsTo, Stands, World}
+use Rattle.run_checks.specs.Said.{IsPlanIn}
+use Rattle.run_frame.specs.Texts.{Texts, limit_of, text_for, text_or_empty}
 use Rattle.command_line.specs.declared.grammar.Verb.{Verb}
 use Rattle.command_line.specs.declared.grammar.Verb.TheVariants as verb
-use Rattle.glass_run.specs.declared.status.Status.{Status}
-use Rattle.glass_run.specs.declared.status.Status.TheVariants as status
+use Rattle.run_frame.specs.declared.status.Status.{Status}
+use Rattle.run_frame.specs.declared.status.Status.TheVariants as status
 use Rattle.glass_run.proofs.FreezeHeadline.{unlawful_freeze}
-use Rattle.glass_run.proofs.Headlines.{Says, completed_says, unchanged, unlawful_judgement}
+use Rattle.run_frame.proofs.Stores.{unchanged}
+use Rattle.glass_run.proofs.Headlines.{Says, completed_says, unlawful_judgement}
 use Rattle.glass_run.proofs.SheetHeadline.{unlawful_sheet}
-use Rattle.glass_run.proofs.Statuses.{IsRefused, cert_refused, plan_refused}
+use Rattle.run_frame.proofs.Statuses.{IsRefused}
+use Rattle.run_plans.proofs.Statuses.{plan_refused}
+use Rattle.run_checks.proofs.Statuses.{cert_refused}
 
 -- an answer whose status is `Refused` tells the first check that a certificate fails
 wrong_tree : (line : Line) (held : Contents) (old new : World) (answer : Answer) (texts : Texts) (b : Problem) → SaidBy line held texts b → status.Refused ≡ answer.status →
@@ -203,29 +206,29 @@ not_done verb.Verify line held answer check of is s =
       | inr other ↦ other
     ]
 not_done verb.Convert line held answer check of is s =
-    let converts : Converts s.b (text_for s.texts role.Plan) (text_or_empty s.texts role.Cert) (out_of line) answer = subst (λ (v : Verb). AnswersInstance v line s.texts s.b answer) of s.answers in
+    let converts : Converts s.b (text_for s.texts role.Plan) (text_or_empty s.texts role.Cert) (cert_name line) answer = subst (λ (v : Verb). AnswersInstance v line s.texts s.b answer) of s.answers in
     elim converts [
       | inl v ↦ absurd (subst (λ (a : Answer). IsRefusal a.status) v.5 is)
       | inr other ↦ other
     ]
 not_done verb.Resume line held answer check of is s =
     let budget = count_in line count.Budget in
-    let resumes : Resumes s.b (text_for s.texts role.Plan) (text_or_empty s.texts role.Cert) budget (out_of line) (second_out_of line) answer = subst (λ (v : Verb). AnswersInstance v line s.texts s.b answer) of s.answers in
+    let resumes : Resumes s.b (text_for s.texts role.Plan) (text_or_empty s.texts role.Cert) budget (plan_name line) (cert_name line) answer = subst (λ (v : Verb). AnswersInstance v line s.texts s.b answer) of s.answers in
     elim resumes [
-      | inl v ↦ absurd (no_refusal s.b budget v.0 v.1 (out_of line) (second_out_of line) answer is v.3)
+      | inl v ↦ absurd (no_refusal s.b budget v.0 v.1 (plan_name line) (cert_name line) answer is v.3)
       | inr other ↦ other
     ]
 
 pub refused_check : (words : List (List ℕ)) (line : Line) (held : Contents) (old new : World) (check : Verb) → IsCheck check → Ended words check line held old new status.Refused → FindsWrongFrom (cut_already check line) line held old new
 refused_check words line held old new check is e =
-    let c : Completes line old new status.Refused = subst (λ (o : Option Line). RunsTo o old new status.Refused) e.line_is e.runs in
+    let c : Completes Answers line old new status.Refused = subst (λ (o : Option Line). RunsTo Answers o old new status.Refused) e.line_is e.runs in
     let s = completed_says line held old new status.Refused e.told (λ h. h) c in
     wrong_tree_from (cut_already check line) line held old new c.answer s.texts s.b s.reads c.status_is
     (not_done check line held c.answer is e.verb_is (subst IsRefusal c.status_is tt) s) c.stored c.prints
 
 unlawful_check : (words : List (List ℕ)) (line : Line) (held : Contents) (old new : World) (check : Verb) → IsCheck check → Ended words check line held old new status.Unlawful → FindsUnlawful line held old new
 unlawful_check words line held old new check is e =
-    let c : Completes line old new status.Unlawful = subst (λ (o : Option Line). RunsTo o old new status.Unlawful) e.line_is e.runs in
+    let c : Completes Answers line old new status.Unlawful = subst (λ (o : Option Line). RunsTo Answers o old new status.Unlawful) e.line_is e.runs in
     let s = completed_says line held old new status.Unlawful e.told (λ h. h) c in
     let other = not_done check line held c.answer is e.verb_is (subst IsRefusal c.status_is tt) s in
     finds_unlawful line held old new c.answer s.texts s.b s.reads (broken_from (cut_already check line) s.b s.texts c.answer c.status_is other) c.stored c.prints

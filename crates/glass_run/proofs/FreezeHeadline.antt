@@ -21,24 +21,27 @@ use Rattle.command_line.specs.Grammar.{Line, count_in, files_of}
 use Rattle.command_line.specs.declared.grammar.Count.TheVariants as count
 use Rattle.command_line.specs.declared.grammar.Verb.{Verb}
 use Rattle.command_line.specs.declared.grammar.Verb.TheVariants as verb
-use Rattle.glass_run.specs.Answers.{Answer}
-use Rattle.glass_run.specs.Commands.{AnswersInstance, out_of, second_out_of}
+use Rattle.run_frame.specs.Answers.{Answer}
+use Rattle.glass_run.specs.Commands.{Answers, AnswersInstance, cert_name, plan_name}
 use Rattle.glass_run.specs.FreezeHeadlines.{StoresFreeze, frozen_in, whole_of}
-use Rattle.glass_run.specs.Freezes.{Freezes, FreezesSaid, FreezesWithin}
-use Rattle.glass_run.specs.Freezes.FreezesPlan.{broken_plan, none_left, planned as planned_anew}
+use Rattle.run_search.specs.Freezes.{Freezes, FreezesSaid, FreezesWithin}
+use Rattle.run_search.specs.Freezes.FreezesPlan.{broken_plan, none_left, planned as planned_anew}
 use Rattle.glass_run.specs.Headlines.{Ended, FindsUnlawful, IsSearchEnd, SaidBy}
-use Rattle.glass_run.specs.Plans.{ending, most_work, root_ranges}
-use Rattle.glass_run.specs.Runs.{Completes, Prints, RunsTo, Stands, World}
-use Rattle.glass_run.specs.Texts.{Texts, text_or_empty}
-use Rattle.glass_run.specs.declared.status.Status.{Status}
-use Rattle.glass_run.specs.declared.status.Status.TheVariants as status
-use Rattle.glass_run.proofs.FoundBehind.{bounds_behind}
-use Rattle.glass_run.proofs.FrozenTexts.{CanBeReadBehind, verified_behind}
-use Rattle.glass_run.proofs.Headlines.{Says, completed_says, rules_of, unchanged}
+use Rattle.run_search.specs.Plans.{ending, most_work}
+use Rattle.run_checks.specs.Checks.{root_ranges}
+use Rattle.run_frame.specs.Runs.{Completes, Prints, RunsTo, Stands, World}
+use Rattle.run_frame.specs.Texts.{Texts, text_or_empty}
+use Rattle.run_frame.specs.declared.status.Status.{Status}
+use Rattle.run_frame.specs.declared.status.Status.TheVariants as status
+use Rattle.run_checks.proofs.RaisedBounds.{bounds_behind}
+use Rattle.run_search.proofs.FrozenTexts.{CanBeReadBehind, verified_behind}
+use Rattle.run_frame.proofs.Stores.{unchanged}
+use Rattle.glass_run.proofs.Headlines.{Says, completed_says, rules_of}
 use Rattle.glass_run.proofs.SearchHeadline.{accepts, bound_exact, completes, left_stopped, stopped_left}
-use Rattle.glass_run.proofs.SmallTexts.{text_short}
-use Rattle.glass_run.proofs.Statuses.{IsRefused, plan_refused}
-use Rattle.glass_run.proofs.StoredTexts.{is_text}
+use Rattle.run_frame.proofs.SmallTexts.{text_short}
+use Rattle.run_frame.proofs.Statuses.{IsRefused}
+use Rattle.run_plans.proofs.Statuses.{plan_refused}
+use Rattle.run_search.proofs.StoredTexts.{is_text}
 
 -- the status of an answer
 abbrev status_of : Answer → Status
@@ -84,12 +87,12 @@ stores_freeze line held old new answer result of end is s stored prints =
     let k : ℕ = frozen_in line in
     let budget : ℕ = count_in line count.Budget in
     let b : Problem = s.b in
-    let within : FreezesWithin b k budget (text_or_empty s.texts role.Plan) (out_of line) (second_out_of line) answer = subst (λ (v : Verb). AnswersInstance v line s.texts b answer) of s.answers in
+    let within : FreezesWithin b k budget (text_or_empty s.texts role.Plan) (plan_name line) (cert_name line) answer = subst (λ (v : Verb). AnswersInstance v line s.texts b answer) of s.answers in
     elim within [
       | inl w ↦
-          let said = said_frozen b k budget (plan_said b (text_or_empty s.texts role.Plan)) (out_of line) (second_out_of line) answer (subst IsSearchEnd is end) w.1 in
+          let said = said_frozen b k budget (plan_said b (text_or_empty s.texts role.Plan)) (plan_name line) (cert_name line) answer (subst IsSearchEnd is end) w.1 in
           let plan : Forest = said.0 in
-          let f : Freezes b k budget plan (out_of line) (second_out_of line) answer = said.2 in
+          let f : Freezes b k budget plan (plan_name line) (cert_name line) answer = said.2 in
           let c : Certificate = f.certificate in
           let more : ℕ = frozen_loss b plan k in
           let whole : Forest = whole_of line plan f.tail in
@@ -118,7 +121,7 @@ stores_freeze line held old new answer result of end is s stored prints =
             no_worse = omega (arith, loses, rest_loses b plan k f.rest frozen plan refl f.lawful, f.found.no_worse);
             bounds = bounds_behind b plan k f.rest c.bound frozen f.found.bounds;
             good = f.found.good;
-            verified = verified_behind b plan k f.rest f.tail c (can_be_read line held s.texts b k budget plan (out_of line) (second_out_of line) answer s.reads w.0 said.1 f);
+            verified = verified_behind b plan k f.rest f.tail c (can_be_read line held s.texts b k budget plan (plan_name line) (cert_name line) answer s.reads w.0 said.1 f);
             to_beat = f.found.to_beat;
             readable = f.found.readable;
             searched = f.found.searched;
@@ -137,7 +140,7 @@ stores_freeze line held old new answer result of end is s stored prints =
 
 pub freeze_ended : (words : List (List ℕ)) (line : Line) (held : Contents) (old new : World) (result : Status) → IsSearchEnd result → Ended words verb.Freeze line held old new result → StoresFreeze line held old new result
 freeze_ended words line held old new result end e =
-    let c = completes line old new result end (subst (λ (o : Option Line). RunsTo o old new result) e.line_is e.runs) in
+    let c = completes line old new result end (subst (λ (o : Option Line). RunsTo Answers o old new result) e.line_is e.runs) in
     stores_freeze line held old new c.answer result e.verb_is end c.status_is (completed_says line held old new result e.told (accepts result end) c) c.stored c.prints
 
 ends_no_other_way : (closed found : Bool) → cond closed (cond found status.Optimal status.Infeasible) status.Stopped ≢ status.Unlawful
@@ -169,11 +172,11 @@ said_broken line held old new answer s k budget (Err reason) out cert says is re
 
 pub unlawful_freeze : (words : List (List ℕ)) (line : Line) (held : Contents) (old new : World) → Ended words verb.Freeze line held old new status.Unlawful → FindsUnlawful line held old new
 unlawful_freeze words line held old new e =
-    let c : Completes line old new status.Unlawful = subst (λ (o : Option Line). RunsTo o old new status.Unlawful) e.line_is e.runs in
+    let c : Completes Answers line old new status.Unlawful = subst (λ (o : Option Line). RunsTo Answers o old new status.Unlawful) e.line_is e.runs in
     let s = completed_says line held old new status.Unlawful e.told (λ h. h) c in
-    let within : FreezesWithin s.b (frozen_in line) (count_in line count.Budget) (text_or_empty s.texts role.Plan) (out_of line) (second_out_of line) c.answer =
+    let within : FreezesWithin s.b (frozen_in line) (count_in line count.Budget) (text_or_empty s.texts role.Plan) (plan_name line) (cert_name line) c.answer =
     subst (λ (v : Verb). AnswersInstance v line s.texts s.b c.answer) e.verb_is s.answers in
     elim within [
-      | inl w ↦ said_broken line held old new c.answer s (frozen_in line) (count_in line count.Budget) (plan_said s.b (text_or_empty s.texts role.Plan)) (out_of line) (second_out_of line) refl c.status_is w.1 c.stored c.prints
+      | inl w ↦ said_broken line held old new c.answer s (frozen_in line) (count_in line count.Budget) (plan_said s.b (text_or_empty s.texts role.Plan)) (plan_name line) (cert_name line) refl c.status_is w.1 c.stored c.prints
       | inr refused ↦ absurd (differ (c.status_is ∙ ap status_of refused.1))
     ]

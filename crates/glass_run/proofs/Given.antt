@@ -1,30 +1,34 @@
--- The answer to the texts that were fetched is the answer to what the files hold.
+-- What a command comes to with the texts that were fetched is what it comes to with what the files hold.
 use Rattle.std.proofs.Common.{◌≡◌, IfSome, List, ℕ, Option, Some, None, sym, subst, inl, inr}
 use Rattle.std.specs.Prelude.{Ok}
 use Rattle.glass_io.specs.Told.{Contents}
-use Rattle.glass_run.specs.Answers.{Answer}
-use Rattle.glass_run.specs.Checks.{Converts}
-use Rattle.glass_run.specs.FrozenChecks.{VerifiesFrom}
+use Rattle.run_frame.specs.Answers.{Answer}
+use Rattle.run_checks.specs.Checks.{Converts}
+use Rattle.run_checks.specs.FrozenChecks.{VerifiesFrom}
 use Rattle.glass_base.specs.declared.role.Role.TheVariants as role
 use Rattle.glass_base.specs.Problem.{Problem}
-use Rattle.glass_run.specs.Commands.{Answers, AnswersInstance, AnswersTexts, HasInstance, HasNoInstance, out_of, second_out_of}
-use Rattle.glass_run.specs.inner.Forms.{OnTold, Tells}
-use Rattle.glass_run.specs.declared.notices.Stop.{Stop}
-use Rattle.glass_run.specs.declared.notices.Stop.TheVariants as stop
+use Rattle.glass_run.specs.Commands.{AnswersInstance, AnswersTexts, HasInstance, HasNoInstance, cert_name, plan_name}
+use Rattle.glass_run.specs.declared.answering.Asked.{Asked}
+use Rattle.glass_run.specs.declared.answering.Asked.TheVariants as asked
+use Rattle.glass_run.specs.inner.Asked.{IsAsked, IsAskedOf}
+use Rattle.run_frame.specs.Forms.{OnTold, Tells}
+use Rattle.run_frame.specs.declared.notices.Stop.{Stop}
+use Rattle.run_frame.specs.declared.notices.Stop.TheVariants as stop
 use Rattle.command_line.specs.declared.grammar.Verb.{Verb}
 use Rattle.command_line.specs.declared.grammar.Verb.TheVariants as verb
-use Rattle.command_line.specs.Grammar.{Line, count_in, files_of}
+use Rattle.command_line.specs.Grammar.{Line, count_in, files_of, stored_as}
+use Rattle.command_line.specs.declared.grammar.Product.TheVariants as product
 use Rattle.command_line.specs.declared.grammar.Count.TheVariants as count
-use Rattle.glass_run.specs.Pictures.{DrawsText}
-use Rattle.glass_run.specs.Replays.{ReplaysText}
-use Rattle.glass_run.specs.Resumptions.{Resumes}
-use Rattle.glass_run.specs.Sheets.{SheetsText}
-use Rattle.glass_run.specs.Texts.{Texts, text_for, text_or_empty, texts_of}
+use Rattle.run_plans.specs.Replays.{ReplaysText}
+use Rattle.run_search.specs.Resumptions.{Resumes}
+use Rattle.run_plans.specs.Sheets.{SheetsText}
+use Rattle.run_frame.specs.Texts.{Texts, text_for, text_or_empty, texts_of}
 
-pub with_texts : (told : Option Contents) (line : Line) (texts : Texts) (answer : Answer) → IfSome told (λ contents. texts_of contents (files_of line) ≡ Ok texts) → AnswersTexts line texts answer →
-    IfSome told (λ contents. Answers contents line answer)
-with_texts None line texts answer e h = tt
-with_texts (Some contents) line texts answer e h = rw e h
+pub with_texts : (told : Option Contents) (line : Line) (texts : Texts) (what : Asked) → IfSome told (λ contents. texts_of contents (files_of line) ≡ Ok texts) → IsAsked line texts what →
+    IfSome told (λ contents. IsAskedOf contents line what)
+with_texts None line texts what e h = tt
+with_texts (Some contents) line texts (asked.Reply reply) e h = rw e h
+with_texts (Some contents) line texts (asked.Search instance found) e h = λ answer answers. rw e (h answer answers)
 
 -- the answer of each command to an instance is that of its name
 pub answers_as : (of : Verb) (line : Line) (texts : Texts) (b : Problem) (answer : Answer) → line.verb ≡ of → AnswersInstance of line texts b answer → AnswersInstance line.verb line texts b answer
@@ -39,34 +43,29 @@ verify_answers line texts b answer plan text k of is says counts h =
     (subst (λ (p : Option (List ℕ)). VerifiesFrom k b p cert answer) is (subst (λ (t : List ℕ). VerifiesFrom k b plan t answer) says h)))
 
 pub convert_answers : (line : Line) (texts : Texts) (b : Problem) (answer : Answer) (plan : Option (List ℕ)) (text : List ℕ) → line.verb ≡ verb.Convert → plan ≡ text_for texts role.Plan →
-    text ≡ text_or_empty texts role.Cert → Converts b plan text (out_of line) answer → AnswersInstance line.verb line texts b answer
+    text ≡ text_or_empty texts role.Cert → Converts b plan text (cert_name line) answer → AnswersInstance line.verb line texts b answer
 convert_answers line texts b answer plan text of is says h =
     answers_as verb.Convert line texts b answer of
-    (subst (λ (p : Option (List ℕ)). Converts b p (text_or_empty texts role.Cert) (out_of line) answer) is (subst (λ (t : List ℕ). Converts b plan t (out_of line) answer) says h))
+    (subst (λ (p : Option (List ℕ)). Converts b p (text_or_empty texts role.Cert) (cert_name line) answer) is (subst (λ (t : List ℕ). Converts b plan t (cert_name line) answer) says h))
 
 pub resume_answers : (line : Line) (texts : Texts) (b : Problem) (answer : Answer) (plan : Option (List ℕ)) (text : List ℕ) (budget : ℕ) → line.verb ≡ verb.Resume → plan ≡ text_for texts role.Plan →
-    text ≡ text_or_empty texts role.Cert → budget ≡ count_in line count.Budget → Resumes b plan text budget (out_of line) (second_out_of line) answer → AnswersInstance line.verb line texts b answer
+    text ≡ text_or_empty texts role.Cert → budget ≡ count_in line count.Budget → Resumes b plan text budget (plan_name line) (cert_name line) answer → AnswersInstance line.verb line texts b answer
 resume_answers line texts b answer plan text budget of is says counts h =
     let cert = text_or_empty texts role.Cert in
     answers_as verb.Resume line texts b answer of
-    (subst (λ (p : Option (List ℕ)). Resumes b p cert (count_in line count.Budget) (out_of line) (second_out_of line) answer) is
-    (subst (λ (t : List ℕ). Resumes b plan t (count_in line count.Budget) (out_of line) (second_out_of line) answer) says
-    (subst (λ (n : ℕ). Resumes b plan text n (out_of line) (second_out_of line) answer) counts h)))
+    (subst (λ (p : Option (List ℕ)). Resumes b p cert (count_in line count.Budget) (plan_name line) (cert_name line) answer) is
+    (subst (λ (t : List ℕ). Resumes b plan t (count_in line count.Budget) (plan_name line) (cert_name line) answer) says
+    (subst (λ (n : ℕ). Resumes b plan text n (plan_name line) (cert_name line) answer) counts h)))
 
 pub sheet_answers : (line : Line) (texts : Texts) (b : Problem) (answer : Answer) (text : List ℕ) → line.verb ≡ verb.Sheet → text ≡ text_or_empty texts role.Plan →
-    SheetsText b (out_of line) text answer → AnswersInstance line.verb line texts b answer
+    SheetsText b (stored_as line product.Sheet) text answer → AnswersInstance line.verb line texts b answer
 sheet_answers line texts b answer text of says h =
-    answers_as verb.Sheet line texts b answer of (subst (λ (t : List ℕ). SheetsText b (out_of line) t answer) says h)
+    answers_as verb.Sheet line texts b answer of (subst (λ (t : List ℕ). SheetsText b (stored_as line product.Sheet) t answer) says h)
 
 pub replay_answers : (line : Line) (texts : Texts) (b : Problem) (answer : Answer) (text : List ℕ) → line.verb ≡ verb.Replay → text ≡ text_or_empty texts role.Sheet →
     ReplaysText b text answer → AnswersInstance line.verb line texts b answer
 replay_answers line texts b answer text of says h =
     answers_as verb.Replay line texts b answer of (subst (λ (t : List ℕ). ReplaysText b t answer) says h)
-
-pub picture_answers : (line : Line) (texts : Texts) (b : Problem) (answer : Answer) (text : List ℕ) → line.verb ≡ verb.Picture → text ≡ text_or_empty texts role.Plan →
-    DrawsText b (out_of line) text answer → AnswersInstance line.verb line texts b answer
-picture_answers line texts b answer text of says h =
-    answers_as verb.Picture line texts b answer of (subst (λ (t : List ℕ). DrawsText b (out_of line) t answer) says h)
 
 -- the answer to the instance of a line
 pub said_instance : (line : Line) (texts : Texts) (b : Problem) (answer : Answer) → HasInstance line.verb line texts b → AnswersInstance line.verb line texts b answer → AnswersTexts line texts answer

@@ -1,55 +1,29 @@
 -- What a user may conclude from how a run ended.
-use Rattle.std.proofs.Common.{◌≡◌, ◌≢◌, ℕ, List, [], ◌∷◌, Bool, true, false, cond, refl, sym, ap, subst, ◌∙◌, inl, inr, Option, Some, None}
+use Rattle.std.proofs.Common.{◌≡◌, ℕ, List, refl, sym, ap, subst, ◌∙◌, inl, inr, Option, Some}
 use Rattle.std.specs.Prelude.{IfErr, Ok, Err, Result}
-use Rattle.std.specs.Str.{bytes_eq}
-use Rattle.std.proofs.lemmas.Slice.Eq.{bytes_eq-Decides}
 use Rattle.glass_base.specs.Problem.{Problem, IsProblem}
 use Rattle.glass_base.specs.declared.role.Role.TheVariants as role
-use Rattle.glass_io.specs.Told.{Contents, SameContents, Stored}
+use Rattle.glass_io.specs.Told.{Contents}
 use Rattle.cut_model.specs.Tree.{Forest}
 use Rattle.plan_csv.specs.PlanTexts.{plan_said}
 use Rattle.plan_csv.specs.Solutions.{solution_text}
 use Rattle.plan_csv.specs.declared.bad_plan.BadPlan.{BadPlan}
-use Rattle.glass_run.specs.Answers.{Answer, Store}
-use Rattle.glass_run.specs.Commands.{Answers, AnswersFetched, AnswersInstance, AnswersTexts, HasInstance, out_of}
-use Rattle.glass_run.specs.Drafts.{Drafts}
+use Rattle.run_frame.specs.Answers.{Answer}
+use Rattle.glass_run.specs.Commands.{Answers, AnswersInstance, AnswersTexts, HasInstance, plan_name}
+use Rattle.run_plans.specs.Drafts.{Drafts}
 use Rattle.command_line.specs.Grammar.{Line, files_of}
 use Rattle.glass_run.specs.Headlines.{Ended, FindsLawful, FindsNoDraft, FindsUnlawful, SaidBy, StoresLawfulPlan}
-use Rattle.glass_run.specs.Judgements.{Judges, JudgesSaid}
-use Rattle.glass_run.specs.Runs.{AnswersTold, Completes, Prints, RunsTo, Stands, World}
-use Rattle.glass_run.specs.Texts.{Texts, text_or_empty, texts_of}
+use Rattle.run_plans.specs.Judgements.{Judges, JudgesSaid}
+use Rattle.run_frame.specs.Runs.{AnswersTold, Completes, Prints, RunsTo, Stands, World}
+use Rattle.run_frame.specs.Texts.{AnswersFetched, Texts, text_or_empty, texts_of}
 use Rattle.command_line.specs.declared.grammar.Verb.{Verb}
 use Rattle.command_line.specs.declared.grammar.Verb.TheVariants as verb
-use Rattle.glass_run.specs.declared.status.Status.{Status}
-use Rattle.glass_run.specs.declared.status.Status.TheVariants as status
-use Rattle.glass_run.proofs.Statuses.{IsRefused, Refuses, none_refused, plan_refused, texts_refuse}
-
--- where nothing is stored all names hold what they held
-pub unchanged : (a b : Option Contents) → Stands [] a b → SameContents a b
-unchanged None None h = refl
-unchanged None (Some b) h = absurd h
-unchanged (Some a) None h = absurd h
-unchanged (Some a) (Some b) h =
-    let same : b ≡ a = λ i. λ name. h name i in
-    ap Some same
-
-held_whole : (s : Store) (a : Contents) (same : Bool) → same ≡ bytes_eq s.name s.name → cond same (Some s.bytes) (a s.name) ≡ Some s.bytes
-held_whole s a true is = refl
-held_whole s a false is = let wrong = (bytes_eq-Decides s.name s.name).1 refl in cc (is, wrong)
-
-held_other : (s : Store) (a : Contents) (other : List ℕ) (same : Bool) → same ≡ bytes_eq s.name other → other ≢ s.name → cond same (Some s.bytes) (a other) ≡ a other
-held_other s a other true is ne = absurd (ne (sym ((bytes_eq-Decides s.name other).0 (sym is))))
-held_other s a other false is ne = refl
-
--- where one file is stored its name holds it, and no other name changes
-pub one_stored : (s : Store) (a b : Option Contents) → Stands (s ∷ []) a b → Stored s.name s.bytes a b
-one_stored s None None h = tt
-one_stored s None (Some b) h = absurd h
-one_stored s (Some a) None h = absurd h
-one_stored s (Some a) (Some b) h = record {
-  stored = h s.name ∙ held_whole s a (bytes_eq s.name s.name) refl;
-  others = λ other ne. h other ∙ held_other s a other (bytes_eq s.name other) refl ne;
-}
+use Rattle.run_frame.specs.declared.status.Status.{Status}
+use Rattle.run_frame.specs.declared.status.Status.TheVariants as status
+use Rattle.run_frame.proofs.Statuses.{IsRefused, Refuses, texts_refuse}
+use Rattle.run_frame.proofs.Stores.{one_stored, unchanged}
+use Rattle.run_plans.proofs.Statuses.{plan_refused}
+use Rattle.glass_run.proofs.Statuses.{none_refused}
 
 -- an instance keeps the rules of instances, of whatever command it is
 pub rules_of : (of : Verb) (line : Line) (texts : Texts) (b : Problem) → HasInstance of line texts b → IsProblem b
@@ -76,7 +50,7 @@ texts_say : (line : Line) (held : Contents) (texts : Texts) (answer : Answer) �
 texts_say line held texts answer accepts is (inl said) = record { texts = texts; b = said.0; reads = record { texts_are = is; instance_is = said.1 }; answers = said.2 }
 texts_say line held texts answer accepts is (inr refused) = absurd (accepts (none_refused line.verb texts answer refused))
 
-fetched_say : (line : Line) (held : Contents) (answer : Answer) (fetched : Result Texts Answer) → ¬ Refuses answer → texts_of held (files_of line) ≡ fetched → IfErr fetched Refuses → AnswersFetched line fetched answer →
+fetched_say : (line : Line) (held : Contents) (answer : Answer) (fetched : Result Texts Answer) → ¬ Refuses answer → texts_of held (files_of line) ≡ fetched → IfErr fetched Refuses → AnswersFetched (AnswersTexts line) fetched answer →
     Says line held answer
 fetched_say line held answer (Ok texts) accepts is refuses h = texts_say line held texts answer accepts is h
 fetched_say line held answer (Err refusal) accepts is refuses h = absurd (accepts (rw h refuses))
@@ -86,15 +60,15 @@ answer_says : (line : Line) (held : Contents) (answer : Answer) → ¬ Refuses a
 answer_says line held answer accepts h = fetched_say line held answer (texts_of held (files_of line)) accepts refl (texts_refuse held (files_of line)) h
 
 -- so is that of a run that did what its answer says
-pub completed_says : (line : Line) (held : Contents) (old new : World) (result : Status) → old.shelf.contents ≡ Some held → ¬ IsRefused result → (c : Completes line old new result) → Says line held c.answer
+pub completed_says : (line : Line) (held : Contents) (old new : World) (result : Status) → old.shelf.contents ≡ Some held → ¬ IsRefused result → (c : Completes Answers line old new result) → Says line held c.answer
 completed_says line held old new result told accepts c =
-    answer_says line held c.answer (λ h. accepts (subst IsRefused (sym c.status_is) h)) (subst (λ (o : Option Contents). AnswersTold o line c.answer) told c.answers)
+    answer_says line held c.answer (λ h. accepts (subst IsRefused (sym c.status_is) h)) (subst (λ (o : Option Contents). AnswersTold Answers o line c.answer) told c.answers)
 
 -- the answer of `draft` whose status is `Done` stores a lawful plan
 drafted_lawful : (line : Line) (held : Contents) (old new : World) (answer : Answer) → line.verb ≡ verb.Draft → status.Done ≡ answer.status → Says line held answer →
     Stands answer.stores old.shelf.contents new.shelf.contents → Prints answer.lines old.paper new.paper → StoresLawfulPlan line held old new
 drafted_lawful line held old new answer of is s stored prints =
-    let drafts : Drafts s.b (out_of line) answer = subst (λ (v : Verb). AnswersInstance v line s.texts s.b answer) of s.answers in
+    let drafts : Drafts s.b (plan_name line) answer = subst (λ (v : Verb). AnswersInstance v line s.texts s.b answer) of s.answers in
     elim drafts [
       | inl d ↦ record {
         texts = s.texts;
@@ -102,7 +76,7 @@ drafted_lawful line held old new answer of is s stored prints =
         plan = d.0;
         reads = s.reads;
         lawful = d.2;
-        stored = one_stored (record { name = out_of line; bytes = solution_text s.b d.0 }) old.shelf.contents new.shelf.contents (subst (λ (a : Answer). Stands a.stores old.shelf.contents new.shelf.contents) d.3 stored);
+        stored = one_stored (record { name = plan_name line; bytes = solution_text s.b d.0 }) old.shelf.contents new.shelf.contents (subst (λ (a : Answer). Stands a.stores old.shelf.contents new.shelf.contents) d.3 stored);
         prints = subst (λ (a : Answer). Prints a.lines old.paper new.paper) d.3 prints;
       }
       | inr none ↦ let wrong = is ∙ ap (λ (a : Answer). a.status) none.2 in cc wrong
@@ -112,7 +86,7 @@ drafted_lawful line held old new answer of is s stored prints =
 drafted_none : (line : Line) (held : Contents) (old new : World) (answer : Answer) → line.verb ≡ verb.Draft → status.NoDraft ≡ answer.status → Says line held answer →
     Stands answer.stores old.shelf.contents new.shelf.contents → Prints answer.lines old.paper new.paper → FindsNoDraft line held old new
 drafted_none line held old new answer of is s stored prints =
-    let drafts : Drafts s.b (out_of line) answer = subst (λ (v : Verb). AnswersInstance v line s.texts s.b answer) of s.answers in
+    let drafts : Drafts s.b (plan_name line) answer = subst (λ (v : Verb). AnswersInstance v line s.texts s.b answer) of s.answers in
     elim drafts [
       | inl d ↦ let wrong = is ∙ ap (λ (a : Answer). a.status) d.3 in cc wrong
       | inr none ↦ record {
@@ -185,25 +159,25 @@ judged_unlawful line held old new answer is s stored prints =
 
 pub done_draft : (words : List (List ℕ)) (line : Line) (held : Contents) (old new : World) → Ended words verb.Draft line held old new status.Done → StoresLawfulPlan line held old new
 done_draft words line held old new e =
-    let c : Completes line old new status.Done = subst (λ (o : Option Line). RunsTo o old new status.Done) e.line_is e.runs in
+    let c : Completes Answers line old new status.Done = subst (λ (o : Option Line). RunsTo Answers o old new status.Done) e.line_is e.runs in
     drafted_lawful line held old new c.answer e.verb_is c.status_is (completed_says line held old new status.Done e.told (λ h. h) c)
     c.stored c.prints
 
 pub done_judgement : (words : List (List ℕ)) (line : Line) (held : Contents) (old new : World) → Ended words verb.Judge line held old new status.Done → FindsLawful line held old new
 done_judgement words line held old new e =
-    let c : Completes line old new status.Done = subst (λ (o : Option Line). RunsTo o old new status.Done) e.line_is e.runs in
+    let c : Completes Answers line old new status.Done = subst (λ (o : Option Line). RunsTo Answers o old new status.Done) e.line_is e.runs in
     judged_lawful line held old new c.answer c.status_is
     (judge_says line held c.answer e.verb_is (λ h. subst IsRefused (sym c.status_is) h) (completed_says line held old new status.Done e.told (λ h. h) c))
     c.stored c.prints
 
 pub unlawful_judgement : (words : List (List ℕ)) (line : Line) (held : Contents) (old new : World) → Ended words verb.Judge line held old new status.Unlawful → FindsUnlawful line held old new
 unlawful_judgement words line held old new e =
-    let c : Completes line old new status.Unlawful = subst (λ (o : Option Line). RunsTo o old new status.Unlawful) e.line_is e.runs in
+    let c : Completes Answers line old new status.Unlawful = subst (λ (o : Option Line). RunsTo Answers o old new status.Unlawful) e.line_is e.runs in
     judged_unlawful line held old new c.answer c.status_is
     (judge_says line held c.answer e.verb_is (λ h. subst IsRefused (sym c.status_is) h) (completed_says line held old new status.Unlawful e.told (λ h. h) c))
     c.stored c.prints
 
 pub no_draft : (words : List (List ℕ)) (line : Line) (held : Contents) (old new : World) → Ended words verb.Draft line held old new status.NoDraft → FindsNoDraft line held old new
 no_draft words line held old new e =
-    let c : Completes line old new status.NoDraft = subst (λ (o : Option Line). RunsTo o old new status.NoDraft) e.line_is e.runs in
+    let c : Completes Answers line old new status.NoDraft = subst (λ (o : Option Line). RunsTo Answers o old new status.NoDraft) e.line_is e.runs in
     drafted_none line held old new c.answer e.verb_is c.status_is (completed_says line held old new status.NoDraft e.told (λ h. h) c) c.stored c.prints

@@ -1,29 +1,10 @@
-mod StoredTexts
-mod Searched
-mod Told
-mod Resumed
-mod FetchedTexts
-mod ListedFiles
-mod Refusals
-mod TextsByRole
-mod Stores
-mod Endings
-mod Judged
-mod FoundBehind
-mod Given
-mod Statuses
-mod Checked
-mod CheckedBehind
-mod Headlines
-mod SearchHeadline
-mod SmallTexts
-mod FrozenTexts
-mod FreezeHeadline
-mod CheckHeadlines
-mod ResumeHeadline
-mod SheetHeadline
-mod Sheeted
-mod CheckRefusals
-mod Drawn
-mod Exited
-mod PictureHeadline
+pub mod Commanded
+pub mod Given
+pub mod Statuses
+pub mod Headlines
+pub mod SearchHeadline
+pub mod FreezeHeadline
+pub mod CheckHeadlines
+pub mod ResumeHeadline
+pub mod SheetHeadline
+pub mod CheckRefusals

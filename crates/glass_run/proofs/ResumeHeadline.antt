@@ -13,20 +13,21 @@ use Rattle.command_line.specs.Grammar.{Line, count_in}
 use Rattle.command_line.specs.declared.grammar.Count.TheVariants as count
 use Rattle.command_line.specs.declared.grammar.Verb.{Verb}
 use Rattle.command_line.specs.declared.grammar.Verb.TheVariants as verb
-use Rattle.glass_run.specs.Answers.{Answer}
-use Rattle.glass_run.specs.Checks.{IsAccepted, NotAccepted, loss_in}
-use Rattle.glass_run.specs.Checks.NotAccepted.{bad_cert, bad_plan, bad_tree, broken_plan}
-use Rattle.glass_run.specs.Commands.{AnswersInstance, out_of, second_out_of}
+use Rattle.run_frame.specs.Answers.{Answer}
+use Rattle.run_checks.specs.Checks.{IsAccepted, NotAccepted, loss_in, root_ranges}
+use Rattle.run_checks.specs.Checks.NotAccepted.{bad_cert, bad_plan, bad_tree, broken_plan}
+use Rattle.glass_run.specs.Commands.{Answers, AnswersInstance, cert_name, plan_name}
 use Rattle.glass_run.specs.Headlines.{Ended, IsSearchEnd, StoresResumed}
-use Rattle.glass_run.specs.Plans.{ending, planned, root_ranges}
-use Rattle.glass_run.specs.Resumptions.{GoesOn, GoesOnWithin, IsResumed, Resumes, too_long_to_read}
-use Rattle.glass_run.specs.Runs.{Prints, RunsTo, Stands, World}
-use Rattle.glass_run.specs.Texts.{limit_of, text_for, text_or_empty}
-use Rattle.glass_run.specs.declared.status.Status.{Status}
+use Rattle.run_search.specs.Plans.{ending, planned}
+use Rattle.run_search.specs.Resumptions.{GoesOn, GoesOnWithin, IsResumed, Resumes, too_long_to_read}
+use Rattle.run_frame.specs.Runs.{Prints, RunsTo, Stands, World}
+use Rattle.run_frame.specs.Texts.{limit_of, text_for, text_or_empty}
+use Rattle.run_frame.specs.declared.status.Status.{Status}
 use Rattle.glass_run.proofs.Headlines.{Says, completed_says, rules_of}
 use Rattle.glass_run.proofs.SearchHeadline.{accepts, accepts_good, bound_exact, completes, left_stopped, stopped_left}
-use Rattle.glass_run.proofs.Statuses.{cert_refused, plan_refused}
-use Rattle.glass_run.proofs.StoredTexts.{CanBeRead, is_text_of, verified}
+use Rattle.run_plans.proofs.Statuses.{plan_refused}
+use Rattle.run_checks.proofs.Statuses.{cert_refused}
+use Rattle.run_search.proofs.StoredTexts.{CanBeRead, is_text_of, verified}
 
 -- an answer to what is not accepted has none of the statuses of a search
 never_ended : (b : Problem) (plan_text : Option (List ℕ)) (text : List ℕ) (answer : Answer) → IsSearchEnd answer.status → NotAccepted b plan_text text answer → ⊥
@@ -59,11 +60,11 @@ is_stored b budget plan c out new answer end g =
     (leb-true bytes (limit_of role.Cert) is.0, is.1)
 
 stores_more : (line : Line) (held : Contents) (old new : World) (answer : Answer) (result : Status) (s : Says line held answer) (plan : Option Forest) (c : Certificate) →
-    IsAccepted s.b (text_for s.texts role.Plan) (text_or_empty s.texts role.Cert) plan c → GoesOn s.b (count_in line count.Budget) plan c (out_of line) (second_out_of line) answer → IsSearchEnd answer.status → result ≡ answer.status →
+    IsAccepted s.b (text_for s.texts role.Plan) (text_or_empty s.texts role.Cert) plan c → GoesOn s.b (count_in line count.Budget) plan c (plan_name line) (cert_name line) answer → IsSearchEnd answer.status → result ≡ answer.status →
     Stands answer.stores old.shelf.contents new.shelf.contents → Prints answer.lines old.paper new.paper → StoresResumed line held old new result
 stores_more line held old new answer result s plan c right g end is stored prints =
     let j = g.certificate in
-    let kept = is_stored s.b (count_in line count.Budget) plan c (out_of line) (second_out_of line) answer end g in
+    let kept = is_stored s.b (count_in line count.Budget) plan c (plan_name line) (cert_name line) answer end g in
     let ended : result ≡ ending j = is ∙ ap (λ (a : Answer). a.status) kept.1 in
     record {
       texts = s.texts;
@@ -95,10 +96,10 @@ stores_resumed : (line : Line) (held : Contents) (old new : World) (answer : Ans
     Stands answer.stores old.shelf.contents new.shelf.contents → Prints answer.lines old.paper new.paper → StoresResumed line held old new result
 stores_resumed line held old new answer result of end is s stored prints =
     let budget = count_in line count.Budget in
-    let resumes : Resumes s.b (text_for s.texts role.Plan) (text_or_empty s.texts role.Cert) budget (out_of line) (second_out_of line) answer = subst (λ (v : Verb). AnswersInstance v line s.texts s.b answer) of s.answers in
+    let resumes : Resumes s.b (text_for s.texts role.Plan) (text_or_empty s.texts role.Cert) budget (plan_name line) (cert_name line) answer = subst (λ (v : Verb). AnswersInstance v line s.texts s.b answer) of s.answers in
     elim resumes [
       | inl v ↦
-          let within : GoesOnWithin s.b budget v.0 v.1 (out_of line) (second_out_of line) answer = v.3 in
+          let within : GoesOnWithin s.b budget v.0 v.1 (plan_name line) (cert_name line) answer = v.3 in
           elim within [
             | inl g ↦ stores_more line held old new answer result s v.0 v.1 v.2 g.1 (subst IsSearchEnd is end) is stored prints
             | inr much ↦ absurd (subst IsSearchEnd (is ∙ ap (λ (a : Answer). a.status) much.1) end)
@@ -108,5 +109,5 @@ stores_resumed line held old new answer result of end is s stored prints =
 
 pub resumption_ended : (words : List (List ℕ)) (line : Line) (held : Contents) (old new : World) (result : Status) → IsSearchEnd result → Ended words verb.Resume line held old new result → StoresResumed line held old new result
 resumption_ended words line held old new result end e =
-    let c = completes line old new result end (subst (λ (o : Option Line). RunsTo o old new result) e.line_is e.runs) in
+    let c = completes line old new result end (subst (λ (o : Option Line). RunsTo Answers o old new result) e.line_is e.runs) in
     stores_resumed line held old new c.answer result e.verb_is end c.status_is (completed_says line held old new result e.told (accepts result end) c) c.stored c.prints

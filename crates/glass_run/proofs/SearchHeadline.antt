@@ -11,27 +11,28 @@ use Rattle.plan_box.specs.Ranges.{Ranges}
 use Rattle.cert_log.specs.declared.certificate.Certificate.{Certificate}
 use Rattle.cert_log.specs.Good.{IsGood, least_of, open_bounds}
 use Rattle.cert_log.proofs.GoodNodes.{good_counts, no_larger_than_full}
-use Rattle.glass_run.specs.Answers.{Answer}
-use Rattle.glass_run.specs.Commands.{AnswersInstance, out_of, second_out_of}
+use Rattle.run_frame.specs.Answers.{Answer}
+use Rattle.glass_run.specs.Commands.{Answers, AnswersInstance, cert_name, plan_name}
 use Rattle.command_line.specs.Grammar.{Line, count_in, flag_in}
 use Rattle.glass_run.specs.Headlines.{Ended, IsSearch, IsSearchEnd, StoresSearch}
-use Rattle.glass_run.specs.Plans.{IsFound, PlansWithin, ending, handled, most_work, planned, root_ranges}
-use Rattle.glass_run.specs.Texts.{Texts}
+use Rattle.run_search.specs.Plans.{IsFound, PlansWithin, ending, handled, most_work, planned}
+use Rattle.run_checks.specs.Checks.{root_ranges}
+use Rattle.run_frame.specs.Texts.{Texts}
 use Rattle.cert_check.specs.declared.verdict.Verdict.{Verdict}
 use Rattle.cert_check.specs.Faults.{Answers as CheckAnswers}
-use Rattle.glass_run.specs.Runs.{Completes, LineRun, Prints, RunsTo, Stands, World}
+use Rattle.run_frame.specs.Runs.{Completes, LineRun, Prints, RunsTo, Stands, World}
 use Rattle.command_line.specs.declared.grammar.Count.TheVariants as count
 use Rattle.command_line.specs.declared.grammar.Flag.TheVariants as flag
 use Rattle.command_line.specs.declared.grammar.Verb.{Verb}
 use Rattle.command_line.specs.declared.grammar.Verb.TheVariants as verb
-use Rattle.glass_run.specs.declared.status.Status.{Status}
-use Rattle.glass_run.specs.declared.status.Status.TheVariants as status
+use Rattle.run_frame.specs.declared.status.Status.{Status}
+use Rattle.run_frame.specs.declared.status.Status.TheVariants as status
 use Rattle.glass_run.proofs.Headlines.{Says, completed_says, rules_of}
-use Rattle.glass_run.proofs.StoredTexts.{CanBeRead, is_text, verified}
-use Rattle.glass_run.proofs.Statuses.{IsRefused}
+use Rattle.run_search.proofs.StoredTexts.{CanBeRead, is_text, verified}
+use Rattle.run_frame.proofs.Statuses.{IsRefused}
 
 -- a run that ended as a search did what its answer says
-pub completes : (line : Line) (old new : World) (result : Status) → IsSearchEnd result → LineRun line old new result → Completes line old new result
+pub completes : (line : Line) (old new : World) (result : Status) → IsSearchEnd result → LineRun Answers line old new result → Completes Answers line old new result
 completes line old new status.Optimal e r = r
 completes line old new status.Stopped e r = r
 completes line old new status.Infeasible e r = r
@@ -110,7 +111,7 @@ no_open b c budget depth good spent is enough some =
 
 -- both commands answer so
 plans_by : (search : Verb) → IsSearch search → (line : Line) (texts : Texts) (b : Problem) (answer : Answer) → AnswersInstance search line texts b answer →
-    PlansWithin b (count_in line count.Budget) (flag_in line flag.Watch) (out_of line) (second_out_of line) answer
+    PlansWithin b (count_in line count.Budget) (flag_in line flag.Watch) (plan_name line) (cert_name line) answer
 plans_by verb.Draft is line texts b answer h = absurd is
 plans_by verb.Plan is line texts b answer h = h
 plans_by verb.Gen is line texts b answer h = h
@@ -144,7 +145,7 @@ stores_search : (line : Line) (held : Contents) (old new : World) (answer : Answ
     Stands answer.stores old.shelf.contents new.shelf.contents → Prints answer.lines old.paper new.paper → StoresSearch line held old new result
 stores_search line held old new answer result search searches of end is s stored prints =
     let budget = count_in line count.Budget in
-    let plans : PlansWithin s.b budget (flag_in line flag.Watch) (out_of line) (second_out_of line) answer = plans_by search searches line s.texts s.b answer (subst (λ (v : Verb). AnswersInstance v line s.texts s.b answer) of s.answers) in
+    let plans : PlansWithin s.b budget (flag_in line flag.Watch) (plan_name line) (cert_name line) answer = plans_by search searches line s.texts s.b answer (subst (λ (v : Verb). AnswersInstance v line s.texts s.b answer) of s.answers) in
     elim plans [
       | inl p ↦
           let found = p.1.found in
@@ -183,5 +184,5 @@ stores_search line held old new answer result search searches of end is s stored
 
 pub search_ended : (words : List (List ℕ)) (line : Line) (held : Contents) (old new : World) (result : Status) (search : Verb) → IsSearch search → IsSearchEnd result → Ended words search line held old new result → StoresSearch line held old new result
 search_ended words line held old new result search searches end e =
-    let c = completes line old new result end (subst (λ (o : Option Line). RunsTo o old new result) e.line_is e.runs) in
+    let c = completes line old new result end (subst (λ (o : Option Line). RunsTo Answers o old new result) e.line_is e.runs) in
     stores_search line held old new c.answer result search searches e.verb_is end c.status_is (completed_says line held old new result e.told (accepts result end) c) c.stored c.prints

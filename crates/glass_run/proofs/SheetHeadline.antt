@@ -4,14 +4,12 @@ use Rattle.std.specs.Prelude.{Ok, Err, Result}
 use Rattle.glass_base.specs.Problem.{Problem}
 use Rattle.glass_base.specs.declared.role.Role.TheVariants as role
 use Rattle.glass_io.specs.Told.{Contents}
-use Rattle.cut_model.specs.Lawful.{IsLawful}
 use Rattle.cut_model.specs.Tree.{Forest, neighbour_count}
 use Rattle.cut_sheet.specs.declared.bad_sheet.BadSheet.{BadSheet}
 use Rattle.cut_sheet.specs.declared.bad_sheet.BadSheet.TheVariants as bad
 use Rattle.cut_sheet.specs.declared.instr.Instr.{Instr}
 use Rattle.cut_sheet.specs.declared.instr.Made.{Made}
 use Rattle.cut_sheet.specs.declared.instr.Stuck.{Stuck}
-use Rattle.cut_sheet.specs.Readings.{IsText}
 use Rattle.cut_sheet.specs.Replays.{replayed}
 use Rattle.cut_sheet.specs.Sheets.{pieces_of, sheet_in}
 use Rattle.cut_sheet.specs.Texts.{IsWritable, sheet_text}
@@ -23,20 +21,23 @@ use Rattle.cut_sheet.proofs.Writables.{plates_writable}
 use Rattle.plan_csv.specs.PlanTexts.{plan_said}
 use Rattle.plan_csv.specs.declared.bad_plan.BadPlan.{BadPlan}
 use Rattle.plan_csv.proofs.TreesInRange.{read_fits}
-use Rattle.glass_run.specs.Answers.{Answer}
-use Rattle.glass_run.specs.Commands.{AnswersInstance, out_of}
-use Rattle.command_line.specs.Grammar.{Line}
+use Rattle.run_frame.specs.Answers.{Answer}
+use Rattle.glass_run.specs.Commands.{Answers, AnswersInstance}
+use Rattle.command_line.specs.declared.grammar.Product.TheVariants as product
+use Rattle.command_line.specs.Grammar.{stored_as, Line}
 use Rattle.command_line.specs.declared.grammar.Verb.{Verb}
 use Rattle.command_line.specs.declared.grammar.Verb.TheVariants as verb
 use Rattle.glass_run.specs.Headlines.{Ended, FindsUnlawful}
-use Rattle.glass_run.specs.Replays.{Follows, ReplaysText, SheetRefused, followed}
-use Rattle.glass_run.specs.Runs.{Completes, Prints, RunsTo, Stands, World}
+use Rattle.run_plans.specs.Replays.{Follows, ReplaysText, SheetRefused, followed}
+use Rattle.run_frame.specs.Runs.{Completes, Prints, RunsTo, Stands, World}
 use Rattle.glass_run.specs.SheetHeadlines.{FollowsSheet, StoresSheet}
-use Rattle.glass_run.specs.Sheets.{Sheets, SheetsSaid, SheetsText}
-use Rattle.glass_run.specs.Texts.{text_or_empty}
-use Rattle.glass_run.specs.declared.status.Status.TheVariants as status
-use Rattle.glass_run.proofs.Headlines.{Says, completed_says, one_stored, rules_of, unchanged}
-use Rattle.glass_run.proofs.Statuses.{IsRefused, Refuses, plan_refused}
+use Rattle.run_plans.specs.Sheets.{Sheets, SheetsSaid, SheetsText}
+use Rattle.run_frame.specs.Texts.{text_or_empty}
+use Rattle.run_frame.specs.declared.status.Status.TheVariants as status
+use Rattle.run_frame.proofs.Stores.{one_stored, unchanged}
+use Rattle.glass_run.proofs.Headlines.{Says, completed_says, rules_of}
+use Rattle.run_frame.proofs.Statuses.{IsRefused, Refuses}
+use Rattle.run_plans.proofs.Statuses.{plan_refused}
 
 -- an answer that refuses nothing is one to the plan that was said
 said_sheeted : (b : Problem) (name : List ℕ) (said : Result Forest BadPlan) (answer : Answer) → ¬ Refuses answer → SheetsSaid b name said answer → (plan : Forest) × (said ≡ Ok plan) × Sheets b name plan answer
@@ -58,8 +59,8 @@ replays_again b sheet made answer fits is (inr refused) =
 stores_sheet : (line : Line) (held : Contents) (old new : World) (answer : Answer) → line.verb ≡ verb.Sheet → status.Done ≡ answer.status → Says line held answer →
     Stands answer.stores old.shelf.contents new.shelf.contents → Prints answer.lines old.paper new.paper → StoresSheet line held old new
 stores_sheet line held old new answer of is s stored prints =
-    let text : SheetsText s.b (out_of line) (text_or_empty s.texts role.Plan) answer = subst (λ (v : Verb). AnswersInstance v line s.texts s.b answer) of s.answers in
-    let said = said_sheeted s.b (out_of line) (plan_said s.b (text_or_empty s.texts role.Plan)) answer (λ h. subst IsRefused (sym is) h) text in
+    let text : SheetsText s.b (stored_as line product.Sheet) (text_or_empty s.texts role.Plan) answer = subst (λ (v : Verb). AnswersInstance v line s.texts s.b answer) of s.answers in
+    let said = said_sheeted s.b (stored_as line product.Sheet) (plan_said s.b (text_or_empty s.texts role.Plan)) answer (λ h. subst IsRefused (sym is) h) text in
     let plan = said.0 in
     elim said.2 [
       | inl l ↦
@@ -76,7 +77,7 @@ stores_sheet line held old new answer of is s stored prints =
             reads = s.reads;
             said = said.1;
             lawful = l.0;
-            stored = one_stored (record { name = out_of line; bytes = sheet_text (sheet_in plan) }) old.shelf.contents new.shelf.contents (subst (λ (a : Answer). Stands a.stores old.shelf.contents new.shelf.contents) l.1 stored);
+            stored = one_stored (record { name = stored_as line product.Sheet; bytes = sheet_text (sheet_in plan) }) old.shelf.contents new.shelf.contents (subst (λ (a : Answer). Stands a.stores old.shelf.contents new.shelf.contents) l.1 stored);
             prints = subst (λ (a : Answer). Prints a.lines old.paper new.paper) l.1 prints;
             makes = makes;
             replays = λ other h. replays_again s.b (sheet_in plan) (pieces_of s.b plan) other fits makes h;
@@ -89,8 +90,8 @@ stores_sheet line held old new answer of is s stored prints =
 finds_broken : (line : Line) (held : Contents) (old new : World) (answer : Answer) → line.verb ≡ verb.Sheet → status.Unlawful ≡ answer.status → Says line held answer →
     Stands answer.stores old.shelf.contents new.shelf.contents → Prints answer.lines old.paper new.paper → FindsUnlawful line held old new
 finds_broken line held old new answer of is s stored prints =
-    let text : SheetsText s.b (out_of line) (text_or_empty s.texts role.Plan) answer = subst (λ (v : Verb). AnswersInstance v line s.texts s.b answer) of s.answers in
-    let said = said_sheeted s.b (out_of line) (plan_said s.b (text_or_empty s.texts role.Plan)) answer (λ h. subst IsRefused (sym is) h) text in
+    let text : SheetsText s.b (stored_as line product.Sheet) (text_or_empty s.texts role.Plan) answer = subst (λ (v : Verb). AnswersInstance v line s.texts s.b answer) of s.answers in
+    let said = said_sheeted s.b (stored_as line product.Sheet) (plan_said s.b (text_or_empty s.texts role.Plan)) answer (λ h. subst IsRefused (sym is) h) text in
     elim said.2 [
       | inl l ↦ let wrong = is ∙ ap (λ (a : Answer). a.status) l.1 in cc wrong
       | inr j ↦ record {
@@ -147,15 +148,15 @@ follows_sheet line held old new answer of is s stored prints =
 
 pub done_sheet : (words : List (List ℕ)) (line : Line) (held : Contents) (old new : World) → Ended words verb.Sheet line held old new status.Done → StoresSheet line held old new
 done_sheet words line held old new e =
-    let c : Completes line old new status.Done = subst (λ (o : Option Line). RunsTo o old new status.Done) e.line_is e.runs in
+    let c : Completes Answers line old new status.Done = subst (λ (o : Option Line). RunsTo Answers o old new status.Done) e.line_is e.runs in
     stores_sheet line held old new c.answer e.verb_is c.status_is (completed_says line held old new status.Done e.told (λ h. h) c) c.stored c.prints
 
 pub done_replay : (words : List (List ℕ)) (line : Line) (held : Contents) (old new : World) → Ended words verb.Replay line held old new status.Done → FollowsSheet line held old new
 done_replay words line held old new e =
-    let c : Completes line old new status.Done = subst (λ (o : Option Line). RunsTo o old new status.Done) e.line_is e.runs in
+    let c : Completes Answers line old new status.Done = subst (λ (o : Option Line). RunsTo Answers o old new status.Done) e.line_is e.runs in
     follows_sheet line held old new c.answer e.verb_is c.status_is (completed_says line held old new status.Done e.told (λ h. h) c) c.stored c.prints
 
 pub unlawful_sheet : (words : List (List ℕ)) (line : Line) (held : Contents) (old new : World) → Ended words verb.Sheet line held old new status.Unlawful → FindsUnlawful line held old new
 unlawful_sheet words line held old new e =
-    let c : Completes line old new status.Unlawful = subst (λ (o : Option Line). RunsTo o old new status.Unlawful) e.line_is e.runs in
+    let c : Completes Answers line old new status.Unlawful = subst (λ (o : Option Line). RunsTo Answers o old new status.Unlawful) e.line_is e.runs in
     finds_broken line held old new c.answer e.verb_is c.status_is (completed_says line held old new status.Unlawful e.told (λ h. h) c) c.stored c.prints

@@ -1,5 +1,5 @@
 -- What each command answers to what stands under the names of its files.
-use Rattle.std.specs.Prelude.{◌≡◌, ◌⊎◌, ℕ, List, [], slice_index_or, Option, None, Result, Ok, Err}
+use Rattle.std.specs.Prelude.{◌≡◌, ◌⊎◌, ℕ, List, Option, None}
 use Rattle.glass_base.specs.Problem.{Problem}
 use Rattle.glass_base.specs.declared.role.Role.TheVariants as role
 use Rattle.glass_io.specs.Told.{Contents}
@@ -7,46 +7,45 @@ use Rattle.command_line.specs.declared.grammar.Count.TheVariants as count
 use Rattle.command_line.specs.declared.grammar.Flag.TheVariants as flag
 use Rattle.glass_gen.specs.Drawn.{IsDrawn}
 use Rattle.command_line.specs.declared.grammar.Lead.TheVariants as lead
+use Rattle.command_line.specs.declared.grammar.Product.TheVariants as product
 use Rattle.command_line.specs.declared.grammar.Verb.{Verb}
 use Rattle.command_line.specs.declared.grammar.Verb.TheVariants as verb
-use Rattle.glass_run.specs.Answers.{Answer}
-use Rattle.glass_run.specs.Checks.{Converts}
-use Rattle.glass_run.specs.Drafts.{Drafts}
-use Rattle.glass_run.specs.Freezes.{FreezesWithin}
-use Rattle.glass_run.specs.FrozenChecks.{VerifiesFrom}
-use Rattle.command_line.specs.Grammar.{Line, files_of, flag_in, count_in, lead_in, stored_names}
-use Rattle.glass_run.specs.Instances.{InstanceRefused, IsInstanceOf}
-use Rattle.glass_run.specs.Judgements.{JudgesText}
-use Rattle.glass_run.specs.Pictures.{DrawsText}
-use Rattle.glass_run.specs.Plans.{PlansWithin}
-use Rattle.glass_run.specs.Replays.{ReplaysText}
-use Rattle.glass_run.specs.Resumptions.{Resumes}
-use Rattle.glass_run.specs.Sheets.{SheetsText}
-use Rattle.glass_run.specs.Texts.{Texts, text_for, text_or_empty, texts_of}
+use Rattle.run_frame.specs.Answers.{Answer}
+use Rattle.run_checks.specs.Checks.{Converts}
+use Rattle.run_plans.specs.Drafts.{Drafts}
+use Rattle.run_search.specs.Freezes.{FreezesWithin}
+use Rattle.run_checks.specs.FrozenChecks.{VerifiesFrom}
+use Rattle.command_line.specs.Grammar.{Line, files_of, flag_in, count_in, lead_in, stored_as}
+use Rattle.run_plans.specs.Instances.{InstanceRefused, IsInstanceOf}
+use Rattle.run_plans.specs.Judgements.{JudgesText}
+use Rattle.run_search.specs.Plans.{PlansWithin}
+use Rattle.run_plans.specs.Replays.{ReplaysText}
+use Rattle.run_search.specs.Resumptions.{Resumes}
+use Rattle.run_plans.specs.Sheets.{SheetsText}
+use Rattle.run_frame.specs.Texts.{AnswersFetched, Texts, text_for, text_or_empty, texts_of}
 
--- the first name under which a line stores
-abbrev pub out_of : Line → List ℕ
-out_of line = slice_index_or (stored_names line) 0 []
+-- the names under which a line stores a plan and a certificate
+abbrev pub plan_name : Line → List ℕ
+plan_name line = stored_as line product.Plan
 
--- the second one
-abbrev pub second_out_of : Line → List ℕ
-second_out_of line = slice_index_or (stored_names line) 1 []
+abbrev pub cert_name : Line → List ℕ
+cert_name line = stored_as line product.Certificate
 
--- the answer of each command to its instance
+-- the answer of each command to its instance; drawing is no command of this program
 abbrev pub AnswersInstance : Verb → Line → Texts → Problem → Answer → Type 0
-AnswersInstance verb.Draft line texts b answer = Drafts b (out_of line) answer
-AnswersInstance verb.Plan line texts b answer = PlansWithin b (count_in line count.Budget) (flag_in line flag.Watch) (out_of line) (second_out_of line) answer
-AnswersInstance verb.Gen line texts b answer = PlansWithin b (count_in line count.Budget) (flag_in line flag.Watch) (out_of line) (second_out_of line) answer
+AnswersInstance verb.Draft line texts b answer = Drafts b (plan_name line) answer
+AnswersInstance verb.Plan line texts b answer = PlansWithin b (count_in line count.Budget) (flag_in line flag.Watch) (plan_name line) (cert_name line) answer
+AnswersInstance verb.Gen line texts b answer = PlansWithin b (count_in line count.Budget) (flag_in line flag.Watch) (plan_name line) (cert_name line) answer
 AnswersInstance verb.Judge line texts b answer = JudgesText b (text_or_empty texts role.Plan) answer
 AnswersInstance verb.Verify line texts b answer = VerifiesFrom (count_in line count.Frozen) b (text_for texts role.Plan) (text_or_empty texts role.Cert) answer
-AnswersInstance verb.Convert line texts b answer = Converts b (text_for texts role.Plan) (text_or_empty texts role.Cert) (out_of line) answer
+AnswersInstance verb.Convert line texts b answer = Converts b (text_for texts role.Plan) (text_or_empty texts role.Cert) (cert_name line) answer
 AnswersInstance verb.Resume line texts b answer =
-    Resumes b (text_for texts role.Plan) (text_or_empty texts role.Cert) (count_in line count.Budget) (out_of line) (second_out_of line) answer
+    Resumes b (text_for texts role.Plan) (text_or_empty texts role.Cert) (count_in line count.Budget) (plan_name line) (cert_name line) answer
 AnswersInstance verb.Freeze line texts b answer =
-    FreezesWithin b (lead_in line lead.Frozen) (count_in line count.Budget) (text_or_empty texts role.Plan) (out_of line) (second_out_of line) answer
-AnswersInstance verb.Sheet line texts b answer = SheetsText b (out_of line) (text_or_empty texts role.Plan) answer
+    FreezesWithin b (lead_in line lead.Frozen) (count_in line count.Budget) (text_or_empty texts role.Plan) (plan_name line) (cert_name line) answer
+AnswersInstance verb.Sheet line texts b answer = SheetsText b (stored_as line product.Sheet) (text_or_empty texts role.Plan) answer
 AnswersInstance verb.Replay line texts b answer = ReplaysText b (text_or_empty texts role.Sheet) answer
-AnswersInstance verb.Picture line texts b answer = DrawsText b (out_of line) (text_or_empty texts role.Plan) answer
+AnswersInstance verb.Picture line texts b answer = ⊥
 
 -- the command searches
 abbrev pub Searches : Verb → Type 0
@@ -55,6 +54,11 @@ Searches verb.Gen = Unit {0}
 Searches verb.Resume = Unit {0}
 Searches verb.Freeze = Unit {0}
 Searches _ = ⊥
+
+-- the command is one of this program
+abbrev pub IsCommand : Verb → Type 0
+IsCommand verb.Picture = ⊥
+IsCommand _ = Unit {0}
 
 -- the text of the defects that each command plans with; a draft is made on plates without defects
 abbrev pub flaws_of : Verb → Texts → Option (List ℕ)
@@ -76,11 +80,6 @@ abbrev pub AnswersTexts : Line → Texts → Answer → Type 0
 AnswersTexts line texts answer =
     ((b : Problem) × HasInstance line.verb line texts b × AnswersInstance line.verb line texts b answer) ⊎ HasNoInstance line.verb texts answer
 
--- the answer of a command to its texts, or to the first file that gives none
-abbrev pub AnswersFetched : Line → Result Texts Answer → Answer → Type 0
-AnswersFetched line (Ok texts) answer = AnswersTexts line texts answer
-AnswersFetched line (Err refusal) answer = answer ≡ refusal
-
 -- the answer of a command to what stands under the names: all files are fetched, in their order, before one is read
 abbrev pub Answers : Contents → Line → Answer → Type 0
-Answers contents line answer = AnswersFetched line (texts_of contents (files_of line)) answer
+Answers contents line answer = AnswersFetched (AnswersTexts line) (texts_of contents (files_of line)) answer

@@ -22,18 +22,18 @@ use Rattle.plan_csv.specs.Solutions.{solution_text}
 use Rattle.cert_check.specs.declared.verdict.Why.{Why}
 use Rattle.cert_check.specs.Faults.{IsFirstFault}
 use Rattle.glass_io.specs.Told.{SameContents}
-use Rattle.glass_run.specs.Answers.{Answer}
-use Rattle.glass_run.specs.Checks.{accepted as accepted_answer, bound_line, refused_line}
-use Rattle.glass_run.specs.Commands.{out_of, second_out_of}
-use Rattle.glass_run.specs.Freezes.{frozen_planned, raised}
-use Rattle.glass_run.specs.FrozenChecks.{IsAcceptedBehind, VerifiesBehind, loss_behind}
+use Rattle.run_frame.specs.Answers.{Answer}
+use Rattle.run_checks.specs.Checks.{accepted as accepted_answer, bound_line, refused_line, root_ranges}
+use Rattle.glass_run.specs.Commands.{cert_name, plan_name}
+use Rattle.run_search.specs.Freezes.{frozen_planned}
+use Rattle.run_checks.specs.FrozenChecks.{IsAcceptedBehind, VerifiesBehind, loss_behind, raised}
 use Rattle.glass_run.specs.Headlines.{Accepts, FindsWrong, SaidBy}
-use Rattle.glass_run.specs.Said.{SayBoth}
-use Rattle.glass_run.specs.Plans.{IsOfSearch, handled, root_ranges, search_summary}
-use Rattle.glass_run.specs.Runs.{Prints, Stands, World}
-use Rattle.glass_run.specs.Texts.{Texts, limit_of, text_or_empty}
-use Rattle.glass_run.specs.declared.status.Status.{Status}
-use Rattle.glass_run.specs.declared.status.Status.TheVariants as status
+use Rattle.run_checks.specs.Said.{SayBoth}
+use Rattle.run_search.specs.Plans.{IsOfSearch, handled, search_summary}
+use Rattle.run_frame.specs.Runs.{Prints, Stands, World}
+use Rattle.run_frame.specs.Texts.{Texts, limit_of, text_or_empty}
+use Rattle.run_frame.specs.declared.status.Status.{Status}
+use Rattle.run_frame.specs.declared.status.Status.TheVariants as status
 
 -- the number of plates that are cut already
 abbrev pub frozen_in : Line → ℕ
@@ -57,7 +57,7 @@ pub record StoresFreeze (line : Line) (held : Contents) (old new : World) (resul
   pub fewer : frozen_in line < neighbour_count plan
   pub rest_is : IsRest b plan (frozen_in line) rest
   -- OUT holds the text of the whole plan, CERT that of the certificate, and the six lines on them are printed
-  pub stored : Stands (frozen_planned b (out_of line) (second_out_of line) (frozen_loss b plan (frozen_in line)) certificate (whole_of line plan tail)).stores old.shelf.contents new.shelf.contents
+  pub stored : Stands (frozen_planned b (plan_name line) (cert_name line) (frozen_loss b plan (frozen_in line)) certificate (whole_of line plan tail)).stores old.shelf.contents new.shelf.contents
   pub prints : Prints (search_summary (raised (frozen_loss b plan (frozen_in line)) certificate) (Some (neighbour_count (whole_of line plan tail)))) old.paper new.paper
   -- the whole plan begins with the first plates, is lawful, has the printed loss, and loses no more than the plan that PLAN says
   pub begins : BeginsWith (frozen_in line) plan (whole_of line plan tail)

@@ -20,30 +20,30 @@ use Rattle.cert_check.specs.Faults.{Answers as CheckAnswers, IsFirstFault}
 use Rattle.plan_draft.specs.Drafts.{HasNoDraft, IsDraftPlan}
 use Rattle.plan_csv.specs.PlanTexts.{plan_said}
 use Rattle.plan_csv.specs.Solutions.{solution_text}
-use Rattle.glass_run.specs.Answers.{Answer}
-use Rattle.glass_run.specs.Checks.{IsConverted, IsLawfulToo, Verifies, accepted as accepted_answer, bound_line, loss_in, refused_line}
-use Rattle.glass_run.specs.Commands.{HasInstance, out_of, second_out_of}
-use Rattle.glass_run.specs.Drafts.{no_draft_line, summary}
+use Rattle.run_frame.specs.Answers.{Answer}
+use Rattle.run_checks.specs.Checks.{IsConverted, IsLawfulToo, Verifies, accepted as accepted_answer, bound_line, loss_in, refused_line, root_ranges}
+use Rattle.glass_run.specs.Commands.{Answers, HasInstance, cert_name, plan_name}
+use Rattle.run_plans.specs.Drafts.{no_draft_line, summary}
 use Rattle.command_line.specs.Grammar.{Line, count_in, files_of, flag_in, line_of}
-use Rattle.glass_run.specs.Judgements.{IsFirstBroken, lawful_line, unlawful_line}
-use Rattle.glass_run.specs.Plans.{AreReadable, HasLoss, IsOfSearch, ending, handled, planned, root_ranges, search_lines, search_summary, AreTold}
-use Rattle.glass_run.specs.Resumptions.{IsResumed}
-use Rattle.glass_run.specs.Runs.{Prints, RunsTo, Stands, World}
-use Rattle.glass_run.specs.Said.{SayBoth}
-use Rattle.glass_run.specs.Texts.{Texts, limit_of, text_for, text_or_empty, texts_of}
+use Rattle.run_plans.specs.Judgements.{IsFirstBroken, lawful_line, unlawful_line}
+use Rattle.run_search.specs.Plans.{AreReadable, HasLoss, IsOfSearch, ending, handled, planned, search_lines, search_summary, AreTold}
+use Rattle.run_search.specs.Resumptions.{IsResumed}
+use Rattle.run_frame.specs.Runs.{Prints, RunsTo, Stands, World}
+use Rattle.run_checks.specs.Said.{SayBoth}
+use Rattle.run_frame.specs.Texts.{Texts, limit_of, text_for, text_or_empty, texts_of}
 use Rattle.command_line.specs.declared.grammar.Count.TheVariants as count
 use Rattle.command_line.specs.declared.grammar.Flag.TheVariants as flag
 use Rattle.command_line.specs.declared.grammar.Verb.{Verb}
 use Rattle.command_line.specs.declared.grammar.Verb.TheVariants as verb
-use Rattle.glass_run.specs.declared.status.Status.{Status}
-use Rattle.glass_run.specs.declared.status.Status.TheVariants as status
+use Rattle.run_frame.specs.declared.status.Status.{Status}
+use Rattle.run_frame.specs.declared.status.Status.TheVariants as status
 
 -- these words are a line of this command, the files told what they held, and the run ended so
 pub record Ended (words : List (List ℕ)) (verb : Verb) (line : Line) (held : Contents) (old new : World) (result : Status) : Type 0 where
   pub line_is : line_of words ≡ Some line
   pub verb_is : line.verb ≡ verb
   pub told : old.shelf.contents ≡ Some held
-  pub runs : RunsTo (line_of words) old new result
+  pub runs : RunsTo Answers (line_of words) old new result
 
 -- the instance of a line, and the texts of its files
 pub record SaidBy (line : Line) (held : Contents) (texts : Texts) (b : Problem) : Type 0 where
@@ -57,7 +57,7 @@ pub record StoresLawfulPlan (line : Line) (held : Contents) (old new : World) : 
   pub plan : Forest
   pub reads : SaidBy line held texts b
   pub lawful : IsLawful b plan
-  pub stored : Stored (out_of line) (solution_text b plan) old.shelf.contents new.shelf.contents
+  pub stored : Stored (plan_name line) (solution_text b plan) old.shelf.contents new.shelf.contents
   pub prints : Prints (summary (loss_of b plan) (neighbour_count plan)) old.paper new.paper
 
 -- the item of this number is the first without a place, and this is printed
@@ -134,7 +134,7 @@ pub record StoresSearch (line : Line) (held : Contents) (old new : World) (resul
   pub reads : SaidBy line held texts b
   -- OUT holds the text of the plan, if there is one; CERT that of the certificate, which is right for the box of all plans; the six
   -- lines on them are printed, and with `--watch` the improvements
-  pub stored : Stands (planned b (out_of line) (second_out_of line) certificate plan told).stores old.shelf.contents new.shelf.contents
+  pub stored : Stands (planned b (plan_name line) (cert_name line) certificate plan told).stores old.shelf.contents new.shelf.contents
   pub prints : Prints (search_lines certificate (option_map neighbour_count plan) told) old.paper new.paper
   pub good : IsGood b (root_ranges b) certificate.loss certificate
   -- a check of it accepts it
@@ -198,7 +198,7 @@ pub record StoresConverted (line : Line) (held : Contents) (old new : World) : T
   pub converted : Certificate
   pub right : FindsRight line held texts b certificate
   pub names : IsConverted b certificate converted
-  pub stored : Stored (out_of line) (cert_text converted) old.shelf.contents new.shelf.contents
+  pub stored : Stored (cert_name line) (cert_text converted) old.shelf.contents new.shelf.contents
   pub prints : Prints (bound_line (codes "converted") converted) old.paper new.paper
 
 -- it is so, and a search of the boxes that CERT leaves open went on; what it made of both is stored and printed
@@ -212,7 +212,7 @@ pub record StoresResumed (line : Line) (held : Contents) (old new : World) (resu
   pub plan : Option Forest
   pub resumed : IsResumed b (count_in line count.Budget) right.plan certificate joined plan
   -- OUT holds the text of the plan, if there is one; NEW that of the certificate; the six lines on them are printed
-  pub stored : Stands (planned b (out_of line) (second_out_of line) joined plan None).stores old.shelf.contents new.shelf.contents
+  pub stored : Stands (planned b (plan_name line) (cert_name line) joined plan None).stores old.shelf.contents new.shelf.contents
   pub prints : Prints (search_summary joined (option_map neighbour_count plan)) old.paper new.paper
   -- a check of it accepts it, and `verify` of the two texts, or of the certificate alone, accepts them with this bound and this number of open boxes
   pub accepted : (verdict : Verdict) → CheckAnswers b (root_ranges b) joined.loss joined verdict → verdict ≡ Verdict.Accept joined.bound joined.left

@@ -14,14 +14,15 @@ use Rattle.cut_sheet.specs.Replays.{replayed}
 use Rattle.cut_sheet.specs.Sheets.{pieces_of}
 use Rattle.cut_sheet.specs.Texts.{sheet_text}
 use Rattle.plan_csv.specs.PlanTexts.{plan_said}
-use Rattle.command_line.specs.Grammar.{Line}
-use Rattle.glass_run.specs.Answers.{Answer}
-use Rattle.glass_run.specs.Commands.{out_of}
+use Rattle.command_line.specs.declared.grammar.Product.TheVariants as product
+use Rattle.command_line.specs.Grammar.{stored_as, Line}
+use Rattle.run_frame.specs.Answers.{Answer}
+use Rattle.glass_run.specs.Commands.{}
 use Rattle.glass_run.specs.Headlines.{SaidBy}
-use Rattle.glass_run.specs.Replays.{ReplaysText, followed, replay_line}
-use Rattle.glass_run.specs.Runs.{Prints, World}
-use Rattle.glass_run.specs.Sheets.{instructions_line}
-use Rattle.glass_run.specs.Texts.{Texts, text_or_empty}
+use Rattle.run_plans.specs.Replays.{ReplaysText, followed, replay_line}
+use Rattle.run_frame.specs.Runs.{Prints, World}
+use Rattle.run_plans.specs.Sheets.{instructions_line}
+use Rattle.run_frame.specs.Texts.{Texts, text_or_empty}
 
 -- the plan that PLAN says is lawful, OUT holds the text of a sheet, and the number of its instructions is printed
 pub record StoresSheet (line : Line) (held : Contents) (old new : World) : Type 0 where
@@ -32,7 +33,7 @@ pub record StoresSheet (line : Line) (held : Contents) (old new : World) : Type 
   pub reads : SaidBy line held texts b
   pub said : plan_said b (text_or_empty texts role.Plan) ≡ Ok plan
   pub lawful : IsLawful b plan
-  pub stored : Stored (out_of line) (sheet_text sheet) old.shelf.contents new.shelf.contents
+  pub stored : Stored (stored_as line product.Sheet) (sheet_text sheet) old.shelf.contents new.shelf.contents
   pub prints : Prints (instructions_line sheet) old.paper new.paper
   -- a table that follows the sheet is never stuck, and makes the pieces of the plan that are not cut any further, in cutting order
   pub makes : replayed b sheet ≡ Ok (pieces_of b plan)

@@ -1,27 +1,19 @@
 //! What the commands that do not search answer to their texts.
 
 ghost use Rattle.std.specs.Prelude.{◌≡◌, ◌↔◌, IfOk, IsTrue, MatchResult, option_map};
-ghost use Rattle.command_line.specs.Grammar.{Line, lead_in, stored_names};
+ghost use Rattle.command_line.specs.Grammar.{Line, lead_in, stored_as};
 ghost use Rattle.command_line.specs.Lines.{line_in};
 ghost use Rattle.glass_gen.specs.Drawn.{IsDrawn};
-ghost use Rattle.glass_run.specs.Commands.{AnswersInstance, HasInstance, HasNoInstance, Searches, flaws_of};
+ghost use Rattle.glass_run.specs.Commands.{AnswersInstance, HasInstance, HasNoInstance, IsCommand, Searches, flaws_of};
 ghost use Rattle.glass_run.specs.inner.Asked.{IsAsked, MaySearch};
-ghost use Rattle.glass_run.specs.inner.Forms.{OnTold, answer_in, texts_in};
+ghost use Rattle.run_frame.specs.Forms.{OnTold, answer_in, texts_in};
 
-use crate::checking::convert_texts;
-use crate::checking_behind::verify_from;
-use crate::drafting::draft_instance;
-use crate::drawing::draw_text;
-use crate::instances::instance_of;
-use crate::judging::judge_text;
-use crate::notices::{Stop, reply_at, reply_with};
-use crate::replaying::replay_text;
-use crate::reply::Reply;
-use crate::sheeting::sheet_text;
-use crate::texts::{Text, text_of_role, text_or_empty};
 use command_line::{CommandLine, Count, Lead, Verb};
 use glass_base::{Instance, Memory, Role, Run};
 use glass_gen::generate;
+use run_checks::{convert_texts, verify_from};
+use run_frame::{Reply, Stop, Text, reply_at, reply_with, text_of_role, text_or_empty};
+use run_plans::{draft_instance, instance_of, judge_text, replay_text, sheet_text};
 use std::alloc::Global;
 
 /// What a command comes to without a search.
@@ -50,8 +42,9 @@ fn reply_at_once(
     texts: &[Text],
     instance: &Instance,
 ) -> Result<Reply, Memory>
-    requires { Searches (line_in line.now).verb → ⊥ }
-    ensures { let said = line_in line.now in IfOk result (λ r. AnswersInstance said.verb said (texts_in texts.now) instance.now (answer_in (stored_names said) r)) }
+    requires at_once { Searches (line_in line.now).verb → ⊥ }
+    requires known { IsCommand (line_in line.now).verb }
+    ensures { let said = line_in line.now in IfOk result (λ r. AnswersInstance said.verb said (texts_in texts.now) instance.now (answer_in (stored_as said) r)) }
 {
     match line.verb {
         Verb::Draft => draft_instance(alloc, instance),
@@ -73,8 +66,7 @@ fn reply_at_once(
             let notice = replay_text(alloc, instance, text_or_empty(texts, Role::Sheet))?;
             Ok(reply_with(alloc, notice))
         }
-        Verb::Picture => draw_text(alloc, instance, text_or_empty(texts, Role::Plan)),
-        Verb::Plan | Verb::Gen | Verb::Resume | Verb::Freeze => unreachable!(),
+        Verb::Plan | Verb::Gen | Verb::Resume | Verb::Freeze | Verb::Picture => unreachable!(),
     }
 }
 
@@ -132,6 +124,7 @@ pub(crate) fn asked_of_texts(
     line: &CommandLine<'_>,
     texts: Run<Text>,
 ) -> Result<Asked, Memory>
+    requires { IsCommand (line_in line.now).verb }
     ensures asked { let said = line_in line.now in IfOk result (IsAsked said (texts_in texts.items)) }
     ensures searches { IfOk result (MaySearch (line_in line.now)) }
 {

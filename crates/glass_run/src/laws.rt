@@ -1,4 +1,4 @@
-//! What a user may rely on, derived from the contracts of `glass` and `glass_picture` alone. The functions do nothing: their contracts are the laws.
+//! What a user may rely on, derived from the contract of `glass` alone. The functions do nothing: their contracts are the laws.
 //!
 //! Each speaks of any words, and of files that tell what they hold before the run.
 
@@ -7,13 +7,12 @@ ghost use Rattle.glass_io.specs.Told.{Contents};
 ghost use Rattle.command_line.specs.Grammar.{Line};
 ghost use Rattle.glass_run.specs.Headlines.{Ended, FindsLawful, FindsNoDraft, FindsUnlawful, IsCheck, IsJudging, IsSearch, IsSearchEnd, StoresConverted, StoresLawfulPlan, StoresResumed, StoresSearch};
 ghost use Rattle.glass_run.specs.FreezeHeadlines.{AcceptsFrom, FindsWrongFrom, StoresFreeze, cut_already};
-ghost use Rattle.glass_run.specs.PictureHeadlines.{PictureEnded, StoresPicture};
-ghost use Rattle.glass_run.specs.Runs.{World};
+ghost use Rattle.run_frame.specs.Runs.{World};
 ghost use Rattle.glass_run.specs.SheetHeadlines.{FollowsSheet, StoresSheet};
 ghost use Rattle.command_line.specs.declared.grammar.Verb.{Verb};
 ghost use Rattle.command_line.specs.declared.grammar.Verb.TheVariants as verb;
-ghost use Rattle.glass_run.specs.declared.status.Status.{Status};
-ghost use Rattle.glass_run.specs.declared.status.Status.TheVariants as status;
+ghost use Rattle.run_frame.specs.declared.status.Status.{Status};
+ghost use Rattle.run_frame.specs.declared.status.Status.TheVariants as status;
 
 /// Where `draft` is done, OUT holds the text of a lawful plan, stored whole, all other names are as before, and what is printed is
 /// this plan's loss and its number of plates.
@@ -99,11 +98,4 @@ pub fn done_sheets_make_their_plans()
 /// of the wastes is printed, and the pieces make up the plates that were loaded.
 pub fn done_replays_are_true()
     ensures { (words : List (List ℕ)) → (line : Line) → (held : Contents) → (old new : World) → Ended words verb.Replay line held old new status.Done → FollowsSheet line held old new }
-{}
-
-/// Where the program that draws is done, OUT holds the text of a picture of the plan that PLAN says, stored whole, and all other names are
-/// as before: each row of the plan has exactly one rectangle in it, in the row's place and of its size. What is printed is the plan's loss
-/// where it is lawful, and else its first breach.
-pub fn done_pictures_are_true()
-    ensures { (words : List (List ℕ)) → (line : Line) → (held : Contents) → (old new : World) → PictureEnded words line held old new status.Done → StoresPicture line held old new }
 {}

@@ -1,32 +1,27 @@
 //! The top call.
 
-ghost use Rattle.std.specs.Prelude.{◌≡◌, ◌≢◌, ◌⊎◌, [], map, option_map, slice_index_or, IfOk, IfErr, IfSome, OnOk, IsErrOf};
+ghost use Rattle.std.specs.Prelude.{◌≡◌, ◌≢◌, map, option_map, IfOk, IfErr, IfSome};
 ghost use Rattle.std.specs.String.{string_bytes};
-ghost use Rattle.glass_io.specs.Told.{Contents, CountsStore, SameContents};
-ghost use Rattle.glass_io.specs.declared.files.Trouble.TheVariants.{Failed, Memory as OutOfMemory};
-ghost use Rattle.command_line.specs.Grammar.{files_of, line_of, picture_line_of, stored_names};
+ghost use Rattle.glass_io.specs.Told.{Contents, SameContents};
+ghost use Rattle.command_line.specs.Grammar.{files_of, line_of, stored_as};
 ghost use Rattle.command_line.specs.Lines.{line_in};
-ghost use Rattle.glass_run.specs.Commands.{Answers, AnswersInstance, Searches};
-ghost use Rattle.glass_run.specs.Runs.{CutShort, RunsTo, Stands, StandsInPart, world};
-ghost use Rattle.glass_run.specs.Texts.{Reaches};
+ghost use Rattle.glass_run.specs.Commands.{Answers, AnswersInstance, IsCommand, Searches};
+ghost use Rattle.run_frame.specs.Runs.{RunsTo, world};
+ghost use Rattle.run_frame.specs.Texts.{Reaches};
 ghost use Rattle.glass_run.specs.inner.Asked.{IsAskedOf, MaySearch};
-ghost use Rattle.glass_run.specs.inner.Deliveries.{Delivers, Ends};
-ghost use Rattle.glass_run.specs.inner.Forms.{CountsFetches, OnFault, answer_in, store_in, texts_in};
+ghost use Rattle.run_frame.specs.Forms.{CountsFetches, OnFault, answer_in, texts_in};
 
 use crate::answering::{Asked, asked_of_texts};
-use crate::fetching::{NoReply, fetch_files};
-use crate::freezing::freeze_text;
-use crate::lines::{USAGE_LINE, read_fault_line};
-use crate::notices::reply_with;
-use crate::planning::plan_instance;
-use crate::reply::{Output, Reply};
-use crate::resuming::resume_texts;
-use crate::status::Status;
-use crate::texts::{Text, text_of_role, text_or_empty};
 use box_workers::Gate;
-use command_line::{CommandLine, Count, Flag, Lead, Verb, line_named, picture_line};
+use command_line::{CommandLine, Count, Flag, Lead, Verb, line_named};
 use glass_base::{Instance, Memory, Role};
-use glass_io::{Files, Sink, Trouble};
+use glass_io::{Files, Sink};
+use run_frame::delivering::print;
+use run_frame::{
+    NoReply, Reply, Status, Text, USAGE_LINE, deliver, fetch_files, read_fault_line, reply_with,
+    text_of_role, text_or_empty,
+};
+use run_search::{freeze_text, plan_instance, resume_texts};
 use std::alloc::Global;
 use std::sync::Wait;
 use std::thread::Threads;
@@ -41,7 +36,7 @@ fn reply_by_search<R: Threads + Wait + Sync, G: Gate + Sync>(
     gate: &G,
 ) -> Result<Reply, Memory>
     requires { Searches (line_in line.now).verb }
-    ensures { let said = line_in line.now in IfOk result (λ r. AnswersInstance said.verb said (texts_in texts.now) instance.now (answer_in (stored_names said) r)) }
+    ensures { let said = line_in line.now in IfOk result (λ r. AnswersInstance said.verb said (texts_in texts.now) instance.now (answer_in (stored_as said) r)) }
 {
     let (workers, budget) = (line.count(Count::Workers), line.count(Count::Budget));
     match line.verb {
@@ -75,6 +70,7 @@ fn asked_of_files<F: Files>(
     files: &mut F,
     line: &CommandLine<'_>,
 ) -> Result<Asked, NoReply>
+    requires { IsCommand (line_in line.now).verb }
     ensures same { SameContents (F.shelf files.old).contents (F.shelf files.new).contents }
     ensures asked { IfOk result (λ asked. IfSome (F.shelf files.old).contents (λ contents. IsAskedOf contents (line_in line.now) asked)) }
     ensures searches { IfOk result (MaySearch (line_in line.now)) }
@@ -97,7 +93,7 @@ fn reply_to_asked<R: Threads + Wait + Sync, G: Gate + Sync>(
     gate: &G,
 ) -> Result<Reply, Memory>
     requires { MaySearch (line_in line.now) asked }
-    ensures { let said = line_in line.now in IfOk result (λ r. (contents : Contents) → IsAskedOf contents said asked → Answers contents said (answer_in (stored_names said) r)) }
+    ensures { let said = line_in line.now in IfOk result (λ r. (contents : Contents) → IsAskedOf contents said asked → Answers contents said (answer_in (stored_as said) r)) }
 {
     match asked {
         Asked::Reply(reply) => Ok(reply),
@@ -115,82 +111,15 @@ fn reply_of<R: Threads + Wait + Sync, F: Files, G: Gate + Sync>(
     line: &CommandLine<'_>,
     gate: &G,
 ) -> Result<Reply, NoReply>
+    requires { IsCommand (line_in line.now).verb }
     ensures same { SameContents (F.shelf files.old).contents (F.shelf files.new).contents }
-    ensures reply { IfOk result (λ r. IfSome (F.shelf files.old).contents (λ contents. Answers contents (line_in line.now) (answer_in (stored_names (line_in line.now)) r))) }
+    ensures reply { IfOk result (λ r. IfSome (F.shelf files.old).contents (λ contents. Answers contents (line_in line.now) (answer_in (stored_as (line_in line.now)) r))) }
     ensures reached { IfErr result (OnFault (λ of. IfSome (F.shelf files.old).contents (λ contents. Reaches contents of (files_of (line_in line.now))))) }
     ensures faults { CountsFetches (F.shelf files.old) (F.shelf files.new) result }
     ensures keeps { F.reliable files.old → F.reliable files.new × IfErr result (OnFault (λ _. ⊥)) }
 {
     let asked = asked_of_files(alloc, files, line)?;
     Ok(reply_to_asked(rt, alloc, line, asked, gate)?)
-}
-
-/// The reply of a line of the program that draws to what stands under the names of its files.
-fn picture_reply_of<F: Files>(
-    alloc: Global,
-    files: &mut F,
-    line: &CommandLine<'_>,
-) -> Result<Reply, NoReply>
-    requires picture { (line_in line.now).verb ≡ Verb.Picture }
-    ensures same { SameContents (F.shelf files.old).contents (F.shelf files.new).contents }
-    ensures reply { IfOk result (λ r. IfSome (F.shelf files.old).contents (λ contents. Answers contents (line_in line.now) (answer_in (stored_names (line_in line.now)) r))) }
-    ensures reached { IfErr result (OnFault (λ of. IfSome (F.shelf files.old).contents (λ contents. Reaches contents of (files_of (line_in line.now))))) }
-    ensures faults { CountsFetches (F.shelf files.old) (F.shelf files.new) result }
-    ensures keeps { F.reliable files.old → F.reliable files.new × IfErr result (OnFault (λ _. ⊥)) }
-{
-    match asked_of_files(alloc, files, line)? {
-        Asked::Reply(reply) => Ok(reply),
-        Asked::Search { .. } => unreachable!(),
-    }
-}
-
-/// Stores outputs under their names, one after another.
-fn store_all<F: Files>(files: &mut F, names: &[String], outputs: &[Output]) -> Result<(), Trouble>
-    ensures stands { OnOk result (Stands (map (store_in (map string_bytes names.now)) outputs.now) (F.shelf files.old).contents (F.shelf files.new).contents) }
-    ensures failed { IsErrOf result Failed → CutShort (map (store_in (map string_bytes names.now)) outputs.now) (F.shelf files.old).contents (F.shelf files.new).contents }
-    ensures memory { IsErrOf result OutOfMemory → StandsInPart (map (store_in (map string_bytes names.now)) outputs.now) (F.shelf files.old).contents (F.shelf files.new).contents }
-    ensures counts { CountsStore (F.shelf files.old) (F.shelf files.new) result }
-    ensures keeps { F.reliable files.old → F.reliable files.new × (IsErrOf result Failed → ⊥) }
-{
-    for output in outputs {
-        let name = name_at(names, output.place);
-        files.store(name, output.bytes.as_slice())?;
-    }
-    Ok(())
-}
-
-/// The name at a place, empty where there is none.
-fn name_at(names: &[String], place: usize) -> &str
-    ensures { result.now ≡ slice_index_or (map string_bytes names.now) place [] }
-{
-    match names.get(place) {
-        Some(name) => name.as_str(),
-        None => "",
-    }
-}
-
-/// How a run ends whose last step is to print these lines, and which then has this status.
-fn print<S: Sink>(out: &mut S, lines: &str, status: Status) -> Status
-    ensures ends { Ends lines.now status (S.paper out.old) (S.paper out.new) result }
-    ensures keeps { S.reliable out.old → result ≢ Status.WriteFault ⊎ (status ≡ Status.WriteFault) }
-{
-    match out.write(lines.as_bytes()) {
-        Ok(()) => status,
-        Err(Trouble::Failed) => Status::WriteFault,
-        Err(Trouble::Memory) => Status::Memory,
-    }
-}
-
-/// Stores what a reply has to store, and then prints its lines.
-fn deliver<F: Files, S: Sink>(files: &mut F, out: &mut S, names: &[String], reply: &Reply) -> Status
-    ensures delivers { Delivers (answer_in (map string_bytes names.now) reply.now) (world (F.shelf files.old) (S.paper out.old)) (world (F.shelf files.new) (S.paper out.new)) result }
-    ensures keeps { F.reliable files.old → S.reliable out.old → result ≢ Status.WriteFault }
-{
-    match store_all(files, names, reply.outputs.as_slice()) {
-        Ok(()) => print(out, reply.lines.as_str(), reply.status),
-        Err(Trouble::Failed) => Status::WriteFault,
-        Err(Trouble::Memory) => Status::Memory,
-    }
 }
 
 /// Runs a command line, or tells that the words are none.
@@ -202,36 +131,16 @@ fn run_line<R: Threads + Wait + Sync, F: Files, S: Sink, G: Gate + Sync>(
     out: &mut S,
     gate: &G,
 ) -> Status
-    ensures runs { RunsTo (option_map line_in line.entry) (world (F.shelf files.old) (S.paper out.old)) (world (F.shelf files.new) (S.paper out.new)) result }
+    requires command { IfSome line (λ line. IsCommand (line_in line).verb) }
+    ensures runs { RunsTo Answers (option_map line_in line.entry) (world (F.shelf files.old) (S.paper out.old)) (world (F.shelf files.new) (S.paper out.new)) result }
     ensures no_fault { F.reliable files.old → S.reliable out.old → (result ≢ Status.ReadFault) × (result ≢ Status.WriteFault) }
 {
     match line {
         None => print(out, USAGE_LINE, Status::Usage),
         Some(line) => match reply_of(rt, alloc, files, &line, gate) {
-            Ok(reply) => deliver(files, out, line.stored(), &reply),
+            Ok(reply) => deliver(files, out, &line, &reply),
             Err(NoReply::Memory) => Status::Memory,
             Err(NoReply::ReadFault(role)) => print(out, read_fault_line(role), Status::ReadFault),
-        },
-    }
-}
-
-/// Runs a line of the program that draws, or tells that the words are none.
-fn run_picture_line<F: Files, S: Sink>(
-    alloc: Global,
-    line: Option<CommandLine<'_>>,
-    files: &mut F,
-    out: &mut S,
-) -> Status
-    requires picture { IfSome line (λ line. (line_in line).verb ≡ Verb.Picture) }
-    ensures runs { RunsTo (option_map line_in line.entry) (world (F.shelf files.old) (S.paper out.old)) (world (F.shelf files.new) (S.paper out.new)) result }
-    ensures no_fault { F.reliable files.old → S.reliable out.old → (result ≢ Status.ReadFault) × (result ≢ Status.WriteFault) }
-{
-    match line {
-        None => print(out, USAGE_LINE, Status::Usage),
-        Some(line) => match picture_reply_of(alloc, files, &line) {
-            Ok(reply) => deliver(files, out, line.stored(), &reply),
-            Err(NoReply::Memory) => Status::Memory,
-            Err(NoReply::ReadFault(of)) => print(out, read_fault_line(of), Status::ReadFault),
         },
     }
 }
@@ -260,32 +169,10 @@ pub fn glass<R: Threads + Wait + Sync, F: Files, S: Sink, G: Gate + Sync>(
     gate: &G,
 ) -> Status
     // what is stored, printed and counted, by the status
-    ensures runs { RunsTo (line_of (map string_bytes words.now)) (world (F.shelf files.old) (S.paper out.old)) (world (F.shelf files.new) (S.paper out.new)) result }
+    ensures runs { RunsTo Answers (line_of (map string_bytes words.now)) (world (F.shelf files.old) (S.paper out.old)) (world (F.shelf files.new) (S.paper out.new)) result }
 
     // where nothing fails there is no fault
     ensures no_fault { F.reliable files.old → S.reliable out.old → (result ≢ Status.ReadFault) × (result ≢ Status.WriteFault) }
 {
     run_line(rt, alloc, line_named(words), files, out, gate)
-}
-
-/// Draws a plan, the words being those after the name of the program that draws: `BATCH DEFECTS PLAN OUT`, and behind them the options
-/// `--params=FILE` and `--plates=FILE`, as in the line of `judge`.
-///
-/// It judges the plan that PLAN says as `judge` does, stores a picture of it as OUT, whether it is lawful or not, and prints the loss of a
-/// lawful plan, or the first rule that it breaks. A text that is no plan is refused as `judge` refuses it, and so are all other files.
-///
-/// It starts no thread and waits for none.
-pub fn glass_picture<F: Files, S: Sink>(
-    alloc: Global,
-    words: &[String],
-    files: &mut F,
-    out: &mut S,
-) -> Status
-    // what is stored, printed and counted, by the status
-    ensures runs { RunsTo (picture_line_of (map string_bytes words.now)) (world (F.shelf files.old) (S.paper out.old)) (world (F.shelf files.new) (S.paper out.new)) result }
-
-    // where nothing fails there is no fault
-    ensures no_fault { F.reliable files.old → S.reliable out.old → (result ≢ Status.ReadFault) × (result ≢ Status.WriteFault) }
-{
-    run_picture_line(alloc, picture_line(words), files, out)
 }

@@ -13,12 +13,12 @@ use Rattle.command_line.specs.Grammar.{Line, count_in}
 use Rattle.command_line.specs.declared.grammar.Count.TheVariants as count
 use Rattle.plan_freeze.specs.Rests.{frozen_loss}
 use Rattle.glass_run.specs.FreezeHeadlines.{AcceptsBehind, AcceptsFrom, StoresFreeze, frozen_in, whole_of}
-use Rattle.glass_run.specs.Freezes.{raised}
+use Rattle.run_checks.specs.FrozenChecks.{raised}
 use Rattle.glass_run.specs.Headlines.{Accepts, StoresResumed, StoresSearch}
-use Rattle.glass_run.specs.Plans.{HasLoss, counted_lines, ended_lines, ending, ending_word, handled, history_lines, search_lines}
-use Rattle.glass_run.specs.Runs.{Prints, World}
-use Rattle.glass_run.specs.declared.status.Status.{Status}
-use Rattle.glass_run.specs.declared.status.Status.TheVariants as status
+use Rattle.run_search.specs.Plans.{HasLoss, counted_lines, ended_lines, ending, ending_word, handled, history_lines, search_lines}
+use Rattle.run_frame.specs.Runs.{Prints, World}
+use Rattle.run_frame.specs.declared.status.Status.{Status}
+use Rattle.run_frame.specs.declared.status.Status.TheVariants as status
 use Rattle.plain_laws.specs.Plain.{AcceptsPlan, AcceptsPlanBehind, FindsPlan, FindsPlanBehind, IsBounded, PrintsEnd, ResumesPlan}
 
 optimal_not_stopped : (result : Status) → result ≡ status.Optimal → result ≢ status.Stopped

@@ -15,16 +15,16 @@ use Rattle.command_line.specs.declared.grammar.Lead.TheVariants as lead
 use Rattle.plan_csv.specs.PlanTexts.{plan_said}
 use Rattle.plan_csv.specs.Solutions.{solution_text}
 use Rattle.plan_freeze.specs.Frozen.{BeginsWith}
-use Rattle.glass_run.specs.Answers.{Store}
-use Rattle.glass_run.specs.Checks.{IsLawfulToo, loss_in}
-use Rattle.glass_run.specs.Commands.{out_of, second_out_of}
+use Rattle.run_frame.specs.Answers.{Store}
+use Rattle.run_checks.specs.Checks.{IsLawfulToo, loss_in}
+use Rattle.glass_run.specs.Commands.{cert_name, plan_name}
 use Rattle.glass_run.specs.Headlines.{SaidBy}
-use Rattle.glass_run.specs.Plans.{HasLoss, ended_lines, plan_stores}
-use Rattle.glass_run.specs.Runs.{Prints, Stands, World}
-use Rattle.glass_run.specs.Said.{IsPlanIn}
-use Rattle.glass_run.specs.Texts.{Texts, text_for, text_or_empty}
-use Rattle.glass_run.specs.declared.status.Status.{Status}
-use Rattle.glass_run.specs.declared.status.Status.TheVariants as status
+use Rattle.run_search.specs.Plans.{HasLoss, ended_lines, plan_stores}
+use Rattle.run_frame.specs.Runs.{Prints, Stands, World}
+use Rattle.run_checks.specs.Said.{IsPlanIn}
+use Rattle.run_frame.specs.Texts.{Texts, text_for, text_or_empty}
+use Rattle.run_frame.specs.declared.status.Status.{Status}
+use Rattle.run_frame.specs.declared.status.Status.TheVariants as status
 
 -- the first three lines say how a search ended, its loss and its bound
 abbrev pub PrintsEnd : Option ℕ → Option ℕ → World → World → Type 0
@@ -32,7 +32,7 @@ PrintsEnd loss bound old new = (how : List ℕ) × (later : List ℕ) × Prints 
 
 -- these files are stored, and then one more under the second name
 abbrev pub StoresFirst : Line → List Store → World → World → Type 0
-StoresFirst line stores old new = (bytes : List ℕ) × Stands (stores ++ record { name = second_out_of line; bytes = bytes } ∷ []) old.shelf.contents new.shelf.contents
+StoresFirst line stores old new = (bytes : List ℕ) × Stands (stores ++ record { name = cert_name line; bytes = bytes } ∷ []) old.shelf.contents new.shelf.contents
 
 -- what a plan and a bound say of an instance, by how the search ended
 pub record IsBounded (b : Problem) (plan : Option Forest) (loss bound : Option ℕ) (result : Status) : Type 0 where
@@ -52,7 +52,7 @@ pub record FindsPlan (line : Line) (held : Contents) (old new : World) (result :
   pub loss : Option ℕ
   pub bound : Option ℕ
   pub bounded : IsBounded b plan loss bound result
-  pub stored : StoresFirst line (plan_stores b (out_of line) plan) old new
+  pub stored : StoresFirst line (plan_stores b (plan_name line) plan) old new
   pub prints : PrintsEnd loss bound old new
 
 -- the same, and PLAN says a lawful plan, or none, than which the printed one is not worse
@@ -78,7 +78,7 @@ pub record FindsPlanBehind (line : Line) (held : Contents) (old new : World) (re
   pub bound : Option ℕ
   pub bounds : (other : Forest) → BeginsWith (lead_in line lead.Frozen) before other → IsLawful b other → Reaches bound (loss_of b other)
   pub optimal : result ≡ status.Optimal → (other : Forest) → BeginsWith (lead_in line lead.Frozen) before other → IsLawful b other → loss_of b plan ≤ loss_of b other
-  pub stored : StoresFirst line (record { name = out_of line; bytes = solution_text b plan } ∷ []) old new
+  pub stored : StoresFirst line (record { name = plan_name line; bytes = solution_text b plan } ∷ []) old new
   pub prints : PrintsEnd (Some (loss_of b plan)) bound old new
 
 -- a bound and a number of open boxes are printed

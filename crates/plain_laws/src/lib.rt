@@ -9,9 +9,9 @@ ghost use Rattle.command_line.specs.declared.grammar.Verb.{Verb};
 ghost use Rattle.command_line.specs.declared.grammar.Verb.TheVariants as verb;
 ghost use Rattle.glass_io.specs.Told.{Contents};
 ghost use Rattle.glass_run.specs.Headlines.{Ended, IsSearch, IsSearchEnd};
-ghost use Rattle.glass_run.specs.Runs.{World};
-ghost use Rattle.glass_run.specs.declared.status.Status.{Status};
-ghost use Rattle.glass_run.specs.declared.status.Status.TheVariants as status;
+ghost use Rattle.run_frame.specs.Runs.{World};
+ghost use Rattle.run_frame.specs.declared.status.Status.{Status};
+ghost use Rattle.run_frame.specs.declared.status.Status.TheVariants as status;
 ghost use Rattle.plain_laws.specs.Plain.{AcceptsPlan, AcceptsPlanBehind, FindsPlan, FindsPlanBehind, ResumesPlan};
 
 use glass_run::laws::{

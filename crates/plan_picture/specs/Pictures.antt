@@ -18,8 +18,8 @@ use Rattle.plan_picture.specs.declared.mark.Look.TheVariants as look
 use Rattle.plan_picture.specs.declared.mark.Mark.{Mark}
 use Rattle.plan_picture.specs.declared.mark.Words.{Words}
 use Rattle.plan_picture.specs.declared.mark.Words.TheVariants as words
-use Rattle.plan_picture.specs.declared.verdict.Verdict.{Verdict}
-use Rattle.plan_picture.specs.declared.verdict.Verdict.TheVariants as verdict
+use Rattle.cut_model.specs.declared.broken.Verdict.{Verdict}
+use Rattle.cut_model.specs.declared.broken.Verdict.TheVariants as verdict
 use Rattle.plan_picture.specs.Marks.{picture_text}
 use Rattle.plan_picture.specs.Texts.{AreOf, heading, is_count, is_heading, is_of_verdict, outside, verdict_words}
 use Rattle.plan_picture.specs.Told.{Drawn, Group, told}

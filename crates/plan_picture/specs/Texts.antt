@@ -10,8 +10,8 @@ use Rattle.cut_model.specs.Order.{item_with}
 use Rattle.cut_model.specs.Tree.{sort_named}
 use Rattle.plan_picture.specs.declared.mark.Words.{Words}
 use Rattle.plan_picture.specs.declared.mark.Words.TheVariants as words
-use Rattle.plan_picture.specs.declared.verdict.Verdict.{Verdict}
-use Rattle.plan_picture.specs.declared.verdict.Verdict.TheVariants as verdict
+use Rattle.cut_model.specs.declared.broken.Verdict.{Verdict}
+use Rattle.cut_model.specs.declared.broken.Verdict.TheVariants as verdict
 
 -- a loss in thousandths of the glass that is used, loss and items, rounded
 abbrev pub thousandths : ℕ → ℕ → ℕ

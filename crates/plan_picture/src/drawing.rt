@@ -15,9 +15,8 @@ use crate::legend::{Counts, add_legend};
 use crate::mark::{Frame, Mark};
 use crate::sheet::{Sheet, broken_in};
 use crate::survey::survey_of;
-use crate::verdict::Verdict;
 use crate::writing::text_of;
-use cut_model::{Family, Plan, Visitor, plates_used, walk};
+use cut_model::{Family, Plan, Verdict, Visitor, plates_used, walk};
 use glass_base::{Instance, Memory, Run, stack_numbers};
 use std::alloc::Global;
 

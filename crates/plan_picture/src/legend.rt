@@ -9,7 +9,7 @@ ghost use Rattle.plan_picture.specs.inner.Adding.{key_words, with_texts};
 use crate::adding::add;
 use crate::layout::Layout;
 use crate::mark::{Fill, Key, Label, Line, Mark, Words};
-use crate::verdict::Verdict;
+use cut_model::Verdict;
 use glass_base::{Instance, Memory, Run};
 
 /// What the lines of a legend stand on, in hundredths of the size of plain text: the verdict, the counts, the key.

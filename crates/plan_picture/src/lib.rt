@@ -11,10 +11,8 @@ pub mod mark;
 mod over;
 mod sheet;
 mod survey;
-mod verdict;
 mod words;
 mod writing;
 
 pub use drawing::picture;
 pub use mark::{Fill, Frame, Key, Label, Line, Look, Mark, Words};
-pub use verdict::Verdict;

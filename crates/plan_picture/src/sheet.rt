@@ -8,8 +8,7 @@ ghost use Rattle.plan_picture.specs.Texts.{is_turned_from};
 
 use crate::layout::Layout;
 use crate::mark::Look;
-use crate::verdict::Verdict;
-use cut_model::{Broken, Row, Rule, Sort, item_numbered};
+use cut_model::{Broken, Row, Rule, Sort, Verdict, item_numbered};
 use glass_base::{Defect, Instance, Item};
 
 /// What a plan is drawn for.

@@ -1,7 +1,7 @@
-use cut_model::{Broken, Rule};
+use cut_model::{Broken, Rule, Verdict};
 use glass_base::{Defect, Instance, Item, Params, Run};
 use plan_csv::read_plan;
-use plan_picture::{Verdict, picture};
+use plan_picture::picture;
 use std::alloc::Global;
 use std::test::Fail;
 

@@ -1,12 +1,12 @@
 -- What a command comes to without a search.
 use Rattle.glass_io.specs.Told.{Contents}
-use Rattle.command_line.specs.Grammar.{Line, stored_names}
+use Rattle.command_line.specs.Grammar.{Line, stored_as}
 use Rattle.glass_run.specs.declared.answering.Asked.{Asked}
 use Rattle.glass_run.specs.declared.answering.Asked.TheVariants as asked
-use Rattle.glass_run.specs.Answers.{Answer}
+use Rattle.run_frame.specs.Answers.{Answer}
 use Rattle.glass_run.specs.Commands.{Answers, AnswersInstance, AnswersTexts, Searches}
-use Rattle.glass_run.specs.Texts.{Texts}
-use Rattle.glass_run.specs.inner.Forms.{answer_in, texts_in}
+use Rattle.run_frame.specs.Texts.{Texts}
+use Rattle.run_frame.specs.Forms.{answer_in, texts_in}
 
 -- only a command that searches asks for a search
 abbrev pub MaySearch : Line → Asked → Type 0
@@ -15,7 +15,7 @@ MaySearch line (asked.Search instance texts) = Searches line.verb
 
 -- its reply is a right answer; or what answers the instance is one
 abbrev pub IsAskedFor : (Answer → Type 0) → Line → Asked → Type 0
-IsAskedFor IsRight line (asked.Reply reply) = IsRight (answer_in (stored_names line) reply)
+IsAskedFor IsRight line (asked.Reply reply) = IsRight (answer_in (stored_as line) reply)
 IsAskedFor IsRight line (asked.Search instance texts) = (answer : Answer) → AnswersInstance line.verb line (texts_in texts.items) instance answer → IsRight answer
 
 -- it comes to this with these texts

@@ -1,6 +1,6 @@
-use Rattle.command_line.specs.Grammar.{stored_names}
+use Rattle.command_line.specs.Grammar.{stored_as}
 use Rattle.command_line.specs.Lines.{line_in}
-use Rattle.glass_run.specs.inner.Forms.{answer_in, texts_in}
+use Rattle.run_frame.specs.Forms.{answer_in, texts_in}
 use Rattle.glass_run.proofs.Given.{said_instance}
 use Rattle.glass_run.proofs.answering.asked_of_texts.Goals as goal
 
@@ -11,5 +11,5 @@ returns-then-searches-clause-asked c = λ answer answers.
 pub returns-clause-asked : goal.returns-clause-asked
 returns-clause-asked c =
     let line = line_in c.args.line.now in
-    said_instance line (texts_in c.args.texts.items) c.in-Ok.instance (answer_in (stored_names line) c.in_ok-reply.reply) (rw c.as_slice.ensures at c.in-Ok.ensures)
+    said_instance line (texts_in c.args.texts.items) c.in-Ok.instance (answer_in (stored_as line) c.in_ok-reply.reply) (rw c.as_slice.ensures at c.in-Ok.ensures)
     (rw c.as_slice-2.ensures at c.in_ok-reply.ensures)

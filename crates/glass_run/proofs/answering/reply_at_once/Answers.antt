@@ -1,61 +1,54 @@
 use Rattle.std.proofs.Common.{subst, sym}
 use Rattle.std.proofs.lemmas.Result.{IfOk-weaker}
-use Rattle.glass_run.specs.Answers.{Answer}
-use Rattle.command_line.specs.Grammar.{stored_names}
-use Rattle.glass_run.specs.Judgements.{JudgesText}
-use Rattle.glass_run.specs.Replays.{ReplaysText}
+use Rattle.run_frame.specs.Answers.{Answer}
+use Rattle.command_line.specs.Grammar.{stored_as}
+use Rattle.run_plans.specs.Judgements.{JudgesText}
+use Rattle.run_plans.specs.Replays.{ReplaysText}
 use Rattle.glass_base.specs.declared.role.Role.TheVariants as role
-use Rattle.glass_run.specs.Texts.{text_or_empty}
+use Rattle.run_frame.specs.Texts.{text_or_empty}
 use Rattle.command_line.specs.declared.grammar.Verb.TheVariants as verb
-use Rattle.glass_run.specs.inner.Forms.{answer_in, texts_in}
+use Rattle.run_frame.specs.Forms.{answer_in, texts_in}
 use Rattle.command_line.specs.Lines.{line_in}
-use Rattle.glass_run.proofs.Given.{answers_as, convert_answers, picture_answers, replay_answers, sheet_answers, verify_answers}
+use Rattle.glass_run.proofs.Given.{answers_as, convert_answers, replay_answers, sheet_answers, verify_answers}
 use Rattle.glass_run.proofs.answering.reply_at_once.Goals as goal
 
 pub returns-in-Draft : goal.returns-in-Draft
 returns-in-Draft c =
     let line = line_in c.args.line.now in
     IfOk-weaker c.draft_instance.result _ _
-    (λ r h. answers_as verb.Draft line (texts_in c.args.texts.now) c.args.instance.now (answer_in (stored_names line) r) c.in-Draft.is (h (stored_names line))) c.draft_instance.ensures
+    (λ r h. answers_as verb.Draft line (texts_in c.args.texts.now) c.args.instance.now (answer_in (stored_as line) r) c.in-Draft.is (h (stored_as line))) c.draft_instance.ensures
 
 pub returns-in_ok-notice-in-Judge : goal.returns-in_ok-notice-in-Judge
 returns-in_ok-notice-in-Judge c =
     let line = line_in c.args.line.now in
-    answers_as verb.Judge line (texts_in c.args.texts.now) c.args.instance.now (answer_in (stored_names line) c.reply_with.result) c.in-Judge.is
-    (subst (λ (a : Answer). JudgesText c.args.instance.now (text_or_empty (texts_in c.args.texts.now) role.Plan) a) (sym (c.reply_with.ensures (stored_names line)))
+    answers_as verb.Judge line (texts_in c.args.texts.now) c.args.instance.now (answer_in (stored_as line) c.reply_with.result) c.in-Judge.is
+    (subst (λ (a : Answer). JudgesText c.args.instance.now (text_or_empty (texts_in c.args.texts.now) role.Plan) a) (sym (c.reply_with.ensures (stored_as line)))
     (rw c.text_or_empty.ensures at c.in_ok-notice-in-Judge.ensures))
 
 pub returns-in-Verify : goal.returns-in-Verify
 returns-in-Verify c =
     let line = line_in c.args.line.now in
     IfOk-weaker c.verify_from.result _ _
-    (λ r h. verify_answers line (texts_in c.args.texts.now) c.args.instance.now (answer_in (stored_names line) r) _ _ _ c.in-Verify.is c.text_of_role-plan.ensures c.text_or_empty-in-Verify.ensures c.count-k.ensures.value (h (stored_names line)))
+    (λ r h. verify_answers line (texts_in c.args.texts.now) c.args.instance.now (answer_in (stored_as line) r) _ _ _ c.in-Verify.is c.text_of_role-plan.ensures c.text_or_empty-in-Verify.ensures c.count-k.ensures.value (h (stored_as line)))
     c.verify_from.ensures
 
 pub returns-in-Convert : goal.returns-in-Convert
 returns-in-Convert c =
     let line = line_in c.args.line.now in
     IfOk-weaker c.convert_texts.result _ _
-    (λ r h. convert_answers line (texts_in c.args.texts.now) c.args.instance.now (answer_in (stored_names line) r) _ _ c.in-Convert.is c.text_of_role-plan-in-Convert.ensures c.text_or_empty-in-Convert.ensures (h (stored_names line)))
+    (λ r h. convert_answers line (texts_in c.args.texts.now) c.args.instance.now (answer_in (stored_as line) r) _ _ c.in-Convert.is c.text_of_role-plan-in-Convert.ensures c.text_or_empty-in-Convert.ensures (h (stored_as line)))
     c.convert_texts.ensures
-
-pub returns-in-Picture : goal.returns-in-Picture
-returns-in-Picture c =
-    let line = line_in c.args.line.now in
-    IfOk-weaker c.draw_text.result _ _
-    (λ r h. picture_answers line (texts_in c.args.texts.now) c.args.instance.now (answer_in (stored_names line) r) _ c.in-Picture.is c.text_or_empty-in-Picture.ensures (h (stored_names line)))
-    c.draw_text.ensures
 
 pub returns-in-Sheet : goal.returns-in-Sheet
 returns-in-Sheet c =
     let line = line_in c.args.line.now in
     IfOk-weaker c.sheet_text.result _ _
-    (λ r h. sheet_answers line (texts_in c.args.texts.now) c.args.instance.now (answer_in (stored_names line) r) _ c.in-Sheet.is c.text_or_empty-in-Sheet.ensures (h (stored_names line)))
+    (λ r h. sheet_answers line (texts_in c.args.texts.now) c.args.instance.now (answer_in (stored_as line) r) _ c.in-Sheet.is c.text_or_empty-in-Sheet.ensures (h (stored_as line)))
     c.sheet_text.ensures
 
 pub returns-in_ok-notice-in-Replay : goal.returns-in_ok-notice-in-Replay
 returns-in_ok-notice-in-Replay c =
     let line = line_in c.args.line.now in
     let text = c.text_or_empty-in-Replay.ensures in
-    replay_answers line (texts_in c.args.texts.now) c.args.instance.now (answer_in (stored_names line) c.reply_with-in-Replay.result) c.text_or_empty-in-Replay.result.now c.in-Replay.is text
-    (subst (λ (a : Answer). ReplaysText c.args.instance.now c.text_or_empty-in-Replay.result.now a) (sym (c.reply_with-in-Replay.ensures (stored_names line))) c.in_ok-notice-in-Replay.ensures)
+    replay_answers line (texts_in c.args.texts.now) c.args.instance.now (answer_in (stored_as line) c.reply_with-in-Replay.result) c.text_or_empty-in-Replay.result.now c.in-Replay.is text
+    (subst (λ (a : Answer). ReplaysText c.args.instance.now c.text_or_empty-in-Replay.result.now a) (sym (c.reply_with-in-Replay.ensures (stored_as line))) c.in_ok-notice-in-Replay.ensures)

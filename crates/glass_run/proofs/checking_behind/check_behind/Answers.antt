@@ -1,8 +1,0 @@
-use Rattle.cut_model.specs.Tree.{tree}
-use Rattle.glass_run.proofs.CheckedBehind.{checked_behind}
-use Rattle.glass_run.proofs.checking_behind.check_behind.Goals as goal
-
-pub returns : goal.returns
-returns c =
-    checked_behind c.args.instance.now c.in_ok-left.left (tree c.args.plan.now) (tree c.in_ok-left.tail) c.args.k c.loss-lost.result c.args.certificate.now c.check_cert_in.result
-    c.in_ok-left.ensures.instance c.in_ok-left.ensures.plan c.loss-lost.ensures.sum c.check_cert_in.ensures

@@ -1,9 +1,0 @@
-use Rattle.std.proofs.Common.{[], slice_index_or}
-use Rattle.cut_model.specs.Tree.{tree}
-use Rattle.glass_run.proofs.Drawn.{draws}
-use Rattle.glass_run.proofs.drawing.draw_plan.Goals as goal
-
-pub returns : goal.returns
-returns c =
-    λ names. rw c.in_ok-one_output.ensures
-    (draws c.args.instance.now (tree c.args.plan.now) (slice_index_or names 0 []) c.in_ok-bytes.bytes.items _ c.in_ok-verdict.verdict c.in_ok-verdict.ensures c.in_ok-lines.ensures c.in_ok-bytes.ensures)

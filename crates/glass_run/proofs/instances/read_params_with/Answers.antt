@@ -1,5 +1,0 @@
-use Rattle.glass_run.proofs.Refusals.{params_refused}
-use Rattle.glass_run.proofs.instances.read_params_with.Goals as goal
-
-pub returns-in-Err : goal.returns-in-Err
-returns-in-Err c = params_refused _ _ _ _ _ c.in-Err.reason _ c.requires c.text_of_role.ensures c.in-Err.ensures.refused c.stop.ensures

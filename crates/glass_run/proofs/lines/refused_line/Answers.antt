@@ -1,5 +1,0 @@
-use Rattle.std.proofs.Common.{append_assoc, ◌∙◌}
-use Rattle.glass_run.proofs.lines.refused_line.Goals as goal
-
-pub returns : goal.returns
-returns c = (rw c.in_ok-why.ensures at c.in_ok-format.ensures.ok) ∙ simp append_assoc

@@ -1,8 +1,0 @@
-use Rattle.std.proofs.Common.{rules}
-use Rattle.glass_run.proofs.status.Status.code.Goals as goal
-
-pub returns-in-Memory : goal.returns-in-Memory
-returns-in-Memory c = search rules
-
-pub returns-in-WriteFault : goal.returns-in-WriteFault
-returns-in-WriteFault c = search rules

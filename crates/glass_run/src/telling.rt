@@ -1,0 +1,123 @@
+//! What the program tells on standard error: the commands, where words are none, and how far a long search is.
+
+use box_workers::{Gate, PatientGate};
+use std::io::Eprint;
+use std::sync::atomic::{AtomicU64, Ordering};
+use std::time::{Clock, Instant};
+
+/// How many boxes pass between two looks at the clock.
+const BOXES_BETWEEN_LOOKS: u64 = 4_096;
+
+/// How many seconds pass before the first line, and between two lines.
+const SECONDS_BETWEEN_LINES: u64 = 3;
+
+/// The commands, as they are told where words are none.
+const COMMANDS: &str = "\
+usage: glass COMMAND ..
+
+  draft   BATCH OUT                             a first plan, on plates without defects
+  plan    BATCH DEFECTS OUT CERT                a plan, and a certificate of its bound
+  gen     START ITEMS DEFECTS OUT CERT          the same of an instance that is drawn
+  judge   BATCH DEFECTS PLAN                    the loss of a plan, or the first rule it breaks
+  verify  BATCH DEFECTS PLAN CERT               checks a plan and its certificate
+  convert BATCH DEFECTS PLAN CERT NEW           names the causes in a certificate
+  resume  BATCH DEFECTS PLAN CERT OUT NEW       goes on with a search
+  freeze  K BATCH DEFECTS PLAN OUT CERT         plans anew behind the first K plates
+  sheet   BATCH DEFECTS PLAN OUT                the instructions by which a table cuts a plan
+  replay  BATCH DEFECTS SHEET                   follows such instructions
+
+behind them, in any order:
+  --params=FILE  --plates=FILE    other parameters, plates of different widths (not with gen)
+  --budget=N  --workers=N         how many boxes, 100000; how many threads, 4 (plan, gen, resume, freeze)
+  --watch                         the losses on the way as well (plan)
+  --frozen=K                      the first K plates are cut already (verify)
+
+A dash stands for no plan (verify, convert, resume). README.md tells more.
+";
+
+/// Tells the commands. That they cannot be told changes nothing of a run.
+pub(crate) fn tell_commands(rt: &impl Eprint) {
+    let _told = eprint!(rt; "{COMMANDS}");
+}
+
+/// A gate for programs, which is patient, and where that is wanted tells every few seconds how far the search is: how many boxes of the
+/// budget were taken, and the best loss that was seen.
+#[derive(Drop)]
+pub struct TellingGate<'a, R> {
+    rt: &'a R,
+    patient: PatientGate,
+    /// When it was made; none where nothing is to be told.
+    begun: Option<Instant>,
+    budget: u32,
+    boxes: AtomicU64,
+    /// The least loss that was seen, in mm².
+    loss: AtomicU64,
+    /// The second from which on the next line may come.
+    due: AtomicU64,
+}
+
+impl<'a, R: Clock> TellingGate<'a, R> {
+    /// A gate that no worker has come to. It tells nothing where that is not wanted, or where there is no clock.
+    pub fn new(rt: &'a R, budget: u32, tells: bool) -> TellingGate<'a, R> {
+        let begun = if tells { Instant::now(rt).ok() } else { None };
+        TellingGate {
+            rt,
+            patient: PatientGate::new(),
+            begun,
+            budget,
+            boxes: AtomicU64::new(0),
+            loss: AtomicU64::new(u64::MAX),
+            due: AtomicU64::new(SECONDS_BETWEEN_LINES),
+        }
+    }
+}
+
+impl<'a, R: Clock + Eprint> TellingGate<'a, R> {
+    /// Tells how far the search is.
+    fn tell(&self, boxes: u64) {
+        let budget = self.budget;
+        let _told = match self.loss.load(Ordering::Relaxed) {
+            u64::MAX => eprintln!(self.rt; "{boxes} of {budget} boxes, no plan yet"),
+            loss => eprintln!(self.rt; "{boxes} of {budget} boxes, best loss {loss}"),
+        };
+    }
+
+    /// Tells how far the search is, where a line is due. Only the worker that sets the next time tells it.
+    fn tell_if_due(&self, begun: Instant, boxes: u64) {
+        let Ok(elapsed) = begun.elapsed(self.rt) else {
+            return;
+        };
+        let due = self.due.load(Ordering::Relaxed);
+        let next = elapsed.as_secs().saturating_add(SECONDS_BETWEEN_LINES);
+        if elapsed.as_secs() >= due
+            && self
+                .due
+                .compare_exchange(due, next, Ordering::Relaxed, Ordering::Relaxed)
+                .is_ok()
+        {
+            self.tell(boxes);
+        }
+    }
+}
+
+impl<'a, R: Clock + Eprint> Gate for TellingGate<'a, R> {
+    fn pass(&self, worker: u32, id: u64) {
+        self.patient.pass(worker, id);
+        if let Some(begun) = self.begun {
+            let boxes = self.boxes.fetch_add(1, Ordering::Relaxed);
+            if boxes % BOXES_BETWEEN_LOOKS == 0 {
+                self.tell_if_due(begun, boxes);
+            }
+        }
+    }
+
+    fn idle(&self, worker: u32) {
+        self.patient.idle(worker);
+    }
+
+    fn sees(&self, loss: u64) {
+        if loss < self.loss.load(Ordering::Relaxed) {
+            self.loss.store(loss, Ordering::Relaxed);
+        }
+    }
+}

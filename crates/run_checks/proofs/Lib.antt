@@ -1,0 +1,4 @@
+pub mod Accepting
+pub mod CheckedBehind
+pub mod RaisedBounds
+pub mod Statuses

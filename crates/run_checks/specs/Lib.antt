@@ -1,0 +1,4 @@
+pub mod Said
+pub mod Checks
+pub mod FrozenChecks
+pub mod inner

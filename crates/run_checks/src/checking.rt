@@ -1,0 +1,253 @@
+//! What `verify` and `convert` answer to an instance and the texts of a plan and of a certificate.
+
+ghost use Rattle.std.specs.Prelude.{◌≡◌, ◌⊎◌, ℕ, List, [], Ok, IfOk, MatchResult, option_map};
+ghost use Rattle.cut_model.specs.Tree.{tree};
+ghost use Rattle.cert_log.specs.declared.certificate.Certificate.{Certificate as CertificateOf};
+ghost use Rattle.cert_log.specs.Good.{IsGood, IsVersion};
+ghost use Rattle.cert_log.specs.Outcomes.{IsReading};
+ghost use Rattle.cert_log.specs.Trees.{IsTree};
+ghost use Rattle.run_checks.specs.Checks.{Converts, IsAccepted, IsConverted, IsLawfulToo, NotAccepted, Verifies, accepted as accepted_of, cert_refusal as cert_refusal_of, converted as converted_of, loss_in, refused as refused_of, root_ranges};
+ghost use Rattle.run_plans.specs.Judgements.{unlawful as unlawful_of};
+ghost use Rattle.run_checks.specs.Said.{IsPlanIn};
+ghost use Rattle.run_checks.specs.inner.Checked.{IsUnlawful, IsWrong, RefusesCertText, RefusesPlanText};
+ghost use Rattle.run_frame.specs.Forms.{OnTold, answer_in, notice_in};
+ghost use Rattle.run_checks.specs.Checks.{FitsToo};
+
+use crate::lines::{bound_line, refused_line};
+use cert_check::{Verdict, Why, check_cert, reasoned};
+use cert_log::{BadCert, Certificate, read_cert, write_cert};
+use command_line::Product;
+use cut_model::{Broken, Plan};
+use defect_map::DefectMap;
+use glass_base::{Instance, Memory, Role};
+use loss_area::loss;
+use plan_csv::read_plan;
+use run_frame::{
+    Notice, Refusal, Reply, Status, Stop, numbered, one_output, reply_at, reply_with, stop_at,
+};
+use run_plans::{first_breach, plan_refusal, unlawful};
+use std::alloc::Global;
+
+/// The refusal of a text that is no certificate, none where memory ran out.
+fn cert_refusal(reason: BadCert) -> Option<Refusal>
+    ensures { result ≡ cert_refusal_of reason }
+{
+    match reason {
+        BadCert::Memory => None,
+        BadCert::Head => numbered(Role::Cert, 30, 1, 0),
+        BadCert::Line(line) => numbered(Role::Cert, 31, line, 0),
+        BadCert::Short(lines) => numbered(Role::Cert, 32, lines, 0),
+        BadCert::Trailing(line) => numbered(Role::Cert, 33, line, 0),
+    }
+}
+
+/// The notice of a certificate that fails this check.
+fn check_failed(alloc: Global, line: u64, why: Why) -> Result<Notice, Memory>
+    ensures { IfOk result (λ n. notice_in n ≡ refused_of line why) }
+{
+    Ok(Notice {
+        status: Status::Refused,
+        lines: refused_line(alloc, line, why)?,
+    })
+}
+
+/// The notice of a certificate that is right.
+fn accepted(alloc: Global, certificate: &Certificate) -> Result<Notice, Memory>
+    ensures { IfOk result (λ n. notice_in n ≡ accepted_of certificate.now) }
+{
+    Ok(Notice {
+        status: Status::Done,
+        lines: bound_line(alloc, "accepted", certificate)?,
+    })
+}
+
+/// What is told of a plan that breaks a rule.
+pub(crate) fn stop_at_breach(alloc: Global, broken: &Broken) -> Stop
+    ensures { OnTold (λ answer. answer ≡ unlawful_of broken.now) result }
+{
+    match unlawful(alloc, broken) {
+        Ok(notice) => Stop::Told(notice),
+        Err(memory) => Stop::from(memory),
+    }
+}
+
+/// What is told of a certificate that fails this check.
+fn stop_at_check(alloc: Global, line: u64, why: Why) -> Stop
+    ensures { OnTold (λ answer. answer ≡ refused_of line why) result }
+{
+    match check_failed(alloc, line, why) {
+        Ok(notice) => Stop::Told(notice),
+        Err(memory) => Stop::from(memory),
+    }
+}
+
+/// The plan that a text says, if there is a text.
+fn read_plan_in(
+    alloc: Global,
+    instance: &Instance,
+    text: Option<&[u8]>,
+) -> Result<Option<Plan>, Stop>
+    ensures plan { MatchResult result (λ plan. IsPlanIn instance.now (option_map (λ bytes. bytes.now) text.entry) (option_map tree plan)) (OnTold (RefusesPlanText instance.now (option_map (λ bytes. bytes.now) text.entry))) }
+    ensures fits { IfOk result FitsToo }
+{
+    let Some(bytes) = text else {
+        return Ok(None);
+    };
+    match read_plan(alloc, instance, bytes) {
+        Ok(plan) => Ok(Some(plan)),
+        Err(reason) => Err(stop_at(alloc, plan_refusal(reason))),
+    }
+}
+
+/// The certificate that a text says.
+pub(crate) fn read_cert_in(alloc: Global, text: &[u8]) -> Result<Certificate, Stop>
+    ensures reading { MatchResult result (λ c. IsReading text.now (Ok c)) (OnTold (RefusesCertText text.now)) }
+    ensures tree { IfOk result (λ c. IsTree c.nodes.items) }
+    ensures version { IfOk result (λ c. IsVersion 1 c ⊎ IsVersion 2 c) }
+{
+    match read_cert(alloc, text) {
+        Ok(certificate) => Ok(certificate),
+        Err(reason) => Err(stop_at(alloc, cert_refusal(reason))),
+    }
+}
+
+/// Goes on where a plan is lawful, or there is none.
+fn judge_plan_in(
+    alloc: Global,
+    instance: &Instance,
+    map: &DefectMap,
+    plan: &Option<Plan>,
+) -> Result<(), Stop>
+    requires map { map.now ≡ instance.now.defects }
+    requires fits { FitsToo plan.now }
+    ensures { MatchResult result (λ _. IsLawfulToo instance.now (option_map tree plan.now)) (OnTold (IsUnlawful instance.now (option_map tree plan.now))) }
+{
+    let Some(plan) = plan else {
+        return Ok(());
+    };
+    match first_breach(alloc, instance, map, plan)? {
+        None => Ok(()),
+        Some(broken) => Err(stop_at_breach(alloc, &broken)),
+    }
+}
+
+/// The loss of a plan in mm², if there is one.
+fn loss_of_plan(instance: &Instance, plan: &Option<Plan>) -> Option<u64>
+    requires { FitsToo plan.now }
+    ensures { result ≡ loss_in instance.now (option_map tree plan.now) }
+{
+    match plan {
+        None => None,
+        Some(plan) => Some(loss(instance, plan)),
+    }
+}
+
+/// Goes on where a certificate is right for the box of all plans and for this loss.
+pub(crate) fn check_cert_in(
+    alloc: Global,
+    instance: &Instance,
+    map: &DefectMap,
+    loss: Option<u64>,
+    certificate: &Certificate,
+) -> Result<(), Stop>
+    requires map { map.now ≡ instance.now.defects }
+    requires tree { IsTree certificate.now.nodes.items }
+    requires version { IsVersion 1 certificate.now ⊎ IsVersion 2 certificate.now }
+    ensures { MatchResult result (λ _. IsGood instance.now (root_ranges instance.now) loss certificate.now) (OnTold (IsWrong instance.now loss certificate.now)) }
+{
+    match check_cert(alloc, instance, map, loss, certificate)? {
+        Verdict::Accept { .. } => Ok(()),
+        Verdict::Refuse { line, why } => Err(stop_at_check(alloc, line, why)),
+    }
+}
+
+/// A lawful plan, if there is one, and a certificate that is right for its loss.
+#[derive(Drop)]
+pub struct Checked {
+    pub plan: Option<Plan>,
+    pub certificate: Certificate,
+}
+
+/// The certificate that a text says, where it is right for the loss of the plan that another one says, and this is lawful, with this plan; or
+/// what is told of the first that fails: the text of the plan, that of the certificate, the plan, the certificate.
+pub fn accepted_texts(
+    alloc: Global,
+    instance: &Instance,
+    map: &DefectMap,
+    plan_text: Option<&[u8]>,
+    cert_text: &[u8],
+) -> Result<Checked, Stop>
+    requires { map.now ≡ instance.now.defects }
+    ensures accepted { MatchResult result (λ a. IsAccepted instance.now (option_map (λ bytes. bytes.now) plan_text.entry) cert_text.now (option_map tree a.plan) a.certificate) (OnTold (NotAccepted instance.now (option_map (λ bytes. bytes.now) plan_text.entry) cert_text.now)) }
+    ensures fits { IfOk result (λ a. FitsToo a.plan) }
+{
+    let plan = read_plan_in(alloc, instance, plan_text)?;
+    let certificate = read_cert_in(alloc, cert_text)?;
+    judge_plan_in(alloc, instance, map, &plan)?;
+    let loss = loss_of_plan(instance, &plan);
+    check_cert_in(alloc, instance, map, loss, &certificate)?;
+    Ok(Checked { plan, certificate })
+}
+
+/// The reply to the texts of a plan, or none, and of a certificate: its bound and its number of open boxes, or a refusal.
+pub(crate) fn verify_texts(
+    alloc: Global,
+    instance: &Instance,
+    plan_text: Option<&[u8]>,
+    cert_text: &[u8],
+) -> Result<Reply, Memory>
+    ensures { IfOk result (λ r. (name : Product → List ℕ) → Verifies instance.now (option_map (λ bytes. bytes.now) plan_text.entry) cert_text.now (answer_in name r)) }
+{
+    let map = DefectMap::new(alloc, instance)?;
+    match accepted_texts(alloc, instance, &map, plan_text, cert_text) {
+        Ok(texts) => Ok(reply_with(alloc, accepted(alloc, &texts.certificate)?)),
+        Err(stop) => reply_at(alloc, stop),
+    }
+}
+
+/// The reply that stores a certificate of version 2.
+fn reply_with_cert(alloc: Global, certificate: &Certificate) -> Result<Reply, Memory>
+    requires { IsVersion 2 certificate.now }
+    ensures { IfOk result (λ r. (name : Product → List ℕ) → answer_in name r ≡ converted_of (name Product.Certificate) certificate.now) }
+{
+    let lines = bound_line(alloc, "converted", certificate)?;
+    let bytes = write_cert(alloc, certificate)?;
+    Ok(Reply {
+        status: Status::Done,
+        outputs: one_output(alloc, Product::Certificate, bytes)?,
+        lines,
+    })
+}
+
+/// The reply that stores a right certificate with its causes named.
+fn convert(
+    alloc: Global,
+    instance: &Instance,
+    map: &DefectMap,
+    certificate: &Certificate,
+) -> Result<Reply, Memory>
+    requires map { map.now ≡ instance.now.defects }
+    requires good { IsGood instance.now (root_ranges instance.now) certificate.now.loss certificate.now }
+    ensures { IfOk result (λ r. (d : CertificateOf) × IsConverted instance.now certificate.now d × ((name : Product → List ℕ) → answer_in name r ≡ converted_of (name Product.Certificate) d)) }
+{
+    let named = reasoned(alloc, instance, map, certificate)?;
+    reply_with_cert(alloc, &named)
+}
+
+/// The reply to the texts of a plan, or none, and of a certificate: the certificate is stored with its causes named, or refused as by
+/// [`verify_texts`].
+pub fn convert_texts(
+    alloc: Global,
+    instance: &Instance,
+    plan_text: Option<&[u8]>,
+    cert_text: &[u8],
+) -> Result<Reply, Memory>
+    ensures { IfOk result (λ r. (name : Product → List ℕ) → Converts instance.now (option_map (λ bytes. bytes.now) plan_text.entry) cert_text.now (name Product.Certificate) (answer_in name r)) }
+{
+    let map = DefectMap::new(alloc, instance)?;
+    let accepted = match accepted_texts(alloc, instance, &map, plan_text, cert_text) {
+        Ok(accepted) => accepted,
+        Err(stop) => return reply_at(alloc, stop),
+    };
+    convert(alloc, instance, &map, &accepted.certificate)
+}

@@ -1,0 +1,10 @@
+//! What the commands answer that check a certificate and do not search.
+#![tactic(auto)]
+
+pub mod checking;
+pub mod checking_behind;
+pub mod lines;
+
+pub use checking::{Checked, accepted_texts, convert_texts};
+pub use checking_behind::{raised, verify_from};
+pub use lines::number_or_none;

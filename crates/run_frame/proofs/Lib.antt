@@ -1,0 +1,9 @@
+pub mod FetchedTexts
+pub mod ListedFiles
+pub mod TextsByRole
+pub mod Stores
+pub mod Endings
+pub mod Exited
+pub mod SmallTexts
+pub mod Statuses
+pub mod Delivered

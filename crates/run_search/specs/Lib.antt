@@ -1,0 +1,4 @@
+pub mod Plans
+pub mod Resumptions
+pub mod Freezes
+pub mod inner

@@ -1,0 +1,277 @@
+//! What `freeze` answers to an instance and the text of a plan.
+
+ghost use Rattle.std.specs.Prelude.{◌≡◌, ◌+◌, ◌*◌, ◌<◌, ◌≤◌, ◌^◌, [], ℕ, List, length, IfOk, IfSome, map, option_map};
+ghost use Rattle.cut_model.specs.Fits.{Fits};
+ghost use Rattle.cut_model.specs.Lawful.{IsLawful};
+ghost use Rattle.cut_model.specs.Tree.{count, neighbour_count, tree};
+ghost use Rattle.cert_log.specs.Good.{IsVersion};
+ghost use Rattle.cert_log.specs.Outcomes.{IsHead};
+ghost use Rattle.cert_log.specs.Texts.{head_of};
+ghost use Rattle.plan_csv.specs.PlanTexts.{plan_said};
+ghost use Rattle.run_search.specs.Freezes.{Freezes, FreezesPlan, FreezesSaid, FreezesWithin, IsFoundFrom, frozen_planned};
+ghost use Rattle.run_frame.specs.Forms.{answer_in, store_in};
+ghost use Rattle.run_search.specs.inner.Searches.{IsFoundBehind, IsHistoryFrom};
+
+use crate::lines::six_lines;
+use crate::planning::{
+    MOST_WORK, best_plan, certificate_of, ending, ending_word, handled, history_from,
+};
+use box_workers::{Gate, first_loss};
+use cert_log::{Certificate, History, write_cert};
+use command_line::Product;
+use cut_model::{Plan, plates_used};
+use defect_map::DefectMap;
+use glass_base::{Instance, Memory, Role, Run, append};
+use plan_csv::{read_plan, write_plan};
+use plan_freeze::{frozen_loss, glue, rest};
+use plan_trace::trace_of;
+use run_checks::raised;
+use run_frame::{Output, Reply, bad_input, refused, reply_with};
+use run_plans::{first_breach, plan_refusal, unlawful};
+use std::alloc::Global;
+use std::sync::Wait;
+use std::thread::Threads;
+
+/// What a search found that goes on from a plan.
+#[derive(Drop)]
+struct FoundFrom {
+    certificate: Certificate,
+    best: Plan,
+}
+
+/// The history of a search that goes on from a lawful plan.
+fn history_behind<R: Threads + Wait + Sync, G: Gate + Sync>(
+    rt: &R,
+    alloc: Global,
+    instance: &Instance,
+    plan: &Plan,
+    workers: u32,
+    budget: u32,
+    gate: &G,
+) -> Result<History, Memory>
+    requires fits { Fits (tree plan.now) }
+    requires lawful { IsLawful instance.now (tree plan.now) }
+    requires workers { (1 ≤ workers) × (workers ≤ 8) }
+    requires budget { (1 ≤ budget) × (budget ≤ 10000000) }
+    ensures { IfOk result (λ h. IsHistoryFrom instance.now (tree plan.now) budget h) }
+{
+    let map = DefectMap::new(alloc, instance)?;
+    let first = Some(trace_of(alloc, instance, plan)?);
+    let _loss = first_loss(instance, &first);
+    history_from(rt, alloc, instance, &map, first, workers, budget, gate)
+}
+
+/// What a search finds that goes on from a lawful plan.
+fn find_from<R: Threads + Wait + Sync, G: Gate + Sync>(
+    rt: &R,
+    alloc: Global,
+    instance: &Instance,
+    plan: &Plan,
+    workers: u32,
+    budget: u32,
+    gate: &G,
+) -> Result<FoundFrom, Memory>
+    requires fits { Fits (tree plan.now) }
+    requires lawful { IsLawful instance.now (tree plan.now) }
+    requires workers { (1 ≤ workers) × (workers ≤ 8) }
+    requires budget { (1 ≤ budget) × (budget ≤ 10000000) }
+    ensures found { IfOk result (λ found. IsFoundFrom instance.now (tree plan.now) budget found.certificate (tree found.best)) }
+    ensures fits { IfOk result (λ found. Fits (tree found.best)) }
+    ensures few { IfOk result (λ found. count (tree found.best) ≤ 12 * length instance.now.items) }
+    ensures head { IfOk result (λ found. IsHead (head_of found.certificate)) }
+{
+    // Read for its rules.
+    let _items = instance.items();
+    let history = history_behind(rt, alloc, instance, plan, workers, budget, gate)?;
+    let certificate = certificate_of(alloc, instance, &history)?;
+    let plan = best_plan(alloc, instance, &history)?;
+    match plan {
+        Some(best) => Ok(FoundFrom { certificate, best }),
+        None => unreachable!(),
+    }
+}
+
+/// The whole plan, and then the certificate, as what is to be stored.
+fn outputs_of(
+    alloc: Global,
+    instance: &Instance,
+    certificate: &Certificate,
+    whole: &Plan,
+) -> Result<Run<Output>, Memory>
+    requires version { IsVersion 2 certificate.now }
+    requires fits { Fits (tree whole.now) }
+    ensures { IfOk result (λ outputs. (name : Product → List ℕ) → map (store_in name) outputs.items ≡ (frozen_planned instance.now (name Product.Plan) (name Product.Certificate) 0 certificate.now (tree whole.now)).stores) }
+{
+    let mut outputs = Run::new(alloc);
+    let bytes = write_plan(alloc, instance, whole)?;
+    append(
+        &mut outputs,
+        Output {
+            product: Product::Plan,
+            bytes,
+        },
+    )?;
+    let bytes = write_cert(alloc, certificate)?;
+    append(
+        &mut outputs,
+        Output {
+            product: Product::Certificate,
+            bytes,
+        },
+    )?;
+    Ok(outputs)
+}
+
+/// The reply that stores the whole plan and the certificate of what was planned anew, and tells of it with this loss added.
+fn reply_with_whole(
+    alloc: Global,
+    instance: &Instance,
+    certificate: &Certificate,
+    whole: &Plan,
+    more: u64,
+) -> Result<Reply, Memory>
+    requires version { IsVersion 2 certificate.now }
+    requires fits { Fits (tree whole.now) }
+    requires loss { IfSome certificate.now.loss (λ n. more + n < 2 ^ 64) }
+    requires bound { IfSome certificate.now.bound (λ n. more + n < 2 ^ 64) }
+    ensures { IfOk result (λ r. (name : Product → List ℕ) → answer_in name r ≡ frozen_planned instance.now (name Product.Plan) (name Product.Certificate) more certificate.now (tree whole.now)) }
+{
+    let lines = six_lines(
+        alloc,
+        ending_word(certificate),
+        raised(certificate.loss, more),
+        raised(certificate.bound, more),
+        Some(plates_used(whole)),
+        handled(certificate) as u64,
+        certificate.left,
+    )?;
+    Ok(Reply {
+        status: ending(certificate),
+        outputs: outputs_of(alloc, instance, certificate, whole)?,
+        lines,
+    })
+}
+
+/// What a search finds that plans anew what stands behind the first `k` plates.
+fn find_behind<R: Threads + Wait + Sync, G: Gate + Sync>(
+    rt: &R,
+    alloc: Global,
+    instance: &Instance,
+    plan: &Plan,
+    k: u32,
+    workers: u32,
+    budget: u32,
+    gate: &G,
+) -> Result<FoundFrom, Memory>
+    requires fits { Fits (tree plan.now) }
+    requires lawful { IsLawful instance.now (tree plan.now) }
+    requires fewer { k < neighbour_count (tree plan.now) }
+    requires workers { (1 ≤ workers) × (workers ≤ 8) }
+    requires budget { (1 ≤ budget) × (budget ≤ 10000000) }
+    ensures found { IfOk result (λ found. IsFoundBehind instance.now (tree plan.now) k budget found.certificate (tree found.best)) }
+    ensures fits { IfOk result (λ found. Fits (tree found.best)) }
+{
+    let (left, tail) = rest(alloc, instance, plan, k)?;
+    find_from(rt, alloc, &left, &tail, workers, budget, gate)
+}
+
+/// The reply to a lawful plan with more than `k` plates: what a search finds behind these.
+fn plan_behind<R: Threads + Wait + Sync, G: Gate + Sync>(
+    rt: &R,
+    alloc: Global,
+    instance: &Instance,
+    plan: &Plan,
+    k: u32,
+    workers: u32,
+    budget: u32,
+    gate: &G,
+) -> Result<Reply, Memory>
+    requires fits { Fits (tree plan.now) }
+    requires rows { count (tree plan.now) ≤ 1000000000 }
+    requires lawful { IsLawful instance.now (tree plan.now) }
+    requires fewer { k < neighbour_count (tree plan.now) }
+    requires workers { (1 ≤ workers) × (workers ≤ 8) }
+    requires budget { (1 ≤ budget) × (budget ≤ 10000000) }
+    ensures { IfOk result (λ r. (name : Product → List ℕ) → Freezes instance.now k budget (tree plan.now) (name Product.Plan) (name Product.Certificate) (answer_in name r)) }
+{
+    // Read for its rules.
+    let _items = instance.items();
+    let found = find_behind(rt, alloc, instance, plan, k, workers, budget, gate)?;
+    let whole = glue(alloc, plan, k, &found.best)?;
+    let more = frozen_loss(instance, plan, k);
+    reply_with_whole(alloc, instance, &found.certificate, &whole, more)
+}
+
+/// The reply to a plan: its first breach, a refusal where it has no more than `k` plates, or what a search finds behind these.
+fn freeze_plan<R: Threads + Wait + Sync, G: Gate + Sync>(
+    rt: &R,
+    alloc: Global,
+    instance: &Instance,
+    plan: &Plan,
+    k: u32,
+    workers: u32,
+    budget: u32,
+    gate: &G,
+) -> Result<Reply, Memory>
+    requires fits { Fits (tree plan.now) }
+    requires rows { count (tree plan.now) ≤ 1000000000 }
+    requires workers { (1 ≤ workers) × (workers ≤ 8) }
+    requires budget { (1 ≤ budget) × (budget ≤ 10000000) }
+    ensures { IfOk result (λ r. (name : Product → List ℕ) → FreezesPlan instance.now k budget (tree plan.now) (name Product.Plan) (name Product.Certificate) (answer_in name r)) }
+{
+    let map = DefectMap::new(alloc, instance)?;
+    if let Some(broken) = first_breach(alloc, instance, &map, plan)? {
+        return Ok(reply_with(alloc, unlawful(alloc, &broken)?));
+    }
+    let plates = plates_used(plan);
+    if u64::from(k) >= plates {
+        let notice = bad_input(alloc, Role::Plan, 16, u64::from(k), plates)?;
+        return Ok(reply_with(alloc, notice));
+    }
+    plan_behind(rt, alloc, instance, plan, k, workers, budget, gate)
+}
+
+/// The reply to the plan that a text says, or to its refusal.
+fn freeze_said<R: Threads + Wait + Sync, G: Gate + Sync>(
+    rt: &R,
+    alloc: Global,
+    instance: &Instance,
+    bytes: &[u8],
+    k: u32,
+    workers: u32,
+    budget: u32,
+    gate: &G,
+) -> Result<Reply, Memory>
+    requires workers { (1 ≤ workers) × (workers ≤ 8) }
+    requires budget { (1 ≤ budget) × (budget ≤ 10000000) }
+    ensures { IfOk result (λ r. (name : Product → List ℕ) → FreezesSaid instance.now k budget (plan_said instance.now bytes.now) (name Product.Plan) (name Product.Certificate) (answer_in name r)) }
+{
+    match read_plan(alloc, instance, bytes) {
+        Ok(plan) => freeze_plan(rt, alloc, instance, &plan, k, workers, budget, gate),
+        Err(reason) => Ok(reply_with(alloc, refused(alloc, plan_refusal(reason))?)),
+    }
+}
+
+/// The reply to the text of a plan: its first `k` plates stay as they are, and the best plan that a search finds stands behind them; or a
+/// refusal, first where the number of items times the budget is above 160,000,000.
+pub fn freeze_text<R: Threads + Wait + Sync, G: Gate + Sync>(
+    rt: &R,
+    alloc: Global,
+    instance: &Instance,
+    bytes: &[u8],
+    k: u32,
+    workers: u32,
+    budget: u32,
+    gate: &G,
+) -> Result<Reply, Memory>
+    requires workers { (1 ≤ workers) × (workers ≤ 8) }
+    requires budget { (1 ≤ budget) × (budget ≤ 10000000) }
+    ensures { IfOk result (λ r. (name : Product → List ℕ) → FreezesWithin instance.now k budget bytes.now (name Product.Plan) (name Product.Certificate) (answer_in name r)) }
+{
+    let items = instance.items().len() as u64;
+    if items * u64::from(budget) > MOST_WORK {
+        let notice = bad_input(alloc, Role::Batch, 9, items, u64::from(budget))?;
+        return Ok(reply_with(alloc, notice));
+    }
+    freeze_said(rt, alloc, instance, bytes, k, workers, budget, gate)
+}

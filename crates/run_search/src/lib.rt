@@ -1,0 +1,11 @@
+//! What the commands answer that search for a plan.
+#![tactic(auto)]
+
+pub mod freezing;
+mod lines;
+pub mod planning;
+pub mod resuming;
+
+pub use freezing::freeze_text;
+pub use planning::plan_instance;
+pub use resuming::resume_texts;

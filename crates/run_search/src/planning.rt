@@ -1,0 +1,445 @@
+//! What `plan` and `gen` answer to an instance.
+
+ghost use Rattle.std.specs.Prelude.{◌≡◌, ◌≤◌, ◌*◌, ◌++◌, ◌∷◌, [], ℕ, List, All, IfOk, IfSome, OnOk, length, map, option_map};
+ghost use Rattle.cut_model.specs.Tree.{count, neighbour_count, tree};
+ghost use Rattle.plan_box.specs.Frames.{frame_of};
+ghost use Rattle.plan_box.specs.Ranges.{PlainBox};
+ghost use Rattle.cert_log.specs.Good.{IsVersion};
+ghost use Rattle.cert_log.specs.Lawful.{IsBest, IsLawful, loss_of as known_loss, numbered};
+ghost use Rattle.cert_log.specs.Outcomes.{IsHead};
+ghost use Rattle.cert_log.specs.Texts.{cert_text, head_of};
+ghost use Rattle.box_workers.specs.Runs.{IsFirst, first_loss as first_loss_of};
+ghost use Rattle.run_search.specs.Plans.{HasLoss, PlansWithin, course, course_from, ending as ending_of, ending_word as ending_word_of, handled as handled_of, plan_stores, planned};
+ghost use Rattle.run_frame.specs.Forms.{answer_in, store_in};
+ghost use Rattle.run_search.specs.inner.Searches.{AreWatched, Certifies, IsSaidByItsText, IsShortToo, IsToldFound, IsWatchedHistory, losses_in};
+ghost use Rattle.run_checks.specs.Checks.{FitsToo};
+
+use crate::lines::search_lines;
+use best_board::Entry;
+use box_workers::{Gate, first_loss, search, search_watched, start_boxes};
+use cert_log::{Certificate, History, Node, assemble, write_cert};
+use command_line::Product;
+use cut_model::{Plan, Trace, plates_used};
+use defect_map::DefectMap;
+use first_plan::first_plan;
+use glass_base::{Instance, Memory, Role, Run, append};
+use plan_box::PlanBox;
+use plan_csv::write_plan;
+use plan_trace::plan_of;
+use run_frame::{Output, Reply, Status, bad_input, reply_with};
+use shared_best::SharedBest;
+use std::alloc::Global;
+use std::sync::Wait;
+use std::thread::Threads;
+
+/// The most that the number of items times the budget may be. Below it a run keeps to some 7 GB.
+pub(crate) const MOST_WORK: u64 = 160_000_000;
+
+/// What a search found.
+#[derive(Drop)]
+pub(crate) struct Found {
+    pub(crate) certificate: Certificate,
+    pub(crate) plan: Option<Plan>,
+    /// Where they are watched.
+    pub(crate) improvements: Option<Run<Entry>>,
+}
+
+/// What a search did, and its improvements, where they are watched.
+#[derive(Drop)]
+pub(crate) struct Searched {
+    history: History,
+    improvements: Option<Run<Entry>>,
+}
+
+/// A search that goes on from these boxes, and from this trace, or from none.
+fn search_of_starts<R: Threads + Wait + Sync, G: Gate + Sync>(
+    rt: &R,
+    alloc: Global,
+    instance: &Instance,
+    map: &DefectMap,
+    start: Run<PlanBox>,
+    first: Option<Trace>,
+    workers: u32,
+    budget: u32,
+    watch: bool,
+    gate: &G,
+) -> Result<Searched, Memory>
+    requires map { map.now ≡ instance.now.defects }
+    requires starts { (1 ≤ length start.items) × (length start.items ≤ 160000000) }
+    requires ids { numbered 0 start.items }
+    requires frames { All (λ (x : PlainBox). x.frame ≡ frame_of instance.now) start.items }
+    requires first { IsFirst instance.now first }
+    requires workers { (1 ≤ workers) × (workers ≤ 8) }
+    requires budget { (1 ≤ budget) × (budget ≤ 10000000) }
+    ensures lawful { IfOk result (λ s. IsLawful instance.now (course_from start.items (first_loss_of instance.now first) budget) s.history) }
+    ensures watched { IfOk result (λ s. AreWatched instance.now (first_loss_of instance.now first) s.history.best watch s.improvements) }
+{
+    let loss = first_loss(instance, &first);
+    gate.sees(loss);
+    let (shared, mut seat) = SharedBest::new(alloc, loss, u64::from(budget))?;
+    if watch {
+        let (history, list) = search_watched(
+            rt, alloc, instance, map, start, first, workers, &shared, &mut seat, gate,
+        )?;
+        return Ok(Searched {
+            history,
+            improvements: Some(list),
+        });
+    }
+    let history = search(
+        rt, alloc, instance, map, start, first, workers, &shared, &mut seat, gate,
+    )?;
+    Ok(Searched {
+        history,
+        improvements: None,
+    })
+}
+
+/// The history of a search that goes on from these boxes, and from this trace, or from none.
+pub(crate) fn history_of_starts<R: Threads + Wait + Sync, G: Gate + Sync>(
+    rt: &R,
+    alloc: Global,
+    instance: &Instance,
+    map: &DefectMap,
+    start: Run<PlanBox>,
+    first: Option<Trace>,
+    workers: u32,
+    budget: u32,
+    gate: &G,
+) -> Result<History, Memory>
+    requires map { map.now ≡ instance.now.defects }
+    requires starts { (1 ≤ length start.items) × (length start.items ≤ 160000000) }
+    requires ids { numbered 0 start.items }
+    requires frames { All (λ (x : PlainBox). x.frame ≡ frame_of instance.now) start.items }
+    requires first { IsFirst instance.now first }
+    requires workers { (1 ≤ workers) × (workers ≤ 8) }
+    requires budget { (1 ≤ budget) × (budget ≤ 10000000) }
+    ensures { IfOk result (λ h. IsLawful instance.now (course_from start.items (first_loss_of instance.now first) budget) h) }
+{
+    let Searched {
+        history,
+        improvements: _,
+    } = search_of_starts(
+        rt, alloc, instance, map, start, first, workers, budget, false, gate,
+    )?;
+    Ok(history)
+}
+
+/// A search of all plans that goes on from this trace, or from none.
+fn search_from<R: Threads + Wait + Sync, G: Gate + Sync>(
+    rt: &R,
+    alloc: Global,
+    instance: &Instance,
+    map: &DefectMap,
+    first: Option<Trace>,
+    workers: u32,
+    budget: u32,
+    watch: bool,
+    gate: &G,
+) -> Result<Searched, Memory>
+    requires map { map.now ≡ instance.now.defects }
+    requires first { IsFirst instance.now first }
+    requires workers { (1 ≤ workers) × (workers ≤ 8) }
+    requires budget { (1 ≤ budget) × (budget ≤ 10000000) }
+    ensures lawful { IfOk result (λ s. IsLawful instance.now (course instance.now (first_loss_of instance.now first) budget) s.history) }
+    ensures watched { IfOk result (λ s. AreWatched instance.now (first_loss_of instance.now first) s.history.best watch s.improvements) }
+{
+    let start = start_boxes(alloc, instance)?;
+    search_of_starts(
+        rt, alloc, instance, map, start, first, workers, budget, watch, gate,
+    )
+}
+
+/// The history of a search of all plans that goes on from this trace, or from none.
+pub(crate) fn history_from<R: Threads + Wait + Sync, G: Gate + Sync>(
+    rt: &R,
+    alloc: Global,
+    instance: &Instance,
+    map: &DefectMap,
+    first: Option<Trace>,
+    workers: u32,
+    budget: u32,
+    gate: &G,
+) -> Result<History, Memory>
+    requires map { map.now ≡ instance.now.defects }
+    requires first { IsFirst instance.now first }
+    requires workers { (1 ≤ workers) × (workers ≤ 8) }
+    requires budget { (1 ≤ budget) × (budget ≤ 10000000) }
+    ensures { IfOk result (λ h. IsLawful instance.now (course instance.now (first_loss_of instance.now first) budget) h) }
+{
+    let start = start_boxes(alloc, instance)?;
+    history_of_starts(
+        rt, alloc, instance, map, start, first, workers, budget, gate,
+    )
+}
+
+/// A search that goes on from the first plan, where there is one.
+fn search_with<R: Threads + Wait + Sync, G: Gate + Sync>(
+    rt: &R,
+    alloc: Global,
+    instance: &Instance,
+    map: &DefectMap,
+    workers: u32,
+    budget: u32,
+    watch: bool,
+    gate: &G,
+) -> Result<Searched, Memory>
+    requires map { map.now ≡ instance.now.defects }
+    requires workers { (1 ≤ workers) × (workers ≤ 8) }
+    requires budget { (1 ≤ budget) × (budget ≤ 10000000) }
+    ensures { IfOk result (λ s. IsWatchedHistory instance.now budget watch s.history s.improvements) }
+{
+    let first = first_plan(alloc, instance, map)?;
+    let _loss = first_loss(instance, &first);
+    search_from(
+        rt, alloc, instance, map, first, workers, budget, watch, gate,
+    )
+}
+
+/// A search for a plan of the instance.
+fn search_for<R: Threads + Wait + Sync, G: Gate + Sync>(
+    rt: &R,
+    alloc: Global,
+    instance: &Instance,
+    workers: u32,
+    budget: u32,
+    watch: bool,
+    gate: &G,
+) -> Result<Searched, Memory>
+    requires workers { (1 ≤ workers) × (workers ≤ 8) }
+    requires budget { (1 ≤ budget) × (budget ≤ 10000000) }
+    ensures { IfOk result (λ s. IsWatchedHistory instance.now budget watch s.history s.improvements) }
+{
+    let map = DefectMap::new(alloc, instance)?;
+    search_with(rt, alloc, instance, &map, workers, budget, watch, gate)
+}
+
+/// The certificate of a history.
+pub(crate) fn certificate_of(
+    alloc: Global,
+    instance: &Instance,
+    history: &History,
+) -> Result<Certificate, Memory>
+    requires { (budget : ℕ) × (to_beat : ℕ) × IsLawful instance.now (course instance.now to_beat budget) history.now }
+    ensures certifies { IfOk result (λ c. (budget to_beat : ℕ) → IsLawful instance.now (course instance.now to_beat budget) history.now → Certifies instance.now budget to_beat history.now c) }
+    ensures head { IfOk result (λ c. IsHead (head_of c)) }
+{
+    let mut certificates = assemble(alloc, instance, history)?;
+    let Some(certificate) = certificates.pop() else {
+        unreachable!();
+    };
+    Ok(certificate)
+}
+
+/// The plan of a best trace, if there is one.
+pub(crate) fn best_plan(
+    alloc: Global,
+    instance: &Instance,
+    history: &History,
+) -> Result<Option<Plan>, Memory>
+    requires { IsBest instance.now history.now.best history.now.plan }
+    ensures loss { IfOk result (λ plan. HasLoss instance.now (known_loss history.now.best) (option_map tree plan)) }
+    ensures said { IfOk result (λ plan. IsSaidByItsText instance.now (option_map tree plan)) }
+    ensures short { IfOk result (λ plan. IsShortToo instance.now (option_map tree plan)) }
+    ensures fits { IfOk result FitsToo }
+    ensures few { IfOk result (λ plan. IfSome (option_map tree plan) (λ t. count t ≤ 12 * length instance.now.items)) }
+{
+    // Read for its range and for its rules.
+    let _best = history.best;
+    let _items = instance.items();
+    match &history.plan {
+        None => Ok(None),
+        Some(trace) => {
+            let plan = plan_of(alloc, instance, trace)?;
+            Ok(Some(plan))
+        }
+    }
+}
+
+/// What a search finds that may close or split so many boxes.
+fn find<R: Threads + Wait + Sync, G: Gate + Sync>(
+    rt: &R,
+    alloc: Global,
+    instance: &Instance,
+    workers: u32,
+    budget: u32,
+    watch: bool,
+    gate: &G,
+) -> Result<Found, Memory>
+    requires workers { (1 ≤ workers) × (workers ≤ 8) }
+    requires budget { (1 ≤ budget) × (budget ≤ 10000000) }
+    ensures found { IfOk result (λ found. IsToldFound instance.now budget watch found.certificate (option_map tree found.plan) (losses_in found.improvements)) }
+    ensures fits { IfOk result (λ found. FitsToo found.plan) }
+{
+    // Read for its rules.
+    let _items = instance.items();
+    let searched = search_for(rt, alloc, instance, workers, budget, watch, gate)?;
+    let certificate = certificate_of(alloc, instance, &searched.history)?;
+    let plan = best_plan(alloc, instance, &searched.history)?;
+    let Searched {
+        history: _,
+        improvements,
+    } = searched;
+    Ok(Found {
+        certificate,
+        plan,
+        improvements,
+    })
+}
+
+/// How many boxes a certificate tells of that were closed or split.
+pub(crate) fn handled(certificate: &Certificate) -> usize
+    ensures { result ≡ handled_of certificate.now }
+{
+    certificate
+        .nodes
+        .as_slice()
+        .iter()
+        .filter(|node| !matches!(node, Node::Left))
+        .count()
+}
+
+/// How a search ended.
+pub(crate) fn ending(certificate: &Certificate) -> Status
+    ensures { result ≡ ending_of certificate.now }
+{
+    if certificate.left > 0 {
+        Status::Stopped
+    } else if certificate.loss.is_some() {
+        Status::Optimal
+    } else {
+        Status::Infeasible
+    }
+}
+
+/// The word for how a search ended.
+pub(crate) fn ending_word(certificate: &Certificate) -> &'static str
+    ensures { result.now ≡ ending_word_of certificate.now }
+{
+    if certificate.left > 0 {
+        "stopped"
+    } else if certificate.loss.is_some() {
+        "optimal"
+    } else {
+        "infeasible"
+    }
+}
+
+/// Appends the plan to what is to be stored, if there is one.
+fn put_plan(
+    alloc: Global,
+    instance: &Instance,
+    plan: &Option<Plan>,
+    outputs: &mut Run<Output>,
+) -> Result<(), Memory>
+    requires fits { FitsToo plan.now }
+    requires first { outputs.old.items ≡ [] }
+    ensures { OnOk result ((name : Product → List ℕ) → map (store_in name) outputs.new.items ≡ plan_stores instance.now (name Product.Plan) (option_map tree plan.now)) }
+{
+    match plan {
+        None => Ok(()),
+        Some(plan) => {
+            let bytes = write_plan(alloc, instance, plan)?;
+            append(
+                outputs,
+                Output {
+                    product: Product::Plan,
+                    bytes,
+                },
+            )
+        }
+    }
+}
+
+/// The plan, if there is one, and then the text of the certificate, as what is to be stored.
+fn outputs_of(
+    alloc: Global,
+    instance: &Instance,
+    plan: &Option<Plan>,
+    text: Run<u8>,
+) -> Result<Run<Output>, Memory>
+    requires { FitsToo plan.now }
+    ensures { IfOk result (λ outputs. (name : Product → List ℕ) → map (store_in name) outputs.items ≡ plan_stores instance.now (name Product.Plan) (option_map tree plan.now) ++ record { name = name Product.Certificate; bytes = text.items } ∷ []) }
+{
+    let mut outputs = Run::new(alloc);
+    put_plan(alloc, instance, plan, &mut outputs)?;
+    append(
+        &mut outputs,
+        Output {
+            product: Product::Certificate,
+            bytes: text,
+        },
+    )?;
+    Ok(outputs)
+}
+
+/// How many plates a plan uses, if there is one.
+fn plates_of(plan: &Option<Plan>) -> Option<u64>
+    ensures { result ≡ option_map neighbour_count (option_map tree plan.now) }
+{
+    match plan {
+        None => None,
+        Some(plan) => Some(plates_used(plan)),
+    }
+}
+
+/// The reply that stores and tells what a search found, whose certificate has this text.
+pub(crate) fn reply_with_text(
+    alloc: Global,
+    instance: &Instance,
+    found: &Found,
+    text: Run<u8>,
+) -> Result<Reply, Memory>
+    requires text { text.items ≡ cert_text found.now.certificate }
+    requires fits { FitsToo found.now.plan }
+    ensures { IfOk result (λ r. (name : Product → List ℕ) → answer_in name r ≡ planned instance.now (name Product.Plan) (name Product.Certificate) found.now.certificate (option_map tree found.now.plan) (losses_in found.now.improvements)) }
+{
+    let certificate = &found.certificate;
+    let lines = search_lines(
+        alloc,
+        ending_word(certificate),
+        certificate,
+        plates_of(&found.plan),
+        handled(certificate) as u64,
+        &found.improvements,
+    )?;
+    Ok(Reply {
+        status: ending(certificate),
+        outputs: outputs_of(alloc, instance, &found.plan, text)?,
+        lines,
+    })
+}
+
+/// The reply that stores and tells what a search found.
+fn reply_with_found(alloc: Global, instance: &Instance, found: &Found) -> Result<Reply, Memory>
+    requires version { IsVersion 2 found.now.certificate }
+    requires fits { FitsToo found.now.plan }
+    ensures { IfOk result (λ r. (name : Product → List ℕ) → answer_in name r ≡ planned instance.now (name Product.Plan) (name Product.Certificate) found.now.certificate (option_map tree found.now.plan) (losses_in found.now.improvements)) }
+{
+    let text = write_cert(alloc, &found.certificate)?;
+    reply_with_text(alloc, instance, found, text)
+}
+
+/// The reply to an instance: the best plan that a search finds and its certificate, with its improvements where they are watched; or a refusal where the number of items times the
+/// budget is above 160,000,000.
+pub fn plan_instance<R: Threads + Wait + Sync, G: Gate + Sync>(
+    rt: &R,
+    alloc: Global,
+    instance: &Instance,
+    workers: u32,
+    budget: u32,
+    watch: bool,
+    gate: &G,
+) -> Result<Reply, Memory>
+    requires workers { (1 ≤ workers) × (workers ≤ 8) }
+    requires budget { (1 ≤ budget) × (budget ≤ 10000000) }
+    ensures { IfOk result (λ r. (name : Product → List ℕ) → PlansWithin instance.now budget watch (name Product.Plan) (name Product.Certificate) (answer_in name r)) }
+{
+    let items = instance.items().len() as u64;
+    if items * u64::from(budget) > MOST_WORK {
+        let notice = bad_input(alloc, Role::Batch, 9, items, u64::from(budget))?;
+        return Ok(reply_with(alloc, notice));
+    }
+    let found = find(rt, alloc, instance, workers, budget, watch, gate)?;
+    reply_with_found(alloc, instance, &found)
+}

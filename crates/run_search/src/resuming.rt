@@ -1,0 +1,214 @@
+//! What `resume` answers to an instance and the texts of a plan and of a certificate.
+
+ghost use Rattle.std.specs.Prelude.{◌≡◌, ◌≤◌, ℕ, List, [], All, IfOk, None, if◌then◌else◌, is_some, nat_le, option_map, length};
+ghost use Rattle.glass_base.specs.declared.role.Role.TheVariants as role;
+ghost use Rattle.cut_model.specs.Tree.{tree};
+ghost use Rattle.plan_box.specs.Frames.{frame_of};
+ghost use Rattle.plan_box.specs.Ranges.{PlainBox};
+ghost use Rattle.cert_log.specs.Good.{IsGood, IsVersion};
+ghost use Rattle.cert_log.specs.Lawful.{IsLawful, numbered};
+ghost use Rattle.cert_log.specs.Texts.{cert_text};
+ghost use Rattle.cert_resume.specs.Joins.{IsAtMost};
+ghost use Rattle.box_workers.specs.Runs.{IsFirst, first_loss as first_loss_of};
+ghost use Rattle.run_checks.specs.Checks.{FitsToo, IsLawfulToo, loss_in, root_ranges};
+ghost use Rattle.run_search.specs.Plans.{course_from, planned};
+ghost use Rattle.run_search.specs.Resumptions.{GoesOnWithin, IsResumed, Resumes, too_long_to_read};
+ghost use Rattle.run_frame.specs.Texts.{limit_of};
+ghost use Rattle.run_frame.specs.Forms.{answer_in};
+
+use crate::planning::{Found, MOST_WORK, best_plan, history_of_starts, reply_with_text};
+use box_workers::{Gate, first_loss};
+use cert_check::reasoned;
+use cert_log::{History, assemble, best_loss, write_cert};
+use cert_resume::{join, left_boxes};
+use command_line::Product;
+use cut_model::{Plan, Trace};
+use defect_map::DefectMap;
+use glass_base::{Instance, Memory, Role, Run};
+use plan_box::PlanBox;
+use plan_trace::trace_of;
+use run_checks::{Checked, accepted_texts};
+use run_frame::{Reply, bad_input, limit, reply_at, reply_with};
+use std::alloc::Global;
+use std::sync::Wait;
+use std::thread::Threads;
+
+/// The trace of a lawful plan, if there is one.
+fn first_trace(
+    alloc: Global,
+    instance: &Instance,
+    plan: &Option<Plan>,
+) -> Result<Option<Trace>, Memory>
+    requires fits { FitsToo plan.now }
+    requires lawful { IsLawfulToo instance.now (option_map tree plan.now) }
+    ensures first { IfOk result (IsFirst instance.now) }
+    ensures no_worse { IfOk result (λ first. IsAtMost (Some (first_loss_of instance.now first)) (loss_in instance.now (option_map tree plan.now))) }
+    ensures known { IfOk result (λ first. is_some first ≡ is_some plan.now) }
+{
+    match plan {
+        None => Ok(None),
+        Some(plan) => {
+            let trace = trace_of(alloc, instance, plan)?;
+            Ok(Some(trace))
+        }
+    }
+}
+
+/// The history of a search in which nothing was open.
+fn history_of_none(alloc: Global, instance: &Instance, first: Option<Trace>) -> History
+    requires { IsFirst instance.now first }
+    ensures { (budget : ℕ) → IsLawful instance.now (course_from [] (first_loss_of instance.now first) budget) result }
+{
+    let best = first_loss(instance, &first);
+    History {
+        starts: 0,
+        log: Run::new(alloc),
+        left: Run::new(alloc),
+        plan: first,
+        best,
+    }
+}
+
+/// The history of a search that goes on from these boxes, of which there may be none, and from this trace, or from none.
+fn history_of_boxes<R: Threads + Wait + Sync, G: Gate + Sync>(
+    rt: &R,
+    alloc: Global,
+    instance: &Instance,
+    map: &DefectMap,
+    boxes: Run<PlanBox>,
+    first: Option<Trace>,
+    workers: u32,
+    budget: u32,
+    gate: &G,
+) -> Result<History, Memory>
+    requires map { map.now ≡ instance.now.defects }
+    requires few { length boxes.items ≤ 160000000 }
+    requires ids { numbered 0 boxes.items }
+    requires frames { All (λ (x : PlainBox). x.frame ≡ frame_of instance.now) boxes.items }
+    requires first { IsFirst instance.now first }
+    requires workers { (1 ≤ workers) × (workers ≤ 8) }
+    requires budget { (1 ≤ budget) × (budget ≤ 10000000) }
+    ensures { IfOk result (λ h. IsLawful instance.now (course_from boxes.items (first_loss_of instance.now first) budget) h) }
+{
+    if boxes.is_empty() {
+        return Ok(history_of_none(alloc, instance, first));
+    }
+    history_of_starts(
+        rt, alloc, instance, map, boxes, first, workers, budget, gate,
+    )
+}
+
+/// What is found by a search that goes on in the open boxes of a right certificate.
+fn go_on<R: Threads + Wait + Sync, G: Gate + Sync>(
+    rt: &R,
+    alloc: Global,
+    instance: &Instance,
+    map: &DefectMap,
+    checked: &Checked,
+    workers: u32,
+    budget: u32,
+    gate: &G,
+) -> Result<Found, Memory>
+    requires map { map.now ≡ instance.now.defects }
+    requires fits { FitsToo checked.now.plan }
+    requires lawful { IsLawfulToo instance.now (option_map tree checked.now.plan) }
+    requires good { IsGood instance.now (root_ranges instance.now) (loss_in instance.now (option_map tree checked.now.plan)) checked.now.certificate }
+    requires few { checked.now.certificate.left ≤ 160000000 }
+    requires workers { (1 ≤ workers) × (workers ≤ 8) }
+    requires budget { (1 ≤ budget) × (budget ≤ 10000000) }
+    ensures resumed { IfOk result (λ found. IsResumed instance.now budget (option_map tree checked.now.plan) checked.now.certificate found.certificate (option_map tree found.plan)) }
+    ensures version { IfOk result (λ found. IsVersion 2 found.certificate) }
+    ensures fits { IfOk result (λ found. FitsToo found.plan) }
+    ensures unwatched { IfOk result (λ found. found.improvements ≡ None) }
+{
+    // Read for its rules.
+    let _items = instance.items();
+    let named = reasoned(alloc, instance, map, &checked.certificate)?;
+    let boxes = left_boxes(alloc, instance, &named)?;
+    let first = first_trace(alloc, instance, &checked.plan)?;
+    let _loss = first_loss(instance, &first);
+    let history = history_of_boxes(
+        rt, alloc, instance, map, boxes, first, workers, budget, gate,
+    )?;
+    let parts = assemble(alloc, instance, &history)?;
+    let _left = history.left.len();
+    let certificate = join(alloc, &named, parts, best_loss(&history))?;
+    let plan = best_plan(alloc, instance, &history)?;
+    Ok(Found {
+        certificate,
+        plan,
+        improvements: None,
+    })
+}
+
+/// The reply that stores and tells what a search found, or a refusal where the text of the certificate is longer than one that is read.
+fn reply_if_readable(alloc: Global, instance: &Instance, found: &Found) -> Result<Reply, Memory>
+    requires version { IsVersion 2 found.now.certificate }
+    requires fits { FitsToo found.now.plan }
+    requires unwatched { found.now.improvements ≡ None }
+    ensures { IfOk result (λ r. (name : Product → List ℕ) → answer_in name r ≡ (if nat_le (length (cert_text found.now.certificate)) (limit_of role.Cert) then planned instance.now (name Product.Plan) (name Product.Certificate) found.now.certificate (option_map tree found.now.plan) None else too_long_to_read found.now.certificate)) }
+{
+    let text = write_cert(alloc, &found.certificate)?;
+    let bytes = text.len() as u64;
+    let most = limit(Role::Cert);
+    if bytes > most {
+        let notice = bad_input(alloc, Role::Cert, 17, bytes, most)?;
+        return Ok(reply_with(alloc, notice));
+    }
+    reply_with_text(alloc, instance, found, text)
+}
+
+/// The reply to an instance and a plan and a certificate that are accepted: what a search finds in the open boxes, or a refusal where the number
+/// of items times the sum of the budget and the number of open boxes is above 160,000,000, or where what comes could not be read again.
+fn resume_within<R: Threads + Wait + Sync, G: Gate + Sync>(
+    rt: &R,
+    alloc: Global,
+    instance: &Instance,
+    map: &DefectMap,
+    checked: &Checked,
+    workers: u32,
+    budget: u32,
+    gate: &G,
+) -> Result<Reply, Memory>
+    requires map { map.now ≡ instance.now.defects }
+    requires fits { FitsToo checked.now.plan }
+    requires lawful { IsLawfulToo instance.now (option_map tree checked.now.plan) }
+    requires good { IsGood instance.now (root_ranges instance.now) (loss_in instance.now (option_map tree checked.now.plan)) checked.now.certificate }
+    requires workers { (1 ≤ workers) × (workers ≤ 8) }
+    requires budget { (1 ≤ budget) × (budget ≤ 10000000) }
+    ensures { IfOk result (λ r. (name : Product → List ℕ) → GoesOnWithin instance.now budget (option_map tree checked.now.plan) checked.now.certificate (name Product.Plan) (name Product.Certificate) (answer_in name r)) }
+{
+    // Read for its length.
+    let _nodes = checked.certificate.nodes.len();
+    let items = instance.items().len() as u64;
+    let boxes = u64::from(budget) + checked.certificate.left;
+    if items.saturating_mul(boxes) > MOST_WORK {
+        let notice = bad_input(alloc, Role::Cert, 15, items, boxes)?;
+        return Ok(reply_with(alloc, notice));
+    }
+    let found = go_on(rt, alloc, instance, map, checked, workers, budget, gate)?;
+    reply_if_readable(alloc, instance, &found)
+}
+
+/// The reply to the texts of a plan, or none, and of a certificate: what a search finds that goes on in the boxes that the certificate leaves
+/// open, or a refusal as by `verify`, or of what would be too much work.
+pub fn resume_texts<R: Threads + Wait + Sync, G: Gate + Sync>(
+    rt: &R,
+    alloc: Global,
+    instance: &Instance,
+    plan_text: Option<&[u8]>,
+    cert_text: &[u8],
+    workers: u32,
+    budget: u32,
+    gate: &G,
+) -> Result<Reply, Memory>
+    requires workers { (1 ≤ workers) × (workers ≤ 8) }
+    requires budget { (1 ≤ budget) × (budget ≤ 10000000) }
+    ensures { IfOk result (λ r. (name : Product → List ℕ) → Resumes instance.now (option_map (λ bytes. bytes.now) plan_text.entry) cert_text.now budget (name Product.Plan) (name Product.Certificate) (answer_in name r)) }
+{
+    let map = DefectMap::new(alloc, instance)?;
+    match accepted_texts(alloc, instance, &map, plan_text, cert_text) {
+        Ok(checked) => resume_within(rt, alloc, instance, &map, &checked, workers, budget, gate),
+        Err(stop) => reply_at(alloc, stop),
+    }
+}
