@@ -5,7 +5,7 @@ ghost use Rattle.glass_base.specs.Items.{IsItemInRange};
 
 use crate::searched::{each_once, searched};
 use box_workers::{Gate, PatientGate, start_boxes};
-use glass_base::{Instance, Item, Params, Run};
+use glass_base::{Instance, Item, Memory, Params, Run};
 use std::alloc::Global;
 use std::sync::Wait;
 use std::sync::atomic::{AtomicBool, AtomicU32, Ordering};
@@ -112,6 +112,22 @@ fn three(alloc: Global) -> Result<Instance, Fail> {
     Ok(Instance::new(alloc, Params::usual(), items, Run::new(alloc))?)
 }
 
+/// How many boxes of this instance so many workers handle, and whether each box once.
+fn handled<R: Threads + Wait + Sync>(
+    rt: &R,
+    alloc: Global,
+    instance: &Instance,
+    workers: u32,
+    gate: &Muster,
+) -> Result<(usize, bool), Memory>
+    requires { (1 ≤ workers) × (workers ≤ 8) }
+{
+    let start = start_boxes(alloc, instance)?;
+    let history = searched(rt, alloc, instance, start, workers, 2000, gate)?;
+    let log = history.log.as_slice();
+    Ok((log.len(), each_once(log)))
+}
+
 /// How many boxes so many workers handle, whether each box once, whether each worker had one, and whether one gave up.
 fn shared<R: Threads + Wait + Sync>(
     rt: &R,
@@ -122,15 +138,8 @@ fn shared<R: Threads + Wait + Sync>(
 {
     let instance = three(alloc)?;
     let gate = Muster::new(workers);
-    let start = start_boxes(alloc, &instance)?;
-    let history = searched(rt, alloc, &instance, start, workers, 2000, &gate)?;
-    let log = history.log.as_slice();
-    Ok((
-        log.len(),
-        each_once(log),
-        gate.all_had_one(),
-        gate.gave_up(),
-    ))
+    let (boxes, once) = handled(rt, alloc, &instance, workers, &gate)?;
+    Ok((boxes, once, gate.all_had_one(), gate.gave_up()))
 }
 
 #[test]

@@ -12,6 +12,7 @@ use glass_base::{Instance, Run, append};
 use plan_box::{PlanBox, Var};
 use std::alloc::Global;
 use std::hint::spin_loop;
+use std::process::Abort;
 use std::sync::Wait;
 use std::sync::atomic::{AtomicBool, Ordering};
 use std::test::Fail;
@@ -142,13 +143,27 @@ fn are_closed_in_turn(log: &[Note]) -> bool {
     log.len() == 2 && log.contains(&first) && log.contains(&second)
 }
 
+/// Both boxes were closed in turn, and none is left.
+fn closes_in_turn(rt: &impl Abort, history: &History) {
+    assert!(rt; are_closed_in_turn(history.log.as_slice()));
+    assert_eq!(rt; (history.left.len(), history.best), (0, 813_000));
+}
+
+/// Two workers close both boxes of this instance in turn, and this gate holds none of them for ever.
+fn two_close_in_turn<R: Threads + Wait + Sync + Abort>(
+    rt: &R,
+    alloc: Global,
+    instance: &Instance,
+    gate: &Turns,
+) -> Result<(), Fail> {
+    let history = search_two(rt, alloc, instance, gate)?;
+    assert!(rt; !gate.gave_up.load(Ordering::SeqCst));
+    closes_in_turn(rt, &history);
+    Ok(())
+}
+
 #[test]
 fn a_loss_reaches_the_other_worker_at_once(rt: HostRuntime) -> Result<(), Fail> {
     let instance = small(rt.alloc())?;
-    let gate = Turns::new();
-    let history = search_two(&rt, rt.alloc(), &instance, &gate)?;
-    assert!(rt; !gate.gave_up.load(Ordering::SeqCst));
-    assert!(rt; are_closed_in_turn(history.log.as_slice()));
-    assert_eq!(rt; (history.left.len(), history.best), (0, 813_000));
-    Ok(())
+    two_close_in_turn(&rt, rt.alloc(), &instance, &Turns::new())
 }
