@@ -9,10 +9,10 @@ use crate::steps::tell_steps;
 use crate::telling::tell_trace;
 use anyhow::ensure;
 use batch_csv::read_batch;
-use cut_model::Plan;
+use cut_model::{Plan, Trace};
 use defect_map::DefectMap;
 use first_plan::first_plan;
-use glass_base::Instance;
+use glass_base::{Instance, Memory};
 use glass_gen::generate;
 use loss_area::loss;
 use plan_csv::read_plan;
@@ -69,22 +69,32 @@ fn tell_plan(
     tell_plan_trace(alloc, found, instance, &plan)
 }
 
+/// The draft, or the number of the item at which there is none.
+fn draft_of(alloc: Global, instance: &Instance) -> Result<Result<Trace, u32>, Memory> {
+    let map = DefectMap::new(alloc, instance)?;
+    draft(alloc, instance, &map)
+}
+
 /// Adds the draft.
 fn tell_draft(alloc: Global, found: &mut String, instance: &Instance) -> anyhow::Result<()> {
-    let map = DefectMap::new(alloc, instance)?;
     writeln!(found, "draft")?;
-    match draft(alloc, instance, &map)? {
+    match draft_of(alloc, instance)? {
         Ok(trace) => tell_steps(found, trace.steps.as_slice())?,
         Err(number) => writeln!(found, "none {number}")?,
     }
     Ok(())
 }
 
+/// The first plan's trace, if there is one.
+fn first_of(alloc: Global, instance: &Instance) -> Result<Option<Trace>, Memory> {
+    let map = DefectMap::new(alloc, instance)?;
+    first_plan(alloc, instance, &map)
+}
+
 /// Adds the first plan.
 fn tell_first(alloc: Global, found: &mut String, instance: &Instance) -> anyhow::Result<()> {
-    let map = DefectMap::new(alloc, instance)?;
     writeln!(found, "first")?;
-    match first_plan(alloc, instance, &map)? {
+    match first_of(alloc, instance)? {
         Some(trace) => {
             tell_steps(found, trace.steps.as_slice())?;
             tell_trace(alloc, found, instance, &trace)

@@ -128,6 +128,32 @@ fn half_of(written: &str) -> anyhow::Result<Half> {
     })
 }
 
+/// Whether a line with this first word says what is found, and asks for nothing.
+fn is_finding(word: &str) -> bool {
+    matches!(
+        word,
+        "decided"
+            | "ranges"
+            | "free"
+            | "point"
+            | "least"
+            | "again"
+            | "bound"
+            | "refuted"
+            | "open"
+            | "probe"
+            | "step"
+            | "none"
+            | "row"
+            | "meets"
+            | "breaks"
+            | "length"
+            | "loss"
+            | "lost"
+            | "plan"
+    )
+}
+
 impl Case {
     /// A case of which no line is read.
     fn new(alloc: Global) -> Result<Case, AllocError> {
@@ -184,21 +210,7 @@ impl Case {
                 &mut self.trace.steps,
                 step_of(alloc, rest)?,
             )?,
-            "decided"
-            | "ranges"
-            | "free"
-            | "point"
-            | "least"
-            | "again"
-            | "bound"
-            | "refuted"
-            | "open"
-            | "probe" => {
-                add_line(&mut self.said, line)?;
-            }
-            "step" | "none" | "row" | "meets" | "breaks" | "length" | "loss" | "lost" | "plan" => {
-                add_line(&mut self.said, line)?;
-            }
+            _ if is_finding(word) => add_line(&mut self.said, line)?,
             _ => bail!("{word} is no word of the book"),
         }
         Ok(())
