@@ -26,7 +26,7 @@ use Rattle.box_levels.specs.Events.{Event, note_of, tickets_of, SplitsFree}
 use Rattle.box_levels.proofs.Counts.{sum_map}
 use Rattle.box_levels.proofs.Sames.{test_of}
 use Rattle.shared_best.specs.declared.view.View.{View}
-use Rattle.shared_best.specs.Seats.{Words, Seated}
+use Rattle.shared_best.specs.Seats.{Words, Seated, IsSeatOf}
 use Rattle.shared_best.specs.Words.{IsWhole, Settles, share, kept_half, new_half, newcomer, joined, none_known, seat_view}
 use Rattle.box_workers.specs.declared.hand.Hand.{Hand}
 use Rattle.box_workers.specs.Handling.{IsAct}
@@ -34,6 +34,7 @@ use Rattle.box_workers.specs.Runs.{first_loss, least_loss, AreHandled, AreSeen, 
 use Rattle.box_workers.specs.Works.{Worked}
 use Rattle.box_workers.specs.inner.Hands.{IsFresh}
 use Rattle.box_workers.specs.inner.Rounds.{HasEnded}
+use Rattle.box_workers.specs.inner.Searched.{HasSearched, Finishes}
 use Rattle.box_workers.specs.inner.Teamwork.{Stands, HaveBounds, IsTeamwork, IsStage, HasBegun}
 use Rattle.box_workers.specs.Histories.{left_boxes, IsRight, IsAccount, IsHistory}
 use Rattle.box_workers.proofs.Accounts.{accounts_are_lawful}
@@ -245,3 +246,36 @@ module _ (b : Problem) (w : Words) (boxes : List PlainBox) (workers : ℕ) (s0 s
       subst (λ (u : Seated). Shows b w boxes workers u.view h) (sym same)
       (shown b w boxes s'.view k' (begun.events ++ ended.events) (begun.spent ++ ended.spent) waiting first h rules at_last spent_all settled ended.run.worked.seat.1 starts ids of_instance log weighs bounds plan first_is small best workers
       (one_alone b w h.starts boxes workers s0 s s' k0 k k' before waiting begun ended new fresh (let f = first_is in let l = small in omega arith)))
+
+-- a search from its new seat and its new hand on, whose seat has settled, and its history
+module _ (b : Problem) (w : Words) (boxes : List PlainBox) (workers : ℕ) (s0 s' : Seated) (k0 k' : Hand) (waiting : List PlainBox) (d : HasSearched b w (length boxes) boxes workers s0 s' k0 k' waiting) where
+  pub all_announced : s'.view.announced ≤ none_known
+  all_announced = small_announced b w (length boxes) boxes workers s0 d.seat s' k0 d.hand k' d.before waiting d.begun d.ended
+
+  pub all_done : IsTeamwork b w s'.view k' (d.begun.events ++ d.ended.events) (d.begun.spent ++ d.ended.spent)
+  all_done = (stage_ended b w (length boxes) boxes d.before waiting d.seat s' d.hand k' d.begun.events d.begun.spent d.begun.stage d.ended).teamwork
+
+  module _ (new : s0.view ≡ newcomer w.first) (t : Seated) (same : t ≡ s') where
+    pub all_whole : IsSeatOf w t × IsWhole t.view
+    all_whole =
+        subst (λ (u : Seated). IsSeatOf w u × IsWhole u.view) (sym same)
+        (d.ended.run.worked.seat, is_whole b w (length boxes) boxes workers s0 d.seat s' k0 d.hand k' d.before waiting d.begun d.ended new)
+
+    module _ (first : Option Trace) (n : ℕ) (is : n ≡ length boxes) (h : History) (f : Finishes b n k' waiting first h) (rules : IsProblem b) (fresh : IsFresh b k0) (settles : IsWhole t.view → Settles t.view) (ids : numbered 0 boxes)
+        (of_instance : All (λ (x : PlainBox). x.frame ≡ frame_of b) boxes) (first_is : w.first ≡ first_loss b first) where
+      starts : h.starts ≡ length boxes
+      starts = f.starts ∙ is
+
+      begun : HasBegun b w h.starts boxes workers s0 d.seat k0 d.hand d.before
+      begun = subst (λ (m : ℕ). HasBegun b w m boxes workers s0 d.seat k0 d.hand d.before) (sym starts) d.begun
+
+      ended : HasEnded b w h.starts d.before d.seat s' d.hand k' waiting
+      ended = subst (λ (m : ℕ). HasEnded b w m d.before d.seat s' d.hand k' waiting) (sym starts) d.ended
+
+      pub all_lawful : IsLawful b (course_of boxes w) h
+      all_lawful =
+          lawful b w boxes workers s0 d.seat s' t k0 d.hand k' d.before waiting first h rules begun ended new fresh same settles starts ids of_instance f.log f.weighs f.bounds f.plan first_is f.small f.best
+
+      pub all_shown : Shows b w boxes workers t.view h
+      all_shown =
+          shows b w boxes workers s0 d.seat s' t k0 d.hand k' d.before waiting first h rules begun ended new fresh same settles starts ids of_instance f.log f.weighs f.bounds f.plan first_is f.small f.best

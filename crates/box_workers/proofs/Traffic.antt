@@ -21,6 +21,13 @@ module _ (starts : ℕ) (a c d : ArmState) (es : List Event) (ws : List PlainBox
     takes = λ h. (let q = r.takes h in let t = m.takes h in let n = all_sum h es [] in omega arith);
   }
 
+  -- a worker found no box
+  pub midway_idle : (xs : List PlainBox) → Moves ws xs [] c d → Midway starts a d es xs
+  midway_idle xs m = record {
+    puts = λ h. (let q = r.puts h in let t = m.puts h in omega arith);
+    takes = λ h. (let q = r.takes h in let t = m.takes h in omega arith);
+  }
+
   -- a worker found a box, and offered another
   module _ (e : ArmState) (xs ys : List PlainBox) (x : PlainBox) (found : Moves ws xs (x ∷ []) c d) (offered : Moves xs ys [] d e) where
     -- the box was handled, and its halves are at hand

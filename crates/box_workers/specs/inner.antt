@@ -6,3 +6,4 @@ pub mod Members
 pub mod Enlisting
 pub mod Teamwork
 pub mod Dealing
+pub mod Searched

@@ -15,12 +15,12 @@ use cert_log::{Left, Note};
 use glass_base::{Memory, Run, append};
 use shared_best::{Seat, SharedBest};
 use std::alloc::Global;
+use std::mem;
 
 /// Puts boxes that were left open to others, the last one first.
-fn move_left(from: Run<Left>, to: &mut Run<Left>) -> Result<(), Memory>
-    ensures { OnOk result (to.new.items ≡ to.old.items ++ reverse from.items) }
+fn move_left(from: &mut Run<Left>, to: &mut Run<Left>) -> Result<(), Memory>
+    ensures { OnOk result (to.new.items ≡ to.old.items ++ reverse from.old.items) }
 {
-    let mut from = from;
     while let Some(left) = from.pop() {
         append(to, left)?;
     }
@@ -28,14 +28,27 @@ fn move_left(from: Run<Left>, to: &mut Run<Left>) -> Result<(), Memory>
 }
 
 /// Puts notes behind others. Where there are no others, they stay in their memory.
-fn join_log(from: Run<Note>, to: &mut Run<Note>) -> Result<(), Memory>
-    ensures { OnOk result (to.new.items ≡ to.old.items ++ from.items) }
+fn join_log(from: &mut Run<Note>, to: &mut Run<Note>) -> Result<(), Memory>
+    ensures { OnOk result (to.new.items ≡ to.old.items ++ from.old.items) }
 {
     if to.is_empty() {
-        *to = from;
+        mem::swap(from, to);
         return Ok(());
     }
     to.extend_from_slice(from.as_slice())?;
+    Ok(())
+}
+
+/// Moves what one hand holds to what another holds. That one's plan stays where the other is not better.
+fn move_hand(other: &mut Hand, hand: &mut Hand) -> Result<(), Memory>
+    ensures { OnOk result (Joins other.old hand.old hand.new) }
+{
+    join_log(&mut other.log, &mut hand.log)?;
+    move_left(&mut other.left, &mut hand.left)?;
+    if other.loss < hand.loss {
+        hand.plan = other.plan.take();
+        hand.loss = other.loss;
+    }
     Ok(())
 }
 
@@ -43,24 +56,8 @@ fn join_log(from: Run<Note>, to: &mut Run<Note>) -> Result<(), Memory>
 fn join_hand(other: Hand, hand: &mut Hand) -> Result<(), Memory>
     ensures { OnOk result (Joins other hand.old hand.new) }
 {
-    let Hand {
-        worker: _,
-        log,
-        left,
-        plan,
-        loss,
-        scratch: _,
-        spare: _,
-        leasts: _,
-        spares: _,
-    } = other;
-    join_log(log, &mut hand.log)?;
-    move_left(left, &mut hand.left)?;
-    if loss < hand.loss {
-        hand.plan = plan;
-        hand.loss = loss;
-    }
-    Ok(())
+    let mut other = other;
+    move_hand(&mut other, hand)
 }
 
 /// Puts what one worker did into this seat and this hand. Its arm comes back. A worker that found no memory is refused.

@@ -1,5 +1,5 @@
 //! The search.
-ghost use Rattle.std.specs.Prelude.{◌≡◌, ℕ, ◌+◌, ◌≤◌, All, length, min, sum_by, OnOk, IfOk};
+ghost use Rattle.std.specs.Prelude.{◌≡◌, ℕ, ◌+◌, ◌≤◌, [], All, length, min, sum_by, OnOk, IfOk};
 ghost use Rattle.plan_box.specs.Frames.{frame_of};
 ghost use Rattle.plan_box.specs.Ranges.{PlainBox};
 ghost use Rattle.box_bound.specs.Leastings.{IsOf};
@@ -8,7 +8,9 @@ ghost use Rattle.cert_log.specs.Lawful.{IsBest, IsLawful, numbered, no_loss};
 ghost use Rattle.shared_best.specs.Seats.{IsSeatOf};
 ghost use Rattle.shared_best.specs.Words.{newcomer, none_known, IsWhole, Settles};
 ghost use Rattle.box_workers.specs.Runs.{IsFirst, first_loss, Shows, course_of};
+ghost use Rattle.box_workers.specs.inner.Hands.{IsFresh};
 ghost use Rattle.box_workers.specs.inner.Teamwork.{HaveBounds};
+ghost use Rattle.box_workers.specs.inner.Searched.{HasSearched, Finishes};
 
 use crate::gate::Gate;
 use crate::hand::Hand;
@@ -37,28 +39,38 @@ fn settle(shared: &SharedBest, seat: &mut Seat)
     shared.join_seat(seat, other);
 }
 
-/// The boxes that were left open, and those that wait, each with its bound.
+/// Puts the boxes that wait to those that were left open, each with its bound, until none waits.
 fn leave(
     instance: &Instance,
-    leasts: Leasts,
-    left: Run<Left>,
-    waiting: Run<PlanBox>,
-) -> Result<Run<Left>, Memory>
-    requires leasts { IsOf instance.now leasts }
-    requires bounds { HaveBounds instance.now left.items }
-    requires frames { All (λ (x : PlainBox). x.frame ≡ frame_of instance.now) waiting.items }
-    ensures weighs { IfOk result (λ all. (weight : PlainBox → ℕ) → sum_by (λ (l : LeftBox). weight l.bx) all.items ≡ sum_by (λ (l : LeftBox). weight l.bx) left.items + sum_by weight waiting.items) }
-    ensures bounds { IfOk result (λ all. HaveBounds instance.now all.items) }
+    leasts: &mut Leasts,
+    left: &mut Run<Left>,
+    waiting: &mut Run<PlanBox>,
+) -> Result<(), Memory>
+    requires leasts { IsOf instance.now leasts.old }
+    requires bounds { HaveBounds instance.now left.old.items }
+    requires frames { All (λ (x : PlainBox). x.frame ≡ frame_of instance.now) waiting.old.items }
+    ensures weighs { OnOk result ((weight : PlainBox → ℕ) → sum_by (λ (l : LeftBox). weight l.bx) left.new.items ≡ sum_by (λ (l : LeftBox). weight l.bx) left.old.items + sum_by weight waiting.old.items) }
+    ensures bounds { OnOk result (HaveBounds instance.now left.new.items) }
 {
-    let mut leasts = leasts;
-    let mut left = left;
-    let mut waiting = waiting;
     while let Some(bx) = waiting.pop() {
         leasts.fill(instance, &bx);
-        let bound = bound_at(instance, &leasts, &bx);
-        append(&mut left, Left { bx, bound })?;
+        let bound = bound_at(instance, leasts, &bx);
+        append(left, Left { bx, bound })?;
     }
-    Ok(left)
+    Ok(())
+}
+
+/// Puts the boxes that wait to those that the hand left open, each with its bound.
+fn leave_all(instance: &Instance, hand: &mut Hand, waiting: Run<PlanBox>) -> Result<(), Memory>
+    requires leasts { IsOf instance.now hand.old.leasts }
+    requires bounds { HaveBounds instance.now hand.old.left.items }
+    requires frames { All (λ (x : PlainBox). x.frame ≡ frame_of instance.now) waiting.items }
+    ensures weighs { OnOk result ((weight : PlainBox → ℕ) → sum_by (λ (l : LeftBox). weight l.bx) hand.new.left.items ≡ sum_by (λ (l : LeftBox). weight l.bx) hand.old.left.items + sum_by weight waiting.items) }
+    ensures bounds { OnOk result (HaveBounds instance.now hand.new.left.items) }
+    ensures same { (hand.new.log ≡ hand.old.log) × (hand.new.plan ≡ hand.old.plan) × (hand.new.loss ≡ hand.old.loss) }
+{
+    let mut waiting = waiting;
+    leave(instance, &mut hand.leasts, &mut hand.left, &mut waiting)
 }
 
 /// The better of the plan that was found and the first trace, with its loss.
@@ -85,6 +97,103 @@ fn better(
             }
         }
     }
+}
+
+/// The history of a search from so many start boxes and this first trace, of which a hand holds the rest.
+fn history_of(instance: &Instance, starts: u64, hand: Hand, first: Option<Trace>) -> History
+    requires best { IsBest instance.now hand.loss hand.plan }
+    requires first { IsFirst instance.now first }
+    ensures starts { result.starts ≡ starts }
+    ensures log { result.log ≡ hand.log }
+    ensures left { result.left ≡ hand.left }
+    ensures plan { IsBest instance.now result.best result.plan }
+    ensures best { result.best ≡ min (first_loss instance.now first) hand.loss }
+    ensures small { first_loss instance.now first ≤ no_loss }
+{
+    let Hand {
+        worker: _,
+        log,
+        left,
+        plan,
+        loss,
+        scratch: _,
+        spare: _,
+        leasts: _,
+        spares: _,
+    } = hand;
+    let (plan, best) = better(instance, plan, loss, first);
+    History {
+        starts,
+        log,
+        left,
+        plan,
+        best,
+    }
+}
+
+/// The history of a search from so many start boxes and this first trace, once its hand holds what was done, and these boxes wait.
+fn finish(
+    instance: &Instance,
+    starts: u64,
+    hand: Hand,
+    waiting: Run<PlanBox>,
+    first: Option<Trace>,
+) -> Result<History, Memory>
+    requires leasts { IsOf instance.now hand.leasts }
+    requires bounds { HaveBounds instance.now hand.left.items }
+    requires frames { All (λ (x : PlainBox). x.frame ≡ frame_of instance.now) waiting.items }
+    requires best { IsBest instance.now hand.loss hand.plan }
+    requires first { IsFirst instance.now first }
+    ensures { IfOk result (λ h. Finishes instance.now starts hand waiting.items first h) }
+{
+    let mut hand = hand;
+    leave_all(instance, &mut hand, waiting)?;
+    Ok(history_of(instance, starts, hand, first))
+}
+
+/// Several workers handle boxes, from the start boxes on, until each of them rests, and then the caller, who holds this seat and this
+/// hand. The boxes that wait then come back.
+fn handle_all<R: Threads + Wait + Sync, G: Gate + Sync, Q: Poster + Copy + Drop + Sync>(
+    rt: &R,
+    alloc: Global,
+    instance: &Instance,
+    map: &DefectMap,
+    start: Run<PlanBox>,
+    workers: u32,
+    shared: &SharedBest,
+    seat: &mut Seat,
+    hand: &mut Hand,
+    gate: &G,
+    poster: &Q,
+) -> Result<Run<PlanBox>, Memory>
+    requires map { map.now ≡ instance.now.defects }
+    requires starts { length start.items ≤ 160000000 }
+    requires frames { All (λ (x : PlainBox). x.frame ≡ frame_of instance.now) start.items }
+    requires workers { (1 ≤ workers) × (workers ≤ 8) }
+    requires budget { shared.now.budget ≤ 10000000 }
+    requires seat { IsSeatOf shared.now seat.old }
+    requires newcomer { seat.old.view ≡ newcomer shared.now.first }
+    requires hand { IsFresh instance.now hand.old × (hand.old.left.items ≡ []) }
+    ensures { IfOk result (λ boxes. HasSearched instance.now shared.now (length start.items) start.items workers seat.old seat.new hand.old hand.new boxes.items) }
+{
+    let mut own = *poster;
+    let starts = start.len() as u64;
+    let mut waiting = spread(
+        rt, alloc, instance, map, start, workers, shared, seat, hand, gate, poster,
+    )?;
+    run(
+        alloc,
+        instance,
+        map,
+        shared,
+        seat,
+        hand,
+        starts,
+        &mut waiting,
+        gate,
+        &mut own,
+    )?;
+    Ok(waiting)
 }
 
 /// The search, in which each worker tells a copy of this poster of its plans, and so does the caller.
@@ -117,45 +226,13 @@ pub(crate) fn search_with<R: Threads + Wait + Sync, G: Gate + Sync, Q: Poster + 
 {
     // Read for its rules.
     let _params = instance.params();
-    let mut own = *poster;
     let starts = start.len() as u64;
     let mut hand = Hand::new(alloc, instance, 0)?;
-    let mut waiting = spread(
+    let waiting = handle_all(
         rt, alloc, instance, map, start, workers, shared, seat, &mut hand, gate, poster,
     )?;
-    run(
-        alloc,
-        instance,
-        map,
-        shared,
-        seat,
-        &mut hand,
-        starts,
-        &mut waiting,
-        gate,
-        &mut own,
-    )?;
     settle(shared, seat);
-    let Hand {
-        worker: _,
-        log,
-        left,
-        plan,
-        loss,
-        scratch: _,
-        spare: _,
-        leasts,
-        spares: _,
-    } = hand;
-    let left = leave(instance, leasts, left, waiting)?;
-    let (plan, best) = better(instance, plan, loss, first);
-    Ok(History {
-        starts,
-        log,
-        left,
-        plan,
-        best,
-    })
+    finish(instance, starts, hand, waiting, first)
 }
 
 /// Handles boxes, from the start boxes on, until none is left or the budget is spent; the boxes that then wait are left open.

@@ -63,6 +63,46 @@ fn improvements(
     )
 }
 
+/// A history, and the improvements that it tells of, from its first plan on, by what a board kept of them.
+fn with_improvements(
+    alloc: Global,
+    instance: &Instance,
+    map: &DefectMap,
+    first: &Option<Trace>,
+    entries: &Entries,
+    history: History,
+) -> Result<(History, Run<Entry>), Memory>
+    requires map { map.now ≡ instance.now.defects }
+    requires first { IfSome (steps_of first.now) (IsComplete instance.now) }
+    requires best { IsBest instance.now history.best history.plan }
+    requires no_worse { IsNoWorse instance.now (steps_of first.now) (steps_of history.plan) }
+    ensures history { IfOk result (λ r. r.0 ≡ history) }
+    ensures improvements { IfOk result (λ r. AreOfSearch instance.now (steps_of first.now) r.0 (found_in r.1.items)) }
+{
+    let list = improvements(alloc, instance, map, first, entries, &history)?;
+    Ok((history, list))
+}
+
+/// The board is closed, and its history is told with its improvements, from its first plan on.
+fn tell(
+    alloc: Global,
+    instance: &Instance,
+    map: &DefectMap,
+    first: &Option<Trace>,
+    board: Board,
+    history: History,
+) -> Result<(History, Run<Entry>), Memory>
+    requires map { map.now ≡ instance.now.defects }
+    requires first { IfSome (steps_of first.now) (IsComplete instance.now) }
+    requires best { IsBest instance.now history.best history.plan }
+    requires no_worse { IsNoWorse instance.now (steps_of first.now) (steps_of history.plan) }
+    ensures history { IfOk result (λ r. r.0 ≡ history) }
+    ensures improvements { IfOk result (λ r. AreOfSearch instance.now (steps_of first.now) r.0 (found_in r.1.items)) }
+{
+    let entries = board.close();
+    with_improvements(alloc, instance, map, first, &entries, history)
+}
+
 /// Does what `search` does, and has its workers post each plan that they find to one board. Gives the history, and the improvements: the
 /// first plan, if there is one, those that were posted and lose less than it and more than the best one, each less than the one before,
 /// and the best one.
@@ -107,7 +147,5 @@ pub fn search_watched<R: Threads + Wait + Sync, G: Gate + Sync>(
     let history = search_with(
         rt, alloc, instance, map, start, first, workers, shared, seat, gate, &poster,
     )?;
-    let entries = board.close();
-    let list = improvements(alloc, instance, map, &begun, &entries, &history)?;
-    Ok((history, list))
+    tell(alloc, instance, map, &begun, board, history)
 }

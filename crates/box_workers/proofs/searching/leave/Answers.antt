@@ -8,6 +8,16 @@ use Rattle.plan_box.specs.Frames.{frame_of}
 use Rattle.cert_log.specs.declared.history.Left.{Left}
 use Rattle.box_workers.proofs.searching.leave.Goals as goal
 
+pub fill-requires-clause-instance : goal.fill-requires-clause-instance
+fill-requires-clause-instance c =
+    let last : c.loop-bx.waiting.items ≡ c.pop.new.self.items ++ c.in-Some.bx ∷ [] = search rules in
+    (All-pop (λ (x : PlainBox). x.frame ≡ frame_of c.args.instance.now) c.loop-bx.waiting.items c.pop.new.self.items (Some c.in-Some.bx) last c.loop-bx.invariant.frames).1
+
+pub bound_at-bound-requires-clause-instance : goal.bound_at-bound-requires-clause-instance
+bound_at-bound-requires-clause-instance c =
+    let last : c.loop-bx.waiting.items ≡ c.pop.new.self.items ++ c.in-Some.bx ∷ [] = search rules in
+    (All-pop (λ (x : PlainBox). x.frame ≡ frame_of c.args.instance.now) c.loop-bx.waiting.items c.pop.new.self.items (Some c.in-Some.bx) last c.loop-bx.invariant.frames).1
+
 pub loop-bx-preserved : goal.loop-bx-preserved
 loop-bx-preserved c =
     let i = c.loop-bx.invariant in

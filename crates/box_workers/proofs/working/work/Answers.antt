@@ -8,7 +8,7 @@ use Rattle.box_workers.specs.Works.{left_open}
 use Rattle.box_workers.specs.inner.Rounds.{BreaksOff, Midway, Moves, Stops, Turns}
 use Rattle.box_workers.proofs.Progress.{few_push}
 use Rattle.box_workers.proofs.Worked.{lost_at, lost_between, lost_spent, worked_none, when_err, worked_more, worked_spent, new_tickets, draws_one, may_draw}
-use Rattle.box_workers.proofs.Traffic.{midway_none, midway_more, traffic_idle, traffic_left, rests_spent}
+use Rattle.box_workers.proofs.Traffic.{midway_none, midway_idle, midway_more, traffic_idle, traffic_left, rests_spent}
 use Rattle.box_workers.proofs.working.work.Goals as goal
 
 pub returns-in_err-reserve-clause-lost : goal.returns-in_err-reserve-clause-lost
@@ -105,4 +105,48 @@ returns-clause-works g c =
       left_is = c.loop-alloc.invariant.left ∙ sym (append-nil c.args.hand.now.left.items);
       traffic = traffic_idle c.args.starts c.args.arm.now c.loop-alloc.arm c.push_all-2.new.arm i.0 c.loop-alloc.at_hand.items i.3 (search rules);
       rests = (refl, refl, (let t = c.loop-alloc-test.false in let m = c.misses.ensures in let n = c.push_all-2.ensures.misses in omega arith));
+    }
+
+pub returns-in_err-reserve-clause-stays : goal.returns-in_err-reserve-clause-stays
+returns-in_err-reserve-clause-stays g c = stays_none c.args.arm.now
+
+pub returns-in_err-offer-in-Some-clause-stays : goal.returns-in_err-offer-in-Some-clause-stays
+returns-in_err-offer-in-Some-clause-stays g c = stays_twice c.args.arm.now c.loop-alloc.arm c.offer.new.arm c.loop-alloc.invariant.stays (stays_twice c.loop-alloc.arm c.find.new.arm c.offer.new.arm c.find.ensures.stays c.offer.ensures.stays)
+
+pub returns-in_err-offer-in-Some-clause-lost : goal.returns-in_err-offer-in-Some-clause-lost
+returns-in_err-offer-in-Some-clause-lost g c =
+    let i = c.loop-alloc.invariant.runs in
+    when_err _ (lost_between c.args.instance.now c.args.shared.now c.args.seat.now c.loop-alloc.seat c.args.hand.now c.loop-alloc.hand i.0 i.1 c.loop-alloc.invariant.left)
+
+pub returns-in_err-turn-in-Some-clause-stays : goal.returns-in_err-turn-in-Some-clause-stays
+returns-in_err-turn-in-Some-clause-stays g c = stays_twice c.args.arm.now c.loop-alloc.arm c.offer.new.arm c.loop-alloc.invariant.stays (stays_twice c.loop-alloc.arm c.find.new.arm c.offer.new.arm c.find.ensures.stays c.offer.ensures.stays)
+
+pub returns-in_err-push_all-in-Some-clause-stays : goal.returns-in_err-push_all-in-Some-clause-stays
+returns-in_err-push_all-in-Some-clause-stays g c = stays_twice c.args.arm.now c.offer.new.arm c.push_all.new.arm (stays_twice c.args.arm.now c.loop-alloc.arm c.offer.new.arm c.loop-alloc.invariant.stays (stays_twice c.loop-alloc.arm c.find.new.arm c.offer.new.arm c.find.ensures.stays c.offer.ensures.stays)) c.push_all.ensures.stays
+
+pub returns-then-not-branch-clause-stays : goal.returns-then-not-branch-clause-stays
+returns-then-not-branch-clause-stays g c = stays_twice c.args.arm.now c.offer.new.arm c.push_all.new.arm (stays_twice c.args.arm.now c.loop-alloc.arm c.offer.new.arm c.loop-alloc.invariant.stays (stays_twice c.loop-alloc.arm c.find.new.arm c.offer.new.arm c.find.ensures.stays c.offer.ensures.stays)) c.push_all.ensures.stays
+
+pub returns-in_err-push_all-clause-stays : goal.returns-in_err-push_all-clause-stays
+returns-in_err-push_all-clause-stays g c = stays_twice c.args.arm.now c.loop-alloc.arm c.push_all-2.new.arm c.loop-alloc.invariant.stays c.push_all-2.ensures.stays
+
+pub returns-in_err-push_all-clause-lost : goal.returns-in_err-push_all-clause-lost
+returns-in_err-push_all-clause-lost g c =
+    let i = c.loop-alloc.invariant.runs in
+    when_err _ (lost_between c.args.instance.now c.args.shared.now c.args.seat.now c.loop-alloc.seat c.args.hand.now c.loop-alloc.hand i.0 i.1 c.loop-alloc.invariant.left)
+
+pub returns-clause-stays : goal.returns-clause-stays
+returns-clause-stays g c = stays_twice c.args.arm.now c.loop-alloc.arm c.push_all-2.new.arm c.loop-alloc.invariant.stays c.push_all-2.ensures.stays
+
+pub loop-alloc-preserved-in-None : goal.loop-alloc-preserved-in-None
+loop-alloc-preserved-in-None g c =
+    let i = c.loop-alloc.invariant.runs in record {
+      runs = (i.0, i.1, i.2, midway_idle c.args.starts c.args.arm.now c.loop-alloc.arm c.find.new.arm i.0 c.loop-alloc.at_hand.items i.3 c.find.new.at_hand.items c.in-None.ensures.moves);
+      frames = c.find.ensures.frames;
+      left = c.loop-alloc.invariant.left;
+      room = c.loop-alloc.invariant.room;
+      leasts = c.loop-alloc.invariant.leasts;
+      scratch = c.loop-alloc.invariant.scratch;
+      ring = c.find.ensures.stays.frame ∙ c.loop-alloc.invariant.ring;
+      stays = stays_twice c.args.arm.now c.loop-alloc.arm c.find.new.arm c.loop-alloc.invariant.stays c.find.ensures.stays;
     }
