@@ -5,7 +5,7 @@ use Rattle.std.specs.List.{AllPairs, slice_index_or}
 use Rattle.std.proofs.lemmas.List.Elements.{All-append, All-cons, All-nil, All-push, Contains-get_or}
 use Rattle.std.proofs.lemmas.List.Quantifiers.{all_pairs_push}
 use Rattle.std.proofs.lemmas.List.{map-append}
-use Rattle.std.proofs.lemmas.List.Sums.{sum_by-append}
+use Rattle.std.proofs.lemmas.List.Sums.{sum_by-append, sum_by-cons}
 use Rattle.glass_base.specs.Problem.{Problem}
 use Rattle.plan_box.specs.Ranges.{PlainBox}
 use Rattle.plan_box.specs.Frames.{frame_of}
@@ -17,10 +17,13 @@ use Rattle.box_levels.specs.Events.{Event, made_by, all_boxes, tickets_of}
 use Rattle.box_levels.proofs.Sames.{test_same}
 use Rattle.box_levels.proofs.Counts.{sum_map}
 use Rattle.shared_best.specs.declared.view.View.{View}
+use Rattle.shared_best.specs.Seats.{Words, Seated}
 use Rattle.shared_best.specs.Words.{lowered, last_or}
-use Rattle.box_workers.specs.Handling.{told}
+use Rattle.box_workers.specs.declared.hand.Hand.{Hand}
+use Rattle.box_workers.specs.declared.handling.Done.{Done}
+use Rattle.box_workers.specs.Handling.{Answers, told}
 use Rattle.box_workers.specs.Runs.{least_loss}
-use Rattle.box_workers.specs.inner.Rounds.{AreFew}
+use Rattle.box_workers.specs.inner.Rounds.{AreFew, Turns}
 
 -- a choice between two views leaves what both have
 pub told_keeps : {X : Type 0} (f : View → X) (loss probed : ℕ) (v : View) → f (lowered v probed) ≡ f v → f (told loss probed v) ≡ f v
@@ -88,3 +91,22 @@ halves_wait b starts e x lower upper ws before same of is =
 -- or the box itself waits on
 pub waits_on : (b : Problem) (x y : PlainBox) (ws : List PlainBox) → All (λ (z : PlainBox). z.frame ≡ frame_of b) ws → y ≡ x → x.frame ≡ frame_of b → All (λ (z : PlainBox). z.frame ≡ frame_of b) (ws ++ y ∷ [])
 waits_on b x y ws before same of = All-push (λ (z : PlainBox). z.frame ≡ frame_of b) ws y before (ap (λ (z : PlainBox). z.frame) same ∙ of)
+
+-- a box that was closed was handled, and has no halves
+pub turns_closed : (b : Problem) (w : Words) (starts : ℕ) (x : PlainBox) (s t : Seated) (k l : Hand) (before after : List PlainBox) → after ≡ before → Answers b w starts x s t k l Done.Closed → Turns b w starts x s t k l before after
+turns_closed b w starts x s t k l before after same d = record {
+  event = d.0;
+  handles = d.1;
+  waits = λ h. (let m = ap (sum_by h) d.2 in let i = ap (sum_by h) same in omega arith);
+}
+
+-- the halves of a box that was split wait
+pub turns_split : (b : Problem) (w : Words) (starts : ℕ) (x : PlainBox) (s t : Seated) (k l : Hand) (before between after : List PlainBox) (lower upper : PlainBox) → between ≡ before → after ≡ between ++ upper ∷ lower ∷ []
+    → Answers b w starts x s t k l (Done.Split lower upper) → Turns b w starts x s t k l before after
+turns_split b w starts x s t k l before between after lower upper same put d = record {
+  event = d.0;
+  handles = d.1;
+  waits = λ h. (
+      let m = ap (sum_by h) d.2 in let i = ap (sum_by h) same in let p = ap (sum_by h) put in let a = sum_by-append h between (upper ∷ lower ∷ []) in
+      let u = sum_by-cons h upper (lower ∷ []) in let v = sum_by-cons h lower [] in let y = sum_by-cons h lower (upper ∷ []) in let z = sum_by-cons h upper [] in omega arith);
+}

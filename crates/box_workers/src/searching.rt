@@ -25,6 +25,7 @@ use glass_base::{Instance, Memory, Run, append};
 use plan_box::PlanBox;
 use shared_best::{Seat, SharedBest};
 use std::alloc::Global;
+use std::mem;
 use std::sync::Wait;
 use std::thread::Threads;
 
@@ -99,40 +100,57 @@ fn better(
     }
 }
 
-/// The history of a search from so many start boxes and this first trace, of which a hand holds the rest.
-fn history_of(instance: &Instance, starts: u64, hand: Hand, first: Option<Trace>) -> History
-    requires best { IsBest instance.now hand.loss hand.plan }
+/// The history of a search from so many start boxes and this first trace. The rest of it is moved out of a hand.
+fn history_of(
+    alloc: Global,
+    instance: &Instance,
+    starts: u64,
+    hand: &mut Hand,
+    first: Option<Trace>,
+) -> History
+    requires best { IsBest instance.now hand.old.loss hand.old.plan }
     requires first { IsFirst instance.now first }
     ensures starts { result.starts ≡ starts }
-    ensures log { result.log ≡ hand.log }
-    ensures left { result.left ≡ hand.left }
+    ensures log { result.log ≡ hand.old.log }
+    ensures left { result.left ≡ hand.old.left }
     ensures plan { IsBest instance.now result.best result.plan }
-    ensures best { result.best ≡ min (first_loss instance.now first) hand.loss }
+    ensures best { result.best ≡ min (first_loss instance.now first) hand.old.loss }
     ensures small { first_loss instance.now first ≤ no_loss }
 {
-    let Hand {
-        worker: _,
-        log,
-        left,
-        plan,
-        loss,
-        scratch: _,
-        spare: _,
-        leasts: _,
-        spares: _,
-    } = hand;
-    let (plan, best) = better(instance, plan, loss, first);
+    let (plan, best) = better(instance, hand.plan.take(), hand.loss, first);
     History {
         starts,
-        log,
-        left,
+        log: mem::replace(&mut hand.log, Run::new(alloc)),
+        left: mem::replace(&mut hand.left, Run::new(alloc)),
         plan,
         best,
     }
 }
 
-/// The history of a search from so many start boxes and this first trace, once its hand holds what was done, and these boxes wait.
+/// The history of a search from so many start boxes and this first trace, once this hand holds what was done, and these boxes wait. Then
+/// the hand holds neither notes nor a plan.
+fn finish_with(
+    alloc: Global,
+    instance: &Instance,
+    starts: u64,
+    hand: &mut Hand,
+    waiting: Run<PlanBox>,
+    first: Option<Trace>,
+) -> Result<History, Memory>
+    requires leasts { IsOf instance.now hand.old.leasts }
+    requires bounds { HaveBounds instance.now hand.old.left.items }
+    requires frames { All (λ (x : PlainBox). x.frame ≡ frame_of instance.now) waiting.items }
+    requires best { IsBest instance.now hand.old.loss hand.old.plan }
+    requires first { IsFirst instance.now first }
+    ensures { IfOk result (λ h. Finishes instance.now starts hand.old waiting.items first h) }
+{
+    leave_all(instance, hand, waiting)?;
+    Ok(history_of(alloc, instance, starts, hand, first))
+}
+
+/// The history of a search from so many start boxes and this first trace, once this hand holds what was done, and these boxes wait.
 fn finish(
+    alloc: Global,
     instance: &Instance,
     starts: u64,
     hand: Hand,
@@ -147,8 +165,7 @@ fn finish(
     ensures { IfOk result (λ h. Finishes instance.now starts hand waiting.items first h) }
 {
     let mut hand = hand;
-    leave_all(instance, &mut hand, waiting)?;
-    Ok(history_of(instance, starts, hand, first))
+    finish_with(alloc, instance, starts, &mut hand, waiting, first)
 }
 
 /// Several workers handle boxes, from the start boxes on, until each of them rests, and then the caller, who holds this seat and this
@@ -232,7 +249,7 @@ pub(crate) fn search_with<R: Threads + Wait + Sync, G: Gate + Sync, Q: Poster + 
         rt, alloc, instance, map, start, workers, shared, seat, &mut hand, gate, poster,
     )?;
     settle(shared, seat);
-    finish(instance, starts, hand, waiting, first)
+    finish(alloc, instance, starts, hand, waiting, first)
 }
 
 /// Handles boxes, from the start boxes on, until none is left or the budget is spent; the boxes that then wait are left open.

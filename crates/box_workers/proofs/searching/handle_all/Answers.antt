@@ -1,4 +1,4 @@
-use Rattle.std.proofs.Common.{◌≡◌, ℕ, subst}
+use Rattle.std.proofs.Common.{ℕ, subst}
 use Rattle.box_workers.specs.inner.Rounds.{HasEnded}
 use Rattle.box_workers.proofs.searching.handle_all.Goals as goal
 

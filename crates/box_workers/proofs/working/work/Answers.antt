@@ -1,8 +1,11 @@
-use Rattle.std.proofs.Common.{rules, ◌≡◌, ◌∷◌, ◌++◌, ◌≤◌, List, [], append-nil, inl, refl, sym, ap, ◌∙◌, subst, arith}
+use Rattle.std.proofs.Common.{rules, ◌≡◌, ◌∷◌, ◌++◌, ◌≤◌, List, [], append-nil, inl, refl, sym, ap, ◌∙◌, subst, arith, All}
+use Rattle.glass_base.specs.Run.{Listed}
+use Rattle.plan_box.specs.declared.frame.Frame.{Frame}
 use Rattle.plan_box.specs.Frames.{frame_of}
 use Rattle.plan_box.specs.Ranges.{PlainBox}
 use Rattle.cert_log.specs.declared.history.Left.{Left}
 use Rattle.cert_log.specs.Lawful.{no_loss}
+use Rattle.box_ring.specs.Arms.{frame}
 use Rattle.box_ring.proofs.Rows.{stays_none, stays_twice}
 use Rattle.box_workers.specs.Works.{left_open}
 use Rattle.box_workers.specs.inner.Rounds.{BreaksOff, Midway, Moves, Stops, Turns}
@@ -48,7 +51,7 @@ pub returns-then-not-branch-clause-works : goal.returns-then-not-branch-clause-w
 returns-then-not-branch-clause-works g c =
     let i = c.loop-alloc.invariant.runs in let x = c.in-Some.bx in
     let st : Stops c.args.instance.now c.args.shared.now x c.loop-alloc.seat c.turn.new.seat c.loop-alloc.hand c.turn.new.hand × (c.turn.new.at_hand.items ≡ c.offer.new.at_hand.items) = search rules in
-    let found : Moves c.loop-alloc.at_hand.items c.find.new.at_hand.items (x ∷ []) c.loop-alloc.arm c.find.new.arm = search rules in
+    let found : Moves c.loop-alloc.at_hand.items c.find.new.at_hand.items (x ∷ []) c.loop-alloc.arm c.find.new.arm = c.in-Some.ensures.moves in
     let offered : Moves c.find.new.at_hand.items c.offer.new.at_hand.items [] c.find.new.arm c.offer.new.arm = search rules in
     let pushed : Moves c.offer.new.at_hand.items [] [] c.offer.new.arm c.push_all.new.arm = subst (λ (ws : List PlainBox). Moves ws [] [] c.offer.new.arm c.push_all.new.arm) st.1 (search rules) in
     let some = may_draw c.args.shared.now.budget c.loop-alloc.seat.view.allowance c.args.seat.now.view.allowance i.0 i.2 i.1.allowance c.requires.allowance in
@@ -73,11 +76,13 @@ pub loop-alloc-preserved : goal.loop-alloc-preserved
 loop-alloc-preserved g c =
     let i = c.loop-alloc.invariant.runs in let x = c.in-Some.bx in
     let d : Turns c.args.instance.now c.args.shared.now c.args.starts x c.loop-alloc.seat c.turn.new.seat c.loop-alloc.hand c.turn.new.hand c.offer.new.at_hand.items c.turn.new.at_hand.items = search rules in
-    let found : Moves c.loop-alloc.at_hand.items c.find.new.at_hand.items (x ∷ []) c.loop-alloc.arm c.find.new.arm = search rules in
+    let found : Moves c.loop-alloc.at_hand.items c.find.new.at_hand.items (x ∷ []) c.loop-alloc.arm c.find.new.arm = c.in-Some.ensures.moves in
     let offered : Moves c.find.new.at_hand.items c.offer.new.at_hand.items [] c.find.new.arm c.offer.new.arm = search rules in
     let small : c.args.hand.now.loss ≤ no_loss = search rules in
     let of : x.frame ≡ frame_of c.args.instance.now = c.in-Some.ensures.frame ∙ c.loop-alloc.invariant.ring in
     let some = may_draw c.args.shared.now.budget c.loop-alloc.seat.view.allowance c.args.seat.now.view.allowance i.0 i.2 i.1.allowance c.requires.allowance in
+    let ring : frame c.offer.new.arm ≡ frame_of c.args.instance.now = c.offer.ensures.stays.frame ∙ c.find.ensures.stays.frame ∙ c.loop-alloc.invariant.ring in
+    let framed : All (λ (y : PlainBox). y.frame ≡ frame_of c.args.instance.now) c.turn.new.at_hand.items = search rules in
     record {
       runs = (
         i.0 ++ d.event ∷ [],
@@ -85,12 +90,12 @@ loop-alloc-preserved g c =
         few_push c.args.shared.now.budget i.0 d.event i.2 (new_tickets c.args.instance.now c.args.shared.now c.args.seat.now c.loop-alloc.seat c.turn.new.seat c.args.hand.now c.loop-alloc.hand c.turn.new.hand i.0 i.1 x d.event d.handles small) d.handles.look.in_budget,
         midway_more c.args.starts c.args.arm.now c.loop-alloc.arm c.find.new.arm i.0 c.loop-alloc.at_hand.items i.3 c.offer.new.arm c.find.new.at_hand.items c.offer.new.at_hand.items x found offered d.event c.turn.new.at_hand.items d.handles.box d.waits,
       );
-      frames = search rules;
-      left = search rules;
-      room = search rules;
+      frames = subst (λ (f : Frame). All (λ (y : PlainBox). y.frame ≡ f) c.turn.new.at_hand.items) (sym ring) framed;
+      left = ap (λ (ls : Listed Left). ls.items) d.handles.left ∙ c.loop-alloc.invariant.left;
+      room = subst (λ (ls : Listed Left). 1 ≤ ls.spare) (sym d.handles.left) c.loop-alloc.invariant.room;
       leasts = c.turn.ensures.leasts;
       scratch = c.turn.ensures.scratch;
-      ring = search rules;
+      ring = ring;
       stays = stays_twice c.args.arm.now c.loop-alloc.arm c.offer.new.arm c.loop-alloc.invariant.stays (stays_twice c.loop-alloc.arm c.find.new.arm c.offer.new.arm c.find.ensures.stays c.offer.ensures.stays);
     }
 
@@ -150,3 +155,16 @@ loop-alloc-preserved-in-None g c =
       ring = c.find.ensures.stays.frame ∙ c.loop-alloc.invariant.ring;
       stays = stays_twice c.args.arm.now c.loop-alloc.arm c.find.new.arm c.loop-alloc.invariant.stays c.find.ensures.stays;
     }
+
+pub turn-requires-clause-frame : goal.turn-requires-clause-frame
+turn-requires-clause-frame g c = c.in-Some.ensures.frame ∙ c.loop-alloc.invariant.ring
+
+pub turn-requires-clause-frames : goal.turn-requires-clause-frames
+turn-requires-clause-frames g c =
+    let ring : frame c.offer.new.arm ≡ frame_of c.args.instance.now = c.offer.ensures.stays.frame ∙ c.find.ensures.stays.frame ∙ c.loop-alloc.invariant.ring in
+    subst (λ (f : Frame). All (λ (y : PlainBox). y.frame ≡ f) c.offer.new.at_hand.items) ring c.offer.ensures.frames
+
+pub turn-requires-clause-allowance : goal.turn-requires-clause-allowance
+turn-requires-clause-allowance g c =
+    let i = c.loop-alloc.invariant.runs in
+    may_draw c.args.shared.now.budget c.loop-alloc.seat.view.allowance c.args.seat.now.view.allowance i.0 i.2 i.1.allowance c.requires.allowance
