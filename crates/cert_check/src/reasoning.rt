@@ -95,6 +95,31 @@ fn name_node(
     }
 }
 
+/// The nodes of a certificate with their causes named, by a path that is at the root.
+fn name_on(
+    alloc: Global,
+    instance: &Instance,
+    defects: &DefectMap,
+    cert: &Certificate,
+    path: &mut Path,
+    scratch: &mut Scratch,
+) -> Result<Run<Node>, Memory>
+    requires defects { defects.now ≡ instance.now.defects }
+    requires good { IsGood instance.now (root_of (frame_of instance.now) 0).ranges cert.now.loss cert.now }
+    requires frame { path.old.frame ≡ frame_of instance.now }
+    requires boxes { path.old.boxes ≡ (root_of (frame_of instance.now) 0).ranges ∷ [] }
+    requires room { HasRoom (length instance.now.items) scratch.old }
+    ensures { IfOk result (λ run. AllZip (IsNamedAt instance.now) (visits_from ((root_of (frame_of instance.now) 0).ranges ∷ []) cert.now.nodes.items) run.items) }
+{
+    let mut nodes = Run::new(alloc);
+    for node in cert.nodes.as_slice() {
+        let named = name_node(instance, defects, *node, path, scratch);
+        append(&mut nodes, named)?;
+        path.pass(*node)?;
+    }
+    Ok(nodes)
+}
+
 /// The nodes of a certificate with their causes named.
 fn name_nodes(
     alloc: Global,
@@ -108,13 +133,7 @@ fn name_nodes(
 {
     let mut path = Path::new(alloc, instance)?;
     let mut scratch = Scratch::new(alloc, instance.items().len())?;
-    let mut nodes = Run::new(alloc);
-    for node in cert.nodes.as_slice() {
-        let named = name_node(instance, defects, *node, &path, &mut scratch);
-        append(&mut nodes, named)?;
-        path.pass(*node)?;
-    }
-    Ok(nodes)
+    name_on(alloc, instance, defects, cert, &mut path, &mut scratch)
 }
 
 /// The certificate of version 2 that says the same as one that is right for the box of all plans. Where a closed node has no cause, it is the

@@ -1,6 +1,6 @@
 //! A walk over the nodes of a certificate.
 
-ghost use Rattle.std.specs.Prelude.{◌≡◌, ◌≢◌, ◌<◌, ◌≤◌, ◌+◌, ◌-◌, ◌^◌, ◌⊎◌, [], ◌↔◌, length, map, IfOk, OnOk, IsTrue, MatchBool, MatchOption};
+ghost use Rattle.std.specs.Prelude.{◌≡◌, ◌≢◌, ◌<◌, ◌≤◌, ◌+◌, ◌-◌, ◌^◌, ◌⊎◌, ◌∷◌, [], ◌↔◌, length, map, IfOk, OnOk, IsTrue, MatchBool, MatchOption};
 ghost use Rattle.plan_box.specs.Packed.{unpacked};
 ghost use Rattle.cert_check.specs.inner.Paths.{AreStored};
 ghost use Rattle.plan_box.specs.Frames.{frame_of};
@@ -259,6 +259,41 @@ fn count(instance: &Instance, node: Node, path: &Path, tally: &mut Tally, scratc
     }
 }
 
+/// Walks over the nodes of a certificate with a path that is at the root, up to the first that may not stand at its box.
+fn walk_on(
+    instance: &Instance,
+    defects: &DefectMap,
+    loss: Option<u64>,
+    cert: &Certificate,
+    path: &mut Path,
+    scratch: &mut Scratch,
+) -> Result<Walked, Memory>
+    requires defects { defects.now ≡ instance.now.defects }
+    requires tree { IsTree cert.now.nodes.items }
+    requires frame { path.old.frame ≡ frame_of instance.now }
+    requires boxes { path.old.boxes ≡ (root_of (frame_of instance.now) 0).ranges ∷ [] }
+    requires room { HasRoom (length instance.now.items) scratch.old }
+    ensures { IfOk result (Finds instance.now (root_of (frame_of instance.now) 0).ranges loss cert.now) }
+{
+    let mut place = Place {
+        line: 1,
+        after_open: false,
+    };
+    let mut tally = Tally {
+        least: loss,
+        left: 0,
+    };
+    for node in cert.nodes.as_slice() {
+        place.read(cert.version, *node);
+        if let Some(why) = judge(instance, defects, loss, *node, path, scratch) {
+            return Ok(Walked::Fault(place.line, why));
+        }
+        count(instance, *node, path, &mut tally, scratch);
+        path.pass(*node)?;
+    }
+    Ok(Walked::Whole(tally))
+}
+
 /// Walks over the nodes of a certificate, up to the first that may not stand at its box.
 pub(crate) fn walk(
     alloc: Global,
@@ -273,21 +308,5 @@ pub(crate) fn walk(
 {
     let mut path = Path::new(alloc, instance)?;
     let mut scratch = Scratch::new(alloc, instance.items().len())?;
-    let mut place = Place {
-        line: 1,
-        after_open: false,
-    };
-    let mut tally = Tally {
-        least: loss,
-        left: 0,
-    };
-    for node in cert.nodes.as_slice() {
-        place.read(cert.version, *node);
-        if let Some(why) = judge(instance, defects, loss, *node, &path, &mut scratch) {
-            return Ok(Walked::Fault(place.line, why));
-        }
-        count(instance, *node, &path, &mut tally, &mut scratch);
-        path.pass(*node)?;
-    }
-    Ok(Walked::Whole(tally))
+    walk_on(instance, defects, loss, cert, &mut path, &mut scratch)
 }

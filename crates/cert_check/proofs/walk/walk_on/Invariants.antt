@@ -3,7 +3,7 @@ use Rattle.plan_box.specs.Frames.{frame_of}
 use Rattle.plan_box.specs.Ranges.{root_of}
 use Rattle.cert_check.specs.inner.Knowns.{HasRoom}
 use Rattle.cert_check.specs.inner.Walks.{IsWalking}
-use Rattle.cert_check.proofs.walk.walk.Given as goal
+use Rattle.cert_check.proofs.walk.walk_on.Given as goal
 
 abbrev pub invariant-loop-node : goal.invariant-loop-node
 invariant-loop-node l = record {
