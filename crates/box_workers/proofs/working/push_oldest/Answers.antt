@@ -12,3 +12,6 @@ returns-clause-frames c =
     let same : frame c.push.new.self ≡ frame c.args.arm.now = search rules in
     subst (λ (f : Frame). All (λ (x : PlainBox). x.frame ≡ f) rest) (sym same)
     (All-tail (λ (x : PlainBox). x.frame ≡ frame c.args.arm.now) bx rest (subst (All (λ (x : PlainBox). x.frame ≡ frame c.args.arm.now)) first c.requires.frames))
+
+pub returns-clause-oldest : goal.returns-clause-oldest
+returns-clause-oldest c = search rules
