@@ -193,7 +193,19 @@ impl Bench {
         if self.attempt.any || !self.attempt.hope {
             return Ok(());
         }
-        match strip_from(task, parent, base.candidate, next, Length::ZERO) {
+        self.begin_plate(task, ledger, parent, base, next)
+    }
+
+    /// Offers strips on a plate that a node begins.
+    fn begin_plate(
+        &mut self,
+        task: &Task,
+        ledger: &mut Ledger,
+        parent: Option<u32>,
+        base: &Base,
+        plate: u16,
+    ) -> Result<(), Memory> {
+        match strip_from(task, parent, base.candidate, plate, Length::ZERO) {
             Some(strip) => {
                 let begun = Scene {
                     begins: Begins::Plate,
