@@ -31,7 +31,7 @@ abbrev pub taken : List Spot → List Item
 taken [] = []
 taken (spot _ s ∷ later) = cons_option s.item (taken later)
 
-abbrev Items : Problem → Level → Cut → List Spot → Type 0
+abbrev pub Items : Problem → Level → Cut → List Spot → Type 0
 Items b m t later = EachStep (λ _ _ _ s _. HasItem b s.place) m t later
 
 abbrev ids_of : List Item → List ℕ
@@ -41,11 +41,11 @@ numbers_are : (b : Problem) (m : Level) (t : Cut) (later : List Spot) → Items 
 numbers_are b m t [] h = refl
 numbers_are b m t (spot l s ∷ later) h = rw h.0.1.is (ap (λ (l : List ℕ). h.0.0.id ∷ l) (numbers_are b l s later h.1))
 
-taken_count : (b : Problem) (m : Level) (t : Cut) (later : List Spot) → Items b m t later → length (taken later) ≡ length later
+pub taken_count : (b : Problem) (m : Level) (t : Cut) (later : List Spot) → Items b m t later → length (taken later) ≡ length later
 taken_count b m t [] h = refl
 taken_count b m t (spot l s ∷ later) h = rw h.0.1.is (omega (arith, taken_count b l s later h.1))
 
-taken_known : (b : Problem) (m : Level) (t : Cut) (later : List Spot) → Items b m t later → All (Contains b.items) (taken later)
+pub taken_known : (b : Problem) (m : Level) (t : Cut) (later : List Spot) → Items b m t later → All (Contains b.items) (taken later)
 taken_known b m t [] h = All-nil (Contains b.items)
 taken_known b m t (spot l s ∷ later) h = rw h.0.1.is (All-cons (Contains b.items) h.0.0 (taken later) h.0.1.has (taken_known b l s later h.1))
 
@@ -98,7 +98,7 @@ later_taken b rules before m t (s ∷ ss) h stack n item is lt =
     (All-cons (KeepsStack item) h.0.0 (taken rest) follows
     (later_taken b rules (draw_of s ∷ before) (begins before s.kind) here ss h.1 stack n item is (omega (arith, lt, drawn_more (draw_of s) before stack))))
 
-taken_kept : (b : Problem) → IsProblem b → (before : List Draw) (m : Level) (t : Cut) (ss : List Step) → Items b m t (attach (marks b before t.place (map draw_of ss)) ss) →
+pub taken_kept : (b : Problem) → IsProblem b → (before : List Draw) (m : Level) (t : Cut) (ss : List Step) → Items b m t (attach (marks b before t.place (map draw_of ss)) ss) →
     KeepsStacks (taken (attach (marks b before t.place (map draw_of ss)) ss))
 taken_kept b rules before m t [] h = pairs_nil KeepsStack
 taken_kept b rules before m t (s ∷ ss) h =
@@ -175,7 +175,7 @@ found_again items (item ∷ xs) apart h =
     ap (λ (o : Option Item). cons_option o (filter_map (item_with items) (ids_of xs))) (item_found items has.0 item apart has.1 has.2)
     ∙ ap (λ (l : List Item). item ∷ l) (found_again items xs apart (All-tail (Contains items) item xs h))
 
-ids_count : (items : List Item) → length (ids_of items) ≡ length items
+pub ids_count : (items : List Item) → length (ids_of items) ≡ length items
 ids_count [] = refl
 ids_count (item ∷ items) = omega (arith, ids_count items)
 

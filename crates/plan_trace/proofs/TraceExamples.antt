@@ -11,11 +11,11 @@ use Rattle.cut_model.proofs.Examples.{usual}
 use Rattle.plan_trace.specs.Broken.{RuleAt}
 use Rattle.plan_trace.specs.Canonical.{canonical}
 
-abbrev item : ℕ → ℕ → ℕ → Item
+abbrev pub item : ℕ → ℕ → ℕ → Item
 item number length width = record { id = number; length = length; width = width; stack = 0; sequence = number + 1 }
 
 -- items of one stack, on plates of these widths
-abbrev batch : List Item → List ℕ → List ℕ → Problem
+abbrev pub batch : List Item → List ℕ → List ℕ → Problem
 batch items widths places = record { params = usual; items = items; defects = []; widths = widths; stacks = places ∷ [] }
 
 abbrev step : ℕ → ℕ → ℕ → ℕ → ℕ → ℕ → ℕ → ℕ → Step

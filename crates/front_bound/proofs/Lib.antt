@@ -1,0 +1,15 @@
+pub mod HeldLists
+pub mod PoolRows
+pub mod Each
+pub mod RowLemmas
+pub mod Fronts
+pub mod CellRuns
+pub mod Staircases
+pub mod Paths
+pub mod KeyLists
+pub mod StripTries
+pub mod StripRuns
+pub mod Leasts
+pub mod LevelLists
+pub mod SideLemmas
+pub mod Reached

@@ -1,0 +1,162 @@
+-- Right sides of strips.
+use Rattle.std.proofs.Common.{◌≡◌, ℕ, suc, ◌+◌, ◌-◌, ◌<◌, ◌≤◌, ◌⊎◌, inl, inr, List, length, get_or, sym, ap, ◌∙◌, subst, arith, Bool, true, false, IsTrue}
+use Rattle.std.proofs.lemmas.Bool.{cases_lt}
+use Rattle.glass_base.specs.Plates.{Before, Width}
+use Rattle.glass_base.specs.Problem.{Problem}
+use Rattle.plan_trace.specs.TraceRules.{Gap}
+use Rattle.front_bound.specs.declared.labels.Label.{Label}
+use Rattle.front_bound.specs.declared.sets.SizeSet.{SizeSet}
+use Rattle.front_bound.specs.declared.levels.Level.{Level}
+use Rattle.front_bound.specs.declared.rows.Row.{Row}
+use Rattle.front_bound.specs.declared.strips.Limits.{Limits}
+use Rattle.front_bound.specs.inner.Sets.{Has, Held}
+use Rattle.front_bound.specs.inner.Lattice.{IsLattice}
+use Rattle.front_bound.specs.inner.Levels.{bands_at, list_at, to_go_at, IsToGo}
+use Rattle.front_bound.specs.inner.Pools.{row_at, HeldAt, Spreads}
+use Rattle.front_bound.specs.inner.Ready.{Ready, Fitting, Built}
+use Rattle.front_bound.specs.inner.Lists.{HasBands}
+use Rattle.front_bound.specs.inner.Tries.{RowExtended, Searchable}
+use Rattle.front_bound.specs.inner.Sides.{EndsHeld, NextHeld, PlateGoesOn, ClassGoesOn, SidesGoOn}
+use Rattle.front_bound.proofs.StripRuns.{strip_down, strips_held}
+
+pub gap_behind : (waste from to : ℕ) → Gap waste from to → from ≤ to
+gap_behind waste from to (inl same) = omega (arith, same)
+gap_behind waste from to (inr least) = omega (arith, least)
+
+pub ends_kept : (b : Problem) (far most g : ℕ) (old new : List (List Label)) (m plate from width : ℕ) → Spreads g old new → EndsHeld b far most old m plate from width → EndsHeld b far most new m plate from width
+unfolding EndsHeld
+ends_kept b far most g old new m plate from width s held right gap within near = s.kept m right plate (held right gap within near)
+
+-- no right side is on the plate, or near enough
+pub ends_wide : (b : Problem) (far most : ℕ) (sides : List (List Label)) (m plate from width : ℕ) → Width b plate < from + width → EndsHeld b far most sides m plate from width
+unfolding EndsHeld
+ends_wide b far most sides m plate from width wide right gap within near = absurd (omega (arith, wide, gap_behind b.params.waste (from + width) right gap, within))
+
+pub ends_far : (b : Problem) (far most : ℕ) (sides : List (List Label)) (m plate from width : ℕ) → most < Before b plate + (from + width) + far → EndsHeld b far most sides m plate from width
+unfolding EndsHeld
+ends_far b far most sides m plate from width past right gap within near = absurd (omega (arith, past, gap_behind b.params.waste (from + width) right gap, near))
+
+-- right sides that a set has are held where it is offered
+pub ends_offered : (b : Problem) (far most : ℕ) (sides : List (List Label)) (m plate from width : ℕ) → ((right : ℕ) → Gap b.params.waste (from + width) right → HeldAt sides m right plate) → EndsHeld b far most sides m plate from width
+unfolding EndsHeld
+ends_offered b far most sides m plate from width each right gap within near = each right gap
+
+-- a label of a plate
+pub plate_only : (s : SizeSet) (plate plates : ℕ) → s.more ≡ 4294967295 → plates ≤ 1000 → Has s plate → plate < plates → plate ≡ s.least
+plate_only s plate plates more few (inl same) lt = same
+plate_only s plate plates more few (inr above) lt = absurd (omega (arith, more, few, above, lt))
+
+pub true_false : (t : Bool) → IsTrue t → t ≡ false → ⊥
+true_false t is not = let wrong : true ≡ false = sym is ∙ not in cc
+
+-- the same labels lead to a row
+abbrev pub HeldSame : List (List Label) → List (List Label) → ℕ → Type 0
+HeldSame sides old n = row_at sides n ≡ row_at old n
+
+-- strips of the widths below one, where no strip is so narrow
+pub plate_none : (b : Problem) (rows : List Row) (to_go : ℕ → ℕ) (most : ℕ) (sides : List (List Label)) (n : ℕ) (begins : List Label) (plate low : ℕ) → low ≤ b.params.min1 → PlateGoesOn b rows to_go most sides n begins plate low
+unfolding PlateGoesOn
+plate_none b rows to_go most sides n begins plate low le f at from held w bands is below m to = absurd (omega (arith, is.wide, below, le))
+
+pub plate_kept : (b : Problem) (rows : List Row) (to_go : ℕ → ℕ) (most g : ℕ) (old new : List (List Label)) (n : ℕ) (begins : List Label) (plate low : ℕ) → Spreads g old new → PlateGoesOn b rows to_go most old n begins plate low →
+    PlateGoesOn b rows to_go most new n begins plate low
+unfolding PlateGoesOn
+plate_kept b rows to_go most g old new n begins plate low s goes f at from held w bands is below m to = ends_kept b (to_go m) most g old new m plate from w s (goes f at from held w bands is below m to)
+
+-- one class more; `first` is where strips begin at the earliest
+pub plate_next : (b : Problem) (rows : List Row) (to_go : ℕ → ℕ) (most : ℕ) (sides : List (List Label)) (n : ℕ) (begins : List Label) (plate low top room left first next : ℕ) → PlateGoesOn b rows to_go most sides n begins plate low →
+    ClassGoesOn b rows to_go most sides n begins plate low top room left → ((from : ℕ) → Held begins from plate → first ≤ from) → Width b plate ≤ first + room → most ≤ Before b plate + first + left → next ≤ top + 1 →
+    PlateGoesOn b rows to_go most sides n begins plate next
+unfolding PlateGoesOn ClassGoesOn
+plate_next b rows to_go most sides n begins plate low top room left first next before class least wide far ends f at from held w bands is below m to =
+    elim (cases_lt w low) [
+      | inl narrower ↦ before f at from held w bands is narrower m to
+      | inr enough ↦
+          elim (cases_lt room w) [
+            | inl wider ↦ ends_wide b (to_go m) most sides m plate from w (omega (arith, wider, wide, least from held))
+            | inr fits ↦
+                elim (cases_lt left (w + to_go m)) [
+                  | inl further ↦ ends_far b (to_go m) most sides m plate from w (omega (arith, further, far, least from held))
+                  | inr near ↦ class f at from held w bands is enough (omega (arith, below, ends)) fits m to near
+                ]
+          ]
+    ]
+
+-- no strip is wider than the greatest width
+pub plate_all : (b : Problem) (rows : List Row) (to_go : ℕ → ℕ) (most : ℕ) (sides : List (List Label)) (n : ℕ) (begins : List Label) (plate low other : ℕ) → b.params.max1 < low → PlateGoesOn b rows to_go most sides n begins plate low → PlateGoesOn b rows to_go most sides n begins plate other
+unfolding PlateGoesOn
+plate_all b rows to_go most sides n begins plate low other past goes f at from held w bands is below m to = goes f at from held w bands is (omega (arith, is.narrow, past)) m to
+
+-- where strips begin too far on
+pub plate_far : (b : Problem) (rows : List Row) (to_go : ℕ → ℕ) (most : ℕ) (sides : List (List Label)) (n : ℕ) (begins : List Label) (plate first low : ℕ) → ((from : ℕ) → Held begins from plate → first ≤ from) → most < Before b plate + first →
+    PlateGoesOn b rows to_go most sides n begins plate low
+unfolding PlateGoesOn
+plate_far b rows to_go most sides n begins plate first low least past f at from held w bands is below m to = ends_far b (to_go m) most sides m plate from w (omega (arith, past, least from held))
+
+-- a class of strips that are held where they end
+pub class_goes_on : (b : Problem) (rows : List Row) → IsLattice b rows → (levels : List Level) (l : Limits) (cover : ℕ) → Fitting b l cover → (start : ℕ) → Ready b rows levels cover (to_go_at levels) start → (pool : List (List Label)) →
+    ((n : ℕ) → n ≤ start → RowExtended rows levels l pool n) → (low : ℕ) → ((x w : ℕ) → (x ≡ 0) ⊎ (0 + b.params.waste ≤ x) → low ≤ w → HeldAt pool start x w) → (most : ℕ) (sides : List (List Label)) (begins : List Label) (plate top room : ℕ) →
+    ((w : ℕ) → w ≤ top → w ≤ b.params.max1 → w ≤ room → w ≤ l.bound) → ((m from width : ℕ) → m < start → Held begins from plate → HeldAt pool m b.params.height width → EndsHeld b (to_go_at levels m) most sides m plate from width) →
+    ClassGoesOn b rows (to_go_at levels) most sides start begins plate low top room l.most
+unfolding ClassGoesOn
+class_goes_on b rows h levels l cover fit start r pool extended low begun most sides begins plate top room bound ends f at from held w bands is wide narrow fits m to near =
+    ends m from w (strip_down b rows h f start at w bands is m to) held
+    (subst (λ k. HeldAt pool m k w) fit.height (strips_held b rows h levels l cover fit (to_go_at levels) start r pool extended low begun f at w bands is wide (bound w narrow is.narrow fits) m to near))
+
+-- strips on all plates are held where they end, so those from the row are
+pub sides_go_on : (b : Problem) (rows : List Row) (levels : List Level) (most : ℕ) (sides old : List (List Label)) (n : ℕ) (begins : List Label) → IsToGo b rows (to_go_at levels) n → HeldSame sides old n →
+    ((from plate : ℕ) → HeldAt old n from plate → Held begins from plate) → ((from plate : ℕ) → HeldAt old n from plate → NextHeld b (to_go_at levels n) most begins from plate) →
+    ((plate : ℕ) → plate < b.params.plates → PlateGoesOn b rows (to_go_at levels) most sides n begins plate (b.params.max1 + 1)) → SidesGoOn b rows (to_go_at levels) most sides n
+unfolding SidesGoOn PlateGoesOn EndsHeld
+sides_go_on b rows levels most sides old n begins far same own next each f at plate from held strip follows m to near =
+    let w : ℕ = strip.width in
+    let was : HeldAt old n from plate = subst (λ l. Held l from plate) same held in
+    let below : w < b.params.max1 + 1 = omega (arith, follows.is_strip.narrow) in
+    let leaves = far f at w strip.bands follows.is_strip m to in
+    elim follows.behind [
+      | inl here ↦
+          let begin : Held begins from strip.plate = subst (λ k. Held begins from k) (sym here.0) (own from plate was) in
+          each strip.plate follows.few f at from begin w strip.bands follows.is_strip below m to strip.right here.1 follows.within near
+      | inr there ↦
+          let few : suc plate < b.params.plates = omega (arith, there.0, follows.few) in
+          let before : Before b (suc plate) + to_go_at levels n ≤ most = omega (arith, ap (Before b) there.0, near, leaves, gap_behind b.params.waste w strip.right there.2) in
+          let begin : Held begins 0 strip.plate = subst (λ k. Held begins 0 k) (sym there.0) (next from plate was few there.1 before) in
+          each strip.plate follows.few f at 0 begin w strip.bands follows.is_strip below m to strip.right (subst (λ k. Gap b.params.waste k strip.right) (omega arith) there.2) follows.within near
+    ]
+
+-- what a table of all rows says to a search
+pub built_searchable : (b : Problem) (rows : List Row) (tops : List ℕ) (cover : ℕ) (levels : List Level) → Built b rows tops cover levels → (start : ℕ) → start < length levels → (l : Limits) → l.class < length tops → l.top ≡ get_or tops l.class l.top →
+    l.bound ≤ l.top → Searchable rows levels l start
+built_searchable b rows tops cover levels o start within l lt top bound = record {
+  len = within;
+  bound = bound;
+  falls = λ n le. (o.each n (omega (arith, le, within))).falls;
+  rises = λ n le. (o.each n (omega (arith, le, within))).rises l.class lt;
+  bands = λ n le. subst (λ k. HasBands rows n k (bands_at levels n) (list_at levels n l.class)) (sym top) ((o.each n (omega (arith, le, within))).lists l.class l.top lt);
+}
+
+pub built_ready : (b : Problem) (rows : List Row) (tops : List ℕ) (cover : ℕ) (levels : List Level) → Built b rows tops cover levels → (start : ℕ) → start < length levels → Ready b rows levels cover (to_go_at levels) start
+built_ready b rows tops cover levels o start within = record {
+  bands = λ n le. (o.each n (omega (arith, le, within))).bands;
+  ends = λ n lt. o.ends n (omega (arith, lt, within));
+  behind = λ f at stacks some takes m to area left few. o.ends start within f at stacks takes m to area left few;
+}
+
+pub sides_kept : (b : Problem) (rows : List Row) (to_go : ℕ → ℕ) (most g : ℕ) (old new : List (List Label)) (n : ℕ) → Spreads g old new → g ≤ n → SidesGoOn b rows to_go most old n → SidesGoOn b rows to_go most new n
+unfolding SidesGoOn
+sides_kept b rows to_go most g old new n s le goes f at plate from held strip follows m to near =
+    s.kept m strip.right strip.plate (goes f at plate from (subst (λ l. Held l from plate) (s.same n le) held) strip follows m to near)
+
+-- one row more
+pub sides_next : (b : Problem) (rows : List Row) (to_go : ℕ → ℕ) (most first done row : ℕ) (old new : List (List Label)) → row ≡ first - done → done < first → Spreads row old new → SidesGoOn b rows to_go most new row →
+    ((n : ℕ) → first < n + done → n ≤ first → SidesGoOn b rows to_go most old n) → (n : ℕ) → first < n + (done + 1) → n ≤ first → SidesGoOn b rows to_go most new n
+sides_next b rows to_go most first done row old new is lt s goes before n after le =
+    elim (cases_lt row n) [
+      | inl above ↦ sides_kept b rows to_go most row old new n s (omega (arith, above)) (before n (omega (arith, above, is, lt)) le)
+      | inr below ↦
+          let same : row ≡ n = omega (arith, below, after, le, is, lt) in
+          subst (SidesGoOn b rows to_go most new) same goes
+    ]
+
+pub goes_as : (b : Problem) (rows shown : List Row) (levels seen : List Level) (most : ℕ) (sides : List (List Label)) (n : ℕ) → shown ≡ rows → seen ≡ levels → SidesGoOn b shown (to_go_at seen) most sides n → SidesGoOn b rows (to_go_at levels) most sides n
+goes_as b rows shown levels seen most sides n e1 e2 goes = subst (λ l. SidesGoOn b rows (to_go_at l) most sides n) e2 (subst (λ r. SidesGoOn b r (to_go_at seen) most sides n) e1 goes)

@@ -1,0 +1,10 @@
+use Rattle.std.proofs.Common.{◌≤◌}
+use Rattle.front_course.specs.Claims.{NoCourseShorter}
+use Rattle.front_bound.proofs.bounds.longest.Given as goal
+
+abbrev pub invariant-loop : goal.invariant-loop
+invariant-loop l = record {
+  shown : NoCourseShorter l.instance l.shown;
+  low : l.shown ≤ l.next;
+  most : l.next ≤ l.fn.most;
+}

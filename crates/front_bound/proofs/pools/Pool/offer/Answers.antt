@@ -1,0 +1,20 @@
+use Rattle.std.proofs.Common.{◌≡◌, ◌+◌, ◌<◌, length, map, ap, sym, subst, arith}
+use Rattle.std.proofs.Math.ListN.{set}
+use Rattle.front_bound.specs.inner.Sets.{Keeps}
+use Rattle.front_bound.specs.inner.Pools.{row_at, Spreads}
+use Rattle.front_bound.proofs.PoolRows.{rows_len, row_view, view_held, view_spreads}
+use Rattle.front_bound.proofs.pools.Pool.offer.Goals as goal
+
+pub returns-clause-spreads : goal.returns-clause-spreads
+returns-clause-spreads c =
+    let rows = c.self.inside.rows.items in
+    let lt : c.args.row < length rows = omega (arith, c.requires, ap length c.self.view_is, rows_len rows (λ r. r.items)) in
+    let row : row_at (map (λ r. r.items) rows) c.args.row ≡ c.index_mut.result.now.items = row_view rows (λ r. r.items) c.args.row c.index_mut.result.now lt c.index_mut.ensures.value in
+    subst (λ old. Spreads (c.args.row + 1) old (map (λ r. r.items) (set rows c.args.row c.offer.new.labels))) c.self.view_is
+    (view_spreads rows (λ r. r.items) c.args.row c.offer.new.labels lt (subst (λ l. Keeps l c.offer.new.labels.items) (sym row) c.in_ok-offer.ensures.kept))
+
+pub returns-clause-held : goal.returns-clause-held
+returns-clause-held c = λ x y fits.
+    let rows = c.self.inside.rows.items in
+    let lt : c.args.row < length rows = omega (arith, c.requires, ap length c.self.view_is, rows_len rows (λ r. r.items)) in
+    view_held rows (λ r. r.items) c.args.row c.offer.new.labels lt x y (c.in_ok-offer.ensures.held x y fits)

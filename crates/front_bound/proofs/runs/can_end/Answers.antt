@@ -1,0 +1,18 @@
+use Rattle.std.proofs.Common.{ℕ, ◌+◌, ◌<◌, arith}
+use Rattle.glass_base.specs.Plates.{Before, Width}
+use Rattle.plan_trace.specs.TraceRules.{Gap}
+use Rattle.front_bound.specs.declared.labels.Label.{Label}
+use Rattle.front_bound.specs.inner.Sets.{Fits}
+use Rattle.front_bound.proofs.Each.{up_to}
+use Rattle.front_bound.proofs.HeldLists.{held_each}
+use Rattle.front_bound.proofs.runs.can_end.Goals as goal
+
+pub loop-side-preserved : goal.loop-side-preserved
+loop-side-preserved c =
+    up_to (λ (l : Label). (right plate : ℕ) → Fits l right plate → plate < c.args.instance.now.params.plates → Gap c.args.instance.now.params.waste right (Width c.args.instance.now plate) → c.args.most < Before c.args.instance.now plate + right) c.args.sides.now
+    c.loop-side.side-index _ c.loop-side-test.true c.loop-side.invariant (c.may_end.ensures c.if-may_end.false)
+
+pub returns : goal.returns
+returns c = λ no.
+    held_each c.args.sides.now (λ right plate. plate < c.args.instance.now.params.plates → Gap c.args.instance.now.params.waste right (Width c.args.instance.now plate) → c.args.most < Before c.args.instance.now plate + right)
+    (λ k d lt. c.loop-side.invariant k d (omega (arith, lt, c.loop-side-test.false)))

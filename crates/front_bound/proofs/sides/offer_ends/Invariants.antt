@@ -1,0 +1,12 @@
+use Rattle.std.proofs.Common.{ℕ, ◌<◌}
+use Rattle.front_bound.specs.inner.Levels.{to_go_at}
+use Rattle.front_bound.specs.inner.Pools.{HeldAt, Spreads}
+use Rattle.front_bound.specs.inner.Sets.{Held}
+use Rattle.front_bound.specs.inner.Sides.{EndsHeld}
+use Rattle.front_bound.proofs.sides.offer_ends.Given as goal
+
+abbrev pub invariant-loop-row : goal.invariant-loop-row
+invariant-loop-row l = record {
+  spreads : Spreads l.start l.fn.sides l.sides;
+  held : (m from width : ℕ) → m < l.row → Held l.begins from l.plate → HeldAt l.fn.pool m l.height width → EndsHeld l.instance (to_go_at l.levels m) l.most l.sides m l.plate from width;
+}

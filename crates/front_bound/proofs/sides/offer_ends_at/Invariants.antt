@@ -1,0 +1,12 @@
+use Rattle.std.proofs.Common.{ℕ, ◌+◌, ◌<◌, get_or}
+use Rattle.front_bound.specs.declared.labels.Label.{Label}
+use Rattle.front_bound.specs.inner.Pools.{Spreads}
+use Rattle.front_bound.specs.inner.Sets.{Fits, Held}
+use Rattle.front_bound.specs.inner.Sides.{EndsHeld}
+use Rattle.front_bound.proofs.sides.offer_ends_at.Given as goal
+
+abbrev pub invariant-loop-strip : goal.invariant-loop-strip
+invariant-loop-strip l = record {
+  spreads : Spreads (l.row + 1) l.fn.sides l.sides;
+  held : (k : ℕ) (d : Label) → k < l.strip-index → (from width : ℕ) → Held l.begins from l.plate → Fits (get_or l.strips k d) l.height width → EndsHeld l.instance l.far l.most l.sides l.row l.plate from width;
+}

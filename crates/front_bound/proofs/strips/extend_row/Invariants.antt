@@ -1,0 +1,11 @@
+use Rattle.std.proofs.Common.{ℕ, ◌<◌, get_or}
+use Rattle.front_bound.specs.declared.labels.Label.{Label}
+use Rattle.front_bound.specs.inner.Pools.{Spreads, row_at}
+use Rattle.front_bound.specs.inner.Tries.{Extended}
+use Rattle.front_bound.proofs.strips.extend_row.Given as goal
+
+abbrev pub invariant-loop-at : goal.invariant-loop-at
+invariant-loop-at l = record {
+  spreads : Spreads l.row l.fn.pool l.pool;
+  extended : (k : ℕ) (d : Label) → k < l.at → Extended l.rows l.levels l.limits l.pool l.row (get_or (row_at l.fn.pool l.row) k d);
+}

@@ -1,0 +1,213 @@
+//! Lengths that no lawful plan is below.
+
+ghost use Rattle.std.specs.Prelude.{◌≡◌, ◌≤◌, max, IfOk, true};
+ghost use Rattle.front_course.specs.Claims.{LosesAtLeast, NoCourseShorter};
+ghost use Rattle.front_bound.specs.inner.Ready.{IsTable};
+
+use crate::building::{rows_of, shape_of, tops_of};
+use crate::halt::Halt;
+use crate::lattice::is_lattice;
+use crate::levels::to_go;
+use crate::pools::Pool;
+use crate::runs::may_reach;
+use crate::table::{Table, levels_of};
+use front_course::laws::courses_bound_losses;
+use glass_base::{Instance, Memory};
+use std::alloc::Global;
+
+/// By how much a length is first raised, in mm.
+const FIRST_STEP: u64 = 8;
+
+/// How often it is raised at the most, each time by half as much again.
+const ROUNDS: u32 = 64;
+
+/// How often the rest is halved behind that.
+const HALVES: u32 = 20;
+
+/// What is to go from the first front.
+fn base_of(table: &Table) -> u64 {
+    let levels = table.levels.as_slice();
+    if levels.is_empty() {
+        return 0;
+    }
+    to_go(levels, levels.len() - 1)
+}
+
+/// All fronts of an instance, where there are no more than `limit`, with what is known of them.
+fn table_of(alloc: Global, instance: &Instance, limit: u64) -> Result<Table, Halt>
+    ensures { IfOk result (IsTable instance.now) }
+{
+    let shape = shape_of(alloc, instance, limit)?;
+    let rows = rows_of(alloc, instance, &shape)?;
+    if !is_lattice(instance, shape.weights.as_slice(), rows.as_slice()) {
+        return Err(Halt::Limit);
+    }
+    let params = instance.params();
+    let tops = tops_of(alloc, params)?;
+    let cover = u64::from(params.max1) * u64::from(params.height);
+    let mut pool = Pool::new(alloc, rows.len(), limit)?;
+    let levels = levels_of(
+        alloc,
+        instance,
+        rows.as_slice(),
+        tops.as_slice(),
+        &mut pool,
+        cover,
+    )?;
+    if levels.is_empty() || to_go(levels.as_slice(), 0) != 0 {
+        return Err(Halt::Limit);
+    }
+    Ok(Table {
+        rows,
+        tops,
+        levels,
+        cover,
+    })
+}
+
+/// Whether it is shown that no course is shorter than a length.
+fn is_shown(
+    alloc: Global,
+    instance: &Instance,
+    table: &Table,
+    length: u64,
+    limit: u64,
+) -> Result<bool, Halt>
+    requires { IsTable instance.now table.now }
+    ensures { IfOk result (λ shown. shown ≡ true → NoCourseShorter instance.now length) }
+{
+    if length == 0 {
+        return Ok(true);
+    }
+    let reached = may_reach(alloc, instance, table, length - 1, limit)?;
+    Ok(!reached)
+}
+
+/// The same, with the table of fronts made for it.
+fn is_shown_at_all(
+    alloc: Global,
+    instance: &Instance,
+    length: u64,
+    limit: u64,
+) -> Result<bool, Halt>
+    ensures { IfOk result (λ shown. shown ≡ true → NoCourseShorter instance.now length) }
+{
+    let table = table_of(alloc, instance, limit)?;
+    let shown = is_shown(alloc, instance, &table, length, limit)?;
+    Ok(shown)
+}
+
+/// Whether it is shown that no lawful plan is shorter than a length, in mm: a plan's length is where its last plate's residual begins, with all plates before
+/// that in one line. `false` says that it was not shown: a plan may be shorter, or there are more than `limit` fronts, or more than `limit` labels would be
+/// looked at in one of the two searches. So `limit` bounds time and memory.
+pub fn is_no_shorter(
+    alloc: Global,
+    instance: &Instance,
+    length: u64,
+    limit: u64,
+) -> Result<bool, Memory>
+    ensures { IfOk result (λ shown. shown ≡ true → LosesAtLeast instance.now length) }
+{
+    let _rules = instance.items();
+    courses_bound_losses();
+    match is_shown_at_all(alloc, instance, length, limit) {
+        Ok(shown) => Ok(shown),
+        Err(Halt::Limit) => Ok(false),
+        Err(Halt::Memory) => Err(Memory),
+    }
+}
+
+/// A greater length, where it is shown that no course is shorter, else the one before.
+fn raise(
+    alloc: Global,
+    instance: &Instance,
+    table: &Table,
+    shown: u64,
+    next: u64,
+    limit: u64,
+) -> Result<u64, Halt>
+    requires table { IsTable instance.now table.now }
+    requires shown { NoCourseShorter instance.now shown }
+    ensures shown { IfOk result (NoCourseShorter instance.now) }
+    ensures most { IfOk result (λ least. least ≤ max shown next) }
+{
+    if is_shown(alloc, instance, table, next, limit)? {
+        Ok(next)
+    } else {
+        Ok(shown)
+    }
+}
+
+/// The greatest length up to one that is not shown of which it is shown that no course is shorter, by halves.
+fn halve(
+    alloc: Global,
+    instance: &Instance,
+    table: &Table,
+    shown: u64,
+    unshown: u64,
+    limit: u64,
+) -> Result<u64, Halt>
+    requires table { IsTable instance.now table.now }
+    requires shown { NoCourseShorter instance.now shown }
+    requires unshown { shown ≤ unshown }
+    ensures shown { IfOk result (NoCourseShorter instance.now) }
+    ensures most { IfOk result (λ least. least ≤ unshown) }
+{
+    let mut low = shown;
+    let mut high = unshown;
+    for _ in 0..HALVES {
+        let middle = low + (high - low) / 2;
+        let raised = raise(alloc, instance, table, low, middle, limit)?;
+        if raised == middle {
+            low = middle;
+        } else {
+            high = middle;
+        }
+    }
+    Ok(low)
+}
+
+/// The greatest length up to `most` of which it is shown that no course is shorter.
+fn longest(alloc: Global, instance: &Instance, most: u64, limit: u64) -> Result<u64, Halt>
+    ensures shown { IfOk result (NoCourseShorter instance.now) }
+    ensures most { IfOk result (λ least. least ≤ most) }
+{
+    let table = table_of(alloc, instance, limit)?;
+    let base = base_of(&table).min(most);
+    let mut shown = 0;
+    let mut next = base;
+    let mut step = FIRST_STEP;
+    for _ in 0..ROUNDS {
+        let raised = raise(alloc, instance, &table, shown, next, limit)?;
+        if raised < next {
+            return halve(alloc, instance, &table, shown, next, limit);
+        }
+        shown = next;
+        if next == most {
+            return Ok(shown);
+        }
+        next = next.saturating_add(step).min(most);
+        step = step.saturating_add(step / 2);
+    }
+    Ok(shown)
+}
+
+/// The greatest length up to `most`, in mm, of which it is shown that no lawful plan is shorter, by raising it step by step. 0, which says nothing, where there
+/// are more than `limit` fronts, or more than `limit` labels would be looked at in a search.
+pub fn longest_shown(
+    alloc: Global,
+    instance: &Instance,
+    most: u64,
+    limit: u64,
+) -> Result<u64, Memory>
+    ensures shown { IfOk result (LosesAtLeast instance.now) }
+    ensures most { IfOk result (λ least. least ≤ most) }
+{
+    let _rules = instance.items();
+    courses_bound_losses();
+    match longest(alloc, instance, most, limit) {
+        Ok(shown) => Ok(shown),
+        Err(Halt::Limit) => Ok(0),
+        Err(Halt::Memory) => Err(Memory),
+    }
+}

@@ -1,0 +1,146 @@
+//! Where strips can end: staircases of the area before an end and of what is to go from there.
+
+ghost use Rattle.std.specs.Prelude.{◌≡◌, ℕ, ◌+◌, ◌<◌, ◌≤◌, Contains, IsTrue, IfNone, IfSome, IfOk, OnOk, length, ◌⊎◌};
+ghost use Rattle.front_bound.specs.declared.ends.End.{End as EndOf};
+ghost use Rattle.front_bound.specs.inner.Ends.{Ended, Falls, area_of, to_go_of};
+
+use crate::halt::Halt;
+use std::alloc::Global;
+
+/// A front that a strip can end at, seen from an earlier one.
+#[derive(Clone, Copy)]
+pub struct End {
+    /// The area of the items between the two, in mm².
+    pub area: u64,
+    /// The least width of strips from there to the last front, in mm.
+    pub to_go: u64,
+}
+
+/// The area before the end at this place.
+fn area_in(ends: &[End], at: usize) -> u64
+    requires { at < length ends.now }
+    ensures { result ≡ area_of ends.now at }
+{
+    ends[at].area
+}
+
+/// What is to go from the end at this place.
+fn to_go_in(ends: &[End], at: usize) -> u64
+    requires { at < length ends.now }
+    ensures { result ≡ to_go_of ends.now at }
+{
+    ends[at].to_go
+}
+
+/// Halves the places of which it is not known whether more is to go from there than this.
+fn halve_within(ends: &[End], low: usize, high: usize, within: u64) -> (usize, usize)
+    requires some { low < high }
+    requires bound { high ≤ length ends.now }
+    requires falls { Falls ends.now }
+    ensures bound { result.1 ≤ length ends.now }
+    ensures below { (i : ℕ) → i < result.0 → (i < low) ⊎ (within < to_go_of ends.now i) }
+{
+    let middle = low + (high - low) / 2;
+    if to_go_in(ends, middle) > within {
+        (middle + 1, high)
+    } else {
+        (low, middle)
+    }
+}
+
+/// A place before which more is to go from each end than this.
+fn first_within(ends: &[End], within: u64) -> usize
+    requires { Falls ends.now }
+    ensures { (i : ℕ) → i < result → within < to_go_of ends.now i }
+{
+    let mut low = 0;
+    let mut high = ends.len();
+    for _ in 0..64 {
+        if low >= high {
+            break;
+        }
+        let halves = halve_within(ends, low, high, within);
+        low = halves.0;
+        high = halves.1;
+    }
+    low
+}
+
+/// The least area before an end from which no more than this is to go.
+pub fn near(ends: &[End], within: u64) -> Option<u64>
+    requires { Falls ends.now }
+    ensures none { IfNone result ((area to_go : ℕ) → Ended ends.now area to_go → within < to_go) }
+    ensures least { IfSome result (λ least. (area to_go : ℕ) → Ended ends.now area to_go → to_go ≤ within → least ≤ area) }
+{
+    let low = first_within(ends, within);
+    if low < ends.len() {
+        Some(area_in(ends, low))
+    } else {
+        None
+    }
+}
+
+/// Halves the places of which it is not known whether more area is before the end there than this.
+fn halve_above(ends: &[End], low: usize, high: usize, area: u64) -> (usize, usize)
+    requires some { low < high }
+    requires bound { high ≤ length ends.now }
+    requires falls { Falls ends.now }
+    ensures bound { result.1 ≤ length ends.now }
+    ensures above { (i : ℕ) → result.1 ≤ i → i < length ends.now → (high ≤ i) ⊎ (area < area_of ends.now i) }
+{
+    let middle = low + (high - low) / 2;
+    if area_in(ends, middle) > area {
+        (low, middle)
+    } else {
+        (middle + 1, high)
+    }
+}
+
+/// A place from which on each end has more area before it than this.
+fn first_above(ends: &[End], area: u64) -> usize
+    requires { Falls ends.now }
+    ensures bound { result ≤ length ends.now }
+    ensures above { (i : ℕ) → result ≤ i → i < length ends.now → area < area_of ends.now i }
+{
+    let mut low = 0;
+    let mut high = ends.len();
+    for _ in 0..64 {
+        if low >= high {
+            break;
+        }
+        let halves = halve_above(ends, low, high, area);
+        low = halves.0;
+        high = halves.1;
+    }
+    high
+}
+
+/// Whether more than this is to go from each end that has no more than this area before it.
+pub fn is_beyond(ends: &[End], area: u64, within: u64) -> bool
+    requires { Falls ends.now }
+    ensures { IsTrue result → (a t : ℕ) → Ended ends.now a t → a ≤ area → within < t }
+{
+    let high = first_above(ends, area);
+    if high == 0 {
+        return true;
+    }
+    if to_go_in(ends, high - 1) > within {
+        return true;
+    }
+    false
+}
+
+/// Whether the ends with more before them have less to go.
+pub fn falls(ends: &[End]) -> bool
+    ensures { IsTrue result → Falls ends.now }
+{
+    for at in 1..ends.len() {
+        if area_in(ends, at - 1) > area_in(ends, at) {
+            return false;
+        }
+        if to_go_in(ends, at) > to_go_in(ends, at - 1) {
+            return false;
+        }
+    }
+    true
+}

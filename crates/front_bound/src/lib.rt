@@ -1,0 +1,23 @@
+//! A lower bound on the length of every lawful plan, by a search over fronts.
+#![tactic(auto)]
+
+mod bands;
+pub mod bounds;
+mod building;
+mod ends;
+mod far;
+mod halt;
+mod keyed;
+mod labels;
+mod lattice;
+mod levels;
+mod moves;
+mod pools;
+mod rows;
+mod runs;
+mod search;
+mod sets;
+mod sides;
+mod stairs;
+mod strips;
+mod table;

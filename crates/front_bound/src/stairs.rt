@@ -1,0 +1,185 @@
+//! The ends of a row, from those of the rows at which one item more is taken.
+
+ghost use Rattle.std.specs.Prelude.{◌≡◌, ℕ, ◌+◌, ◌<◌, ◌≤◌, Contains, IsTrue, IfOk, OnOk, length};
+ghost use Rattle.front_bound.specs.inner.Ends.{Ended, EndsBehind, EndsFrom, Falls};
+ghost use Rattle.front_bound.specs.inner.Lattice.{IsLattice, links_at};
+ghost use Rattle.front_bound.specs.inner.Levels.{Gathered, ends_at, to_go_at};
+
+use crate::ends::{End, falls};
+use crate::halt::Halt;
+use crate::levels::{Level, ends_of};
+use crate::rows::{Row, area_left, links_of};
+use glass_base::Instance;
+use std::alloc::Global;
+
+/// Whether the last of the ends serves as well as this one.
+fn is_served(ends: &[End], end: &End) -> bool
+    ensures { IsTrue result → Ended ends.now end.now.area end.now.to_go }
+{
+    let len = ends.len();
+    if len == 0 {
+        return false;
+    }
+    let last = ends[len - 1];
+    if last.area > end.area {
+        return false;
+    }
+    if last.to_go > end.to_go {
+        return false;
+    }
+    true
+}
+
+/// Appends an end.
+fn append_end(ends: &mut Vec<End>, end: &End) -> Result<(), Halt>
+    ensures kept { OnOk result ((a t : ℕ) → Ended ends.old.items a t → Ended ends.new.items a t) }
+    ensures new { OnOk result (Ended ends.new.items end.now.area end.now.to_go) }
+{
+    match ends.push(*end) {
+        Ok(()) => Ok(()),
+        Err(_) => Err(Halt::Memory),
+    }
+}
+
+/// Appends an end, unless the last one serves as well.
+fn push_end(ends: &mut Vec<End>, end: &End) -> Result<(), Halt>
+    ensures kept { OnOk result ((a t : ℕ) → Ended ends.old.items a t → Ended ends.new.items a t) }
+    ensures new { OnOk result (Ended ends.new.items end.now.area end.now.to_go) }
+{
+    if is_served(ends.as_slice(), end) {
+        return Ok(());
+    }
+    append_end(ends, end)?;
+    Ok(())
+}
+
+/// Appends those of the ends that the ones before them do not serve for.
+fn push_ends(stairs: &mut Vec<End>, ends: &[End]) -> Result<(), Halt>
+    ensures kept { OnOk result ((a t : ℕ) → Ended stairs.old.items a t → Ended stairs.new.items a t) }
+    ensures new { OnOk result ((a t : ℕ) → Ended ends.now a t → Ended stairs.new.items a t) }
+{
+    for end in ends {
+        push_end(stairs, end)?;
+    }
+    Ok(())
+}
+
+/// Appends an end with more area before it, where that is not too much.
+fn append_behind(all: &mut Vec<End>, end: &End, area: u64, most: u64) -> Result<(), Halt>
+    ensures kept { OnOk result ((a t : ℕ) → Ended all.old.items a t → Ended all.new.items a t) }
+    ensures new { OnOk result (end.now.area + area ≤ most → Ended all.new.items (end.now.area + area) end.now.to_go) }
+{
+    let Some(sum) = end.area.checked_add(area) else {
+        return Ok(());
+    };
+    if sum > most {
+        return Ok(());
+    }
+    let behind = End {
+        area: sum,
+        to_go: end.to_go,
+    };
+    append_end(all, &behind)?;
+    Ok(())
+}
+
+/// Appends ends with more area before them, where that is not too much.
+fn append_all_behind(all: &mut Vec<End>, ends: &[End], area: u64, most: u64) -> Result<(), Halt>
+    ensures kept { OnOk result ((a t : ℕ) → Ended all.old.items a t → Ended all.new.items a t) }
+    ensures new { OnOk result ((a t : ℕ) → Ended ends.now a t → a + area ≤ most → Ended all.new.items (a + area) t) }
+{
+    for end in ends {
+        append_behind(all, end, area, most)?;
+    }
+    Ok(())
+}
+
+/// Appends the ends of a row at which one item more is taken, as seen from a row.
+fn gather_from(
+    all: &mut Vec<End>,
+    rows: &[Row],
+    levels: &[Level],
+    row: usize,
+    to: usize,
+    most: u64,
+) -> Result<(), Halt>
+    requires levels { row ≤ length levels.now }
+    ensures kept { OnOk result ((a t : ℕ) → Ended all.old.items a t → Ended all.new.items a t) }
+    ensures new { OnOk result (to < row → Gathered rows.now levels.now row most all.new.items to) }
+{
+    if to >= row {
+        return Ok(());
+    }
+    let area = area_left(rows, row).saturating_sub(area_left(rows, to));
+    append_all_behind(all, ends_of(levels, to), area, most)?;
+    Ok(())
+}
+
+/// The ends of those rows at which one item more is taken, as seen from a row.
+fn gather_ends(
+    alloc: Global,
+    rows: &[Row],
+    levels: &[Level],
+    row: usize,
+    most: u64,
+) -> Result<Vec<End>, Halt>
+    requires row { row < length rows.now }
+    requires levels { row ≤ length levels.now }
+    ensures { IfOk result (λ all. (to : ℕ) → Contains (links_at rows.now row) to → to < row → Gathered rows.now levels.now row most all.items to) }
+{
+    let mut all = Vec::new(alloc);
+    for to in links_of(rows, row) {
+        gather_from(&mut all, rows, levels, row, *to as usize, most)?;
+    }
+    Ok(all)
+}
+
+/// A staircase of these ends.
+fn staircase(alloc: Global, ends: &[End]) -> Result<Vec<End>, Halt>
+    ensures falls { IfOk result (λ stairs. Falls stairs.items) }
+    ensures ends { IfOk result (λ stairs. (a t : ℕ) → Ended ends.now a t → Ended stairs.items a t) }
+{
+    let mut stairs = Vec::new(alloc);
+    push_ends(&mut stairs, ends)?;
+    if !falls(stairs.as_slice()) {
+        return Err(Halt::Limit);
+    }
+    Ok(stairs)
+}
+
+/// The ends of a row at which at least one item is taken, with no more area before them than this.
+pub fn ends_behind(
+    alloc: Global,
+    instance: &Instance,
+    rows: &[Row],
+    levels: &[Level],
+    row: usize,
+    most: u64,
+) -> Result<Vec<End>, Halt>
+    requires row { row < length rows.now }
+    requires levels { row ≤ length levels.now }
+    requires lattice { IsLattice instance.now rows.now }
+    requires ends { (n : ℕ) → n < row → EndsFrom instance.now rows.now most (to_go_at levels.now) n (ends_at levels.now n) }
+    ensures falls { IfOk result (λ stairs. Falls stairs.items) }
+    ensures ends { IfOk result (λ stairs. EndsBehind instance.now rows.now most (to_go_at levels.now) row stairs.items) }
+{
+    let mut all = gather_ends(alloc, rows, levels, row, most)?;
+    all.sort_unstable_by_key(|end| end.area);
+    let stairs = staircase(alloc, all.as_slice())?;
+    Ok(stairs)
+}
+
+/// The ends of a row with itself, from which this is to go.
+pub fn with_itself(alloc: Global, behind: &[End], to_go: u64) -> Result<Vec<End>, Halt>
+    ensures falls { IfOk result (λ stairs. Falls stairs.items) }
+    ensures own { IfOk result (λ stairs. Ended stairs.items 0 to_go) }
+    ensures ends { IfOk result (λ stairs. (a t : ℕ) → Ended behind.now a t → Ended stairs.items a t) }
+{
+    let mut stairs = Vec::new(alloc);
+    push_end(&mut stairs, &End { area: 0, to_go })?;
+    push_ends(&mut stairs, behind)?;
+    if !falls(stairs.as_slice()) {
+        return Err(Halt::Limit);
+    }
+    Ok(stairs)
+}

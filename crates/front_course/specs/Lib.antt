@@ -1,0 +1,5 @@
+pub mod Fronts
+pub mod Cells
+pub mod Strips
+pub mod Courses
+pub mod Claims
