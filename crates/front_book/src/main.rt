@@ -2,11 +2,19 @@
 //!
 //!     START ITEMS
 //!     START ITEMS LENGTH
+//!     PLATES WIDTH HEIGHT MIN1 MAX1 MIN2 WASTE / ITEMS
+//!     PLATES WIDTH HEIGHT MIN1 MAX1 MIN2 WASTE / ITEMS / DEFECTS
 //!
-//! The instance is drawn from the start, with so many items and no defects. Of two numbers the answer is the greatest loss in mm² of which it is shown that no
-//! lawful plan loses less; of three it is whether it is shown that no lawful plan is shorter than the length in mm.
+//! The first two draw an instance from the start, with so many items and no defects; the others give one: its parameters, for each item its length, its width and its stack, and for each
+//! defect its plate, its lower left corner, its width and its height. All sizes are in mm. The answer is the greatest loss in mm² of which it is shown that no lawful plan loses less; where a
+//! LENGTH is asked for, whether it is shown that no lawful plan is shorter.
 #![tactic(auto)]
 
+mod given;
+mod numbers;
+
+use crate::given::given;
+use crate::numbers::numbers_of;
 use anyhow::{bail, ensure};
 use front_bound::bounds::{is_no_shorter, longest_shown};
 use glass_base::Instance;
@@ -34,8 +42,8 @@ fn loss_of(alloc: Global, instance: &Instance) -> anyhow::Result<u64> {
     )
 }
 
-/// The answer to the numbers of a line.
-fn answer(alloc: Global, numbers: &[u32]) -> anyhow::Result<String> {
+/// The answer to the numbers of a line that asks for a drawn instance.
+fn drawn_answer(alloc: Global, numbers: &[u32]) -> anyhow::Result<String> {
     match numbers {
         [start, items] => {
             let instance = drawn(alloc, *start, *items)?;
@@ -47,24 +55,25 @@ fn answer(alloc: Global, numbers: &[u32]) -> anyhow::Result<String> {
             let shown = is_no_shorter(alloc, &instance, u64::from(*length), LIMIT)?;
             Ok(format!(in alloc; "{shown}")?)
         }
-        _ => bail!("a line has two numbers or three"),
+        _ => bail!("a line that draws an instance has two numbers or three"),
     }
 }
 
-/// The numbers that are written so, one space between two.
-fn numbers_of(alloc: Global, line: &str) -> anyhow::Result<Vec<u32>> {
-    let mut numbers = Vec::new(alloc);
-    for number in line.split(' ') {
-        numbers.push(number.parse::<u32>()?)?;
+/// The answer to a line.
+fn answer(alloc: Global, line: &str) -> anyhow::Result<String> {
+    if line.contains('/') {
+        let instance = given(alloc, line)?;
+        let loss = loss_of(alloc, &instance)?;
+        return Ok(format!(in alloc; "{loss}")?);
     }
-    Ok(numbers)
+    let numbers = numbers_of(alloc, line)?;
+    drawn_answer(alloc, numbers.as_slice())
 }
 
 fn main(rt: HostRuntime) -> anyhow::Result<()> {
     for line in rt.lines(rt.alloc()) {
         let line = line?;
-        let numbers = numbers_of(rt.alloc(), line.as_str())?;
-        let answer = answer(rt.alloc(), numbers.as_slice())?;
+        let answer = answer(rt.alloc(), line.as_str())?;
         println!(rt; "{line}: {answer}")?;
     }
     Ok(())

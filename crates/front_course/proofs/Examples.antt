@@ -1,5 +1,9 @@
 -- Courses of small instances.
-use Rattle.std.proofs.Common.{◌≡◌, ℕ, zero, suc, ◌-◌, ◌*◌, inl, inr, List, [], ◌∷◌, refl, arith}
+use Rattle.std.proofs.Common.{◌≡◌, ℕ, zero, suc, ◌+◌, ◌-◌, ◌*◌, inl, inr, List, [], ◌∷◌, Bool, true, false, IsTrue, refl, sym, ◌∙◌, subst, arith}
+use Rattle.std.specs.List.{All}
+use Rattle.std.proofs.lemmas.List.Elements.{All-cons}
+use Rattle.glass_base.specs.declared.item.Defect.{Defect}
+use Rattle.glass_base.specs.Defects.{hits, crosses_x}
 use Rattle.glass_base.specs.Items.{area_of}
 use Rattle.glass_base.specs.Plates.{Before, Width}
 use Rattle.glass_base.specs.Problem.{Problem}
@@ -8,6 +12,7 @@ use Rattle.front_course.specs.Fronts.{no_item, next, IsFull}
 use Rattle.front_course.specs.Cells.{Pick, Cell, CanStand}
 use Rattle.front_course.specs.Cells.Cell.{alone, pair}
 use Rattle.front_course.specs.Strips.{Band}
+use Rattle.front_course.specs.Places.{HasPlace, IsClearLine}
 use Rattle.plan_trace.specs.TraceRules.{Gap}
 use Rattle.front_course.specs.Courses.{Strip, Behind, IsCourse, course_length}
 
@@ -46,6 +51,9 @@ single_is = record {
       behind = inl (refl, inl refl);
       within = omega arith;
       few = omega arith;
+      places = (0, inl refl, (0, inl refl, (0, omega arith, omega arith, λ k d low. absurd (omega (arith, low))), inl refl), inr (omega arith));
+      begin = λ inside within k d low. absurd (omega (arith, low));
+      end = λ inside within k d low. absurd (omega (arith, low));
     },
     tt,
   );
@@ -83,6 +91,9 @@ double_is = record {
       behind = inl (refl, inl refl);
       within = omega arith;
       few = omega arith;
+      places = (0, inl refl, (0, inl refl, ((0, omega arith, omega arith, λ k d low. absurd (omega (arith, low))), (600, omega arith, omega arith, λ k d low. absurd (omega (arith, low)))), inl refl), inr (omega arith));
+      begin = λ inside within k d low. absurd (omega (arith, low));
+      end = λ inside within k d low. absurd (omega (arith, low));
     },
     tt,
   );
@@ -130,6 +141,9 @@ two_is = record {
       behind = inl (refl, inl refl);
       within = omega arith;
       few = omega arith;
+      places = (0, inl refl, (0, inl refl, (0, omega arith, omega arith, λ k d low. absurd (omega (arith, low))), (1000, inl refl, (0, omega arith, omega arith, λ k d low. absurd (omega (arith, low))), inl refl)), inl refl);
+      begin = λ inside within k d low. absurd (omega (arith, low));
+      end = λ inside within k d low. absurd (omega (arith, low));
     },
     tt,
   );
@@ -164,3 +178,33 @@ leaves_little_not : Behind single 0 2000 (later 0 2310) → ⊥
 leaves_little_not (inl (same, inl touch)) = absurd (omega (arith, touch))
 leaves_little_not (inl (same, inr least)) = absurd (omega (arith, least))
 leaves_little_not (inr (plate, rest, gap)) = absurd (omega (arith, plate))
+
+-- a flaw in the lower left corner of the plate: an item of 300 x 500 has no place in a band of 500 there, but 100 mm higher
+abbrev flaw : Defect
+flaw = record { plate = 0; x0 = 0; y0 = 0; x1 = 100; y1 = 100 }
+
+abbrev flawed : Problem
+flawed = record { params = single.params; items = single.items; defects = flaw ∷ []; widths = single.widths; stacks = single.stacks }
+
+-- what does not hold of the flaw holds of no defect
+none_of : (P : Defect → Bool) → P flaw ≡ false → All (λ d. ¬ IsTrue (P d)) (flaw ∷ [])
+none_of P not = All-cons (λ d. ¬ IsTrue (P d)) flaw [] (λ hit. let no : true ≡ false = sym hit ∙ not in cc) (λ k d low. absurd (omega (arith, low)))
+
+lies_higher : HasPlace flawed 0 0 0 3210 300 500
+lies_higher = (100, omega arith, omega arith, none_of (hits 0 0 100 300 600) refl)
+
+lies_beside : HasPlace flawed 0 100 0 500 300 500
+lies_beside = (0, omega arith, omega arith, none_of (hits 0 100 0 400 500) refl)
+
+lies_low_not : HasPlace flawed 0 0 0 500 300 500 → ⊥
+lies_low_not (bottom, low, top, none) =
+    let least : 0 ≡ bottom = omega (arith, top) in
+    let hit : IsTrue (hits 0 0 bottom 300 (bottom + 500) flaw) = subst (λ n. IsTrue (hits 0 0 n 300 (n + 500) flaw)) least refl in none 0 flaw (omega arith) hit
+
+-- a strip can neither begin nor end inside of it, and can at its right side
+ends_behind : IsClearLine flawed 0 100
+ends_behind inside within = none_of (crosses_x 0 100 0 3210) refl
+
+ends_inside_not : IsClearLine flawed 0 50 → ⊥
+unfolding Width
+ends_inside_not clear = clear (omega arith) (omega arith) 0 flaw (omega arith) refl

@@ -18,7 +18,7 @@ use Rattle.plan_box.proofs.Lengths.{end_from, length_is}
 use Rattle.front_course.specs.Fronts.{Front, no_item, IsFull}
 use Rattle.front_course.specs.Cells.{Pick}
 use Rattle.front_course.specs.Claims.{HasCourse, TracesHaveCourses, CoursesBoundLosses}
-use Rattle.front_course.proofs.Behind.{Finished, Own, own_of, finish, IsPick, begun, banded, Strips, stripped}
+use Rattle.front_course.proofs.Behind.{Finished, Own, own_of, finish, IsPick, begun, banded, Strips, stripped, lines_of}
 use Rattle.front_course.proofs.Extend.{extend, strip_ends, few_plates, wide_gap}
 use Rattle.front_course.proofs.Full.{all_draws, full}
 
@@ -37,7 +37,7 @@ finished : (b : Problem) (most : ℕ) (before : List Draw) (m : Level) (t : Cut)
     EachStep (Known b) m t (attach (marks b before t.place (map draw_of ss)) ss) → IsFull b (drawn (all_draws before ss)) → end_from b t (attach (marks b before t.place (map draw_of ss)) ss) ≤ most →
     Finished b (Ended b most) m (drawn before) t
 finished b most before m t [] own k full low =
-    finish b (Ended b most) m (drawn before) t [] own.by_itself refl
+    finish b (Ended b most) m (drawn before) t [] own.by_itself own.place refl
     (strip_ends b (Ended b most) (drawn before) t (own.ends.cell refl) (own.ends.band refl) (record { strips = []; follow = tt; goal = record { full = full; rest = own.ends.strip refl; low = low } }))
 finished b most before m t (s ∷ ss) own k full low =
     let l : Level = begins before s.kind in
@@ -56,6 +56,7 @@ all_strips b most rules s ss whole low =
     let pick : IsPick b no_item (pick_of s) n = record { there = k.0.rules.tr2; w = refl; h = refl } in
     stripped b (Ended b most) no_item 0 0 n k.0.sound.fits (few_plates b NewPlate no_cut NewPlate n later k.0) k.0.rules.tr4.1 k.0.rules.tr5.0
     (λ bands. inl (k.0.sound.plate_is, wide_gap b.params.waste 0 n k.0.sound.fits.ends.0 k.0.rules.tr4.0))
+    (lines_of b NewPlate no_cut NewPlate n later k.0).0 (lines_of b NewPlate no_cut NewPlate n later k.0).1
     (banded b (Ended b most) no_item n k.0.sound.fits k.0.sound.own k.0.rules.tr6.0 k.0.rules.tr5.1 (begun b (Ended b most) no_item (pick_of s) n pick done))
 
 pub trace_course : TracesHaveCourses

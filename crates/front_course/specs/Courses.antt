@@ -1,10 +1,11 @@
 -- Courses: strips one behind the other, on plates in order, that take all items off their stacks.
-use Rattle.std.specs.Prelude.{◌≡◌, ℕ, suc, ◌+◌, ◌<◌, ◌≤◌, ◌⊎◌, List, [], ◌∷◌}
+use Rattle.std.specs.Prelude.{◌≡◌, ℕ, suc, ◌+◌, ◌-◌, ◌<◌, ◌≤◌, ◌⊎◌, List, [], ◌∷◌}
 use Rattle.glass_base.specs.Plates.{Before, Width}
 use Rattle.glass_base.specs.Problem.{Problem}
 use Rattle.plan_trace.specs.TraceRules.{Gap}
 use Rattle.front_course.specs.Fronts.{Front, no_item, IsFull}
 use Rattle.front_course.specs.Strips.{Band, after_bands, IsStrip}
+use Rattle.front_course.specs.Places.{BandPlaces, IsClearLine}
 
 -- a strip on its plate, its width and its right side, and its bands
 pub record Strip : Type 0 where
@@ -20,12 +21,19 @@ Behind b plate from s =
     ((s.plate ≡ plate) × Gap b.params.waste (from + s.width) s.right)
     ⊎ ((s.plate ≡ suc plate) × Gap b.params.waste from (Width b plate) × Gap b.params.waste s.width s.right)
 
--- the strip follows what ends at `from` on a plate
+-- the left side of a strip
+abbrev pub left_of : Strip → ℕ
+left_of strip = strip.right - strip.width
+
+-- the strip follows what ends at `from` on a plate, and its items have places there
 pub record Follows (b : Problem) (f : Front) (plate from : ℕ) (strip : Strip) : Type 0 where
   pub is_strip : IsStrip b strip.width f strip.bands
   pub behind : Behind b plate from strip
   pub within : strip.right ≤ Width b strip.plate
   pub few : strip.plate < b.params.plates
+  pub places : BandPlaces b strip.plate (left_of strip) strip.right f 0 strip.bands
+  pub begin : IsClearLine b strip.plate (left_of strip)
+  pub end : IsClearLine b strip.plate strip.right
 
 abbrev pub AreStrips : Problem → Front → ℕ → ℕ → List Strip → Type 0
 AreStrips b f plate from [] = Unit {0}
