@@ -1,5 +1,5 @@
 -- Rows and fronts.
-use Rattle.std.proofs.Common.{◌≡◌, ℕ, zero, suc, ◌+◌, ◌*◌, ◌-◌, ◌<◌, ◌==◌, cond, inl, inr, List, [], ◌∷◌, length, refl, sym, ap, ◌∙◌, subst, arith, Some, None, IsSome, true, false}
+use Rattle.std.proofs.Common.{◌≡◌, ℕ, zero, suc, ◌+◌, ◌*◌, ◌-◌, ◌<◌, ◌≤◌, ◌==◌, cond, inl, inr, List, [], ◌∷◌, length, refl, sym, ap, ◌∙◌, subst, arith, Some, None, IsSome, true, false}
 use Rattle.std.proofs.Math.Nat.{mul_comm}
 use Rattle.std.proofs.lemmas.Bool.{cases_lt}
 use Rattle.std.proofs.lemmas.List.{get_or_past}
@@ -9,13 +9,14 @@ use Rattle.glass_base.specs.Problem.{Problem, item_at, stack_at}
 use Rattle.plan_trace.specs.Marks.{item_width, item_height}
 use Rattle.plan_trace.proofs.Items.{item_place, some_of}
 use Rattle.front_course.specs.Fronts.{Front, no_item, next, next_item, IsFull}
-use Rattle.front_course.specs.Cells.{pick_width, pick_height, Stands}
+use Rattle.front_course.specs.Cells.{Cell, after_cell, cell_width, pick_width, pick_height, CanStand, Stands}
 use Rattle.front_course.specs.Cells.Cell.{alone, pair}
 use Rattle.front_bound.specs.declared.moves.Move.{Move}
 use Rattle.front_bound.specs.declared.rows.Row.{Row}
-use Rattle.front_bound.specs.inner.Sets.{Has}
-use Rattle.front_bound.specs.inner.Lattice.{At, count_at, area_at, moves_at, weight_from, IsNumbered, IsOneMore, IsLink, Led, AloneLed, PairLed, PairsLed, AllPairsLed, ItemLed, StackLed, HasLeft, IsLattice, LeadDown}
-use Rattle.front_bound.specs.inner.Leads.{Linked, CellsLead}
+use Rattle.front_bound.specs.inner.Sets.{Has, Fits}
+use Rattle.front_bound.specs.inner.Lattice.{At, count_at, area_at, moves_at, weight_from, IsNumbered, IsOneMore, IsLink, LedBy, AloneLed, PairLed, PairsLed, AllPairsLed, ItemLed, StackLed, HasLeft, IsLattice, LeadDown}
+use Rattle.front_bound.proofs.HeldLists.{least_first}
+use Rattle.front_bound.specs.inner.Leads.{cell_area, cell_height, Moved, Linked, CellsLead}
 
 -- a stack that has an item is one of the stacks
 pub stack_within : (b : Problem) (stack n : ℕ) (item : Item) → item_at b stack n ≡ Some item → stack < length b.stacks
@@ -100,28 +101,37 @@ pair_turn b rows moves item mid stack other p zero (suc n) = p.over_turned
 pair_turn b rows moves item mid stack other p (suc m) zero = p.turned
 pair_turn b rows moves item mid stack other p (suc m) (suc n) = p.both_turned
 
-pub cells_lead : (b : Problem) (rows : List Row) → IsLattice b rows → CellsLead b rows
-unfolding AloneLed Led PairLed AllPairsLed
-cells_lead b rows h n f at high (alone p) can =
+-- the move of a cell, which is no higher than its items
+pub record CellMoved (b : Problem) (rows : List Row) (n : ℕ) (f : Front) (high : ℕ) (cell : Cell) : Type 0 where
+  pub moved : Moved b rows n (moves_at rows n) (after_cell f cell) (cell_width b f cell) high (cell_area b f cell)
+  pub low : moved.move.label.across.least ≤ cell_height b f cell
+
+pub cell_led : (b : Problem) (rows : List Row) → IsLattice b rows → (n : ℕ) (f : Front) → At b rows n f → (high : ℕ) (cell : Cell) → CanStand b high f cell → CellMoved b rows n f high cell
+unfolding AloneLed LedBy PairLed AllPairsLed
+cell_led b rows h n f at high (alone p) can =
     let one : (item : Item) × (next_item b f p.stack ≡ Some item) = some_of (next_item b f p.stack) can.0 in
     let is : ItemLed b rows n p.stack one.0 = item_led b rows h n f at p.stack one.0 one.1 in
     let wide : item_width p.turn (Some one.0) ≡ pick_width b f p = ap (item_width p.turn) (sym one.1) in
     let tall : item_height p.turn (Some one.0) ≡ pick_height b f p = ap (item_height p.turn) (sym one.1) in
     let stands : Stands b.params.waste (item_width p.turn (Some one.0)) (item_height p.turn (Some one.0)) high =
     subst (λ w. Stands b.params.waste w (item_height p.turn (Some one.0)) high) (sym wide) (subst (λ t. Stands b.params.waste (pick_width b f p) t high) (sym tall) can.1) in
-    let led : Led (moves_at rows n) is.to (item_width p.turn (Some one.0)) high = alone_turn b.params.waste (moves_at rows n) is.to one.0 p.turn is.lying is.turned high stands in
+    let led : AloneLed b.params.waste (moves_at rows n) is.to one.0 p.turn = alone_turn b.params.waste (moves_at rows n) is.to one.0 p.turn is.lying is.turned in
+    let fits : Fits led.0.label (item_width p.turn (Some one.0)) high = led.3 high stands in
     record {
-      move = led.0;
-      has = led.1;
-      at = subst (λ k. At b rows k (next f p.stack)) (sym led.2) (at_link b rows n p.stack one.0 is.to f at is.link);
-      down = omega (arith, led.2, is.link.down);
-      fits = (subst (λ w. Has led.0.label.along w) wide led.3.0, led.3.1);
-      left = omega (arith, is.link.area, turn_area p.turn one.0, ap (area_at rows) led.2, product_same wide tall);
+      moved = record {
+        move = led.0;
+        has = led.1;
+        at = subst (λ k. At b rows k (next f p.stack)) (sym led.2) (at_link b rows n p.stack one.0 is.to f at is.link);
+        down = omega (arith, led.2, is.link.down);
+        fits = (subst (λ w. Has led.0.label.along w) wide fits.0, fits.1);
+        left = omega (arith, is.link.area, turn_area p.turn one.0, ap (area_at rows) led.2, product_same wide tall);
+      };
+      low = omega (arith, tall, least_first led.0.label.across (item_height p.turn (Some one.0)) (led.3 (item_height p.turn (Some one.0)) (inl refl)).1);
     }
   where
     product_same : {a b c d : ℕ} → a ≡ c → b ≡ d → a * b ≡ c * d
     product_same {a} {b} {c} {d} e r = ap (λ n. n * b) e ∙ ap (λ n. c * n) r
-cells_lead b rows h n f at high (pair p q) can =
+cell_led b rows h n f at high (pair p q) can =
     let g : Front = next f p.stack in
     let one : (item : Item) × (next_item b f p.stack ≡ Some item) = some_of (next_item b f p.stack) can.0 in
     let two : (item : Item) × (next_item b g q.stack ≡ Some item) = some_of (next_item b g q.stack) can.1 in
@@ -133,17 +143,24 @@ cells_lead b rows h n f at high (pair p q) can =
     let tall : item_height p.turn (Some one.0) ≡ pick_height b f p = ap (item_height p.turn) (sym one.1) in
     let wide2 : item_width q.turn (Some two.0) ≡ pick_width b g q = ap (item_width q.turn) (sym two.1) in
     let tall2 : item_height q.turn (Some two.0) ≡ pick_height b g q = ap (item_height q.turn) (sym two.1) in
-    let led : Led (moves_at rows n) pairs.to (item_width p.turn (Some one.0)) (item_height p.turn (Some one.0) + item_height q.turn (Some two.0)) =
+    let led : LedBy (moves_at rows n) pairs.to (item_width p.turn (Some one.0)) (λ y. y ≡ item_height p.turn (Some one.0) + item_height q.turn (Some two.0)) =
     pair_turn b rows (moves_at rows n) one.0 is.to q.stack two.0 pairs p.turn q.turn (wide2 ∙ can.2 ∙ sym wide) in
-    let sum : item_height p.turn (Some one.0) + item_height q.turn (Some two.0) ≡ high = omega (arith, tall, tall2, can.3) in
+    let sum : high ≡ item_height p.turn (Some one.0) + item_height q.turn (Some two.0) = omega (arith, tall, tall2, can.3) in
+    let fits : Fits led.0.label (item_width p.turn (Some one.0)) high = led.3 high sum in
     record {
-      move = led.0;
-      has = led.1;
-      at = subst (λ k. At b rows k (next g q.stack)) (sym led.2) (at_link b rows is.to q.stack two.0 pairs.to g mid pairs.link);
-      down = omega (arith, led.2, is.link.down, pairs.link.down);
-      fits = (subst (λ w. Has led.0.label.along w) wide led.3.0, subst (λ w. Has led.0.label.across w) sum led.3.1);
-      left = omega (arith, is.link.area, pairs.link.area, turn_area p.turn one.0, turn_area q.turn two.0, ap (area_at rows) led.2, products wide tall, products wide2 tall2);
+      moved = record {
+        move = led.0;
+        has = led.1;
+        at = subst (λ k. At b rows k (next g q.stack)) (sym led.2) (at_link b rows is.to q.stack two.0 pairs.to g mid pairs.link);
+        down = omega (arith, led.2, is.link.down, pairs.link.down);
+        fits = (subst (λ w. Has led.0.label.along w) wide fits.0, fits.1);
+        left = omega (arith, is.link.area, pairs.link.area, turn_area p.turn one.0, turn_area q.turn two.0, ap (area_at rows) led.2, products wide tall, products wide2 tall2);
+      };
+      low = omega (arith, can.3, least_first led.0.label.across high fits.1);
     }
   where
     products : {a b c d : ℕ} → a ≡ c → b ≡ d → a * b ≡ c * d
     products {a} {b} {c} {d} e r = ap (λ n. n * b) e ∙ ap (λ n. c * n) r
+
+pub cells_lead : (b : Problem) (rows : List Row) → IsLattice b rows → CellsLead b rows
+cells_lead b rows h n f at high cell can = (cell_led b rows h n f at high cell can).moved

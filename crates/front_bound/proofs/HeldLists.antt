@@ -5,7 +5,7 @@ use Rattle.std.proofs.lemmas.List.Elements.{Contains-get_or, Contains-append_lef
 use Rattle.std.proofs.lemmas.List.Sorted.{Contains-permutation, IsPermutation-swap_remove}
 use Rattle.front_bound.specs.declared.labels.Label.{Label}
 use Rattle.front_bound.specs.declared.sets.SizeSet.{SizeSet}
-use Rattle.front_bound.specs.inner.Sets.{Has, Fits, Held, Keeps}
+use Rattle.front_bound.specs.inner.Sets.{Has, Fits, Held, HeldTo, Keeps, Stands}
 
 -- no size of a set is below its least
 pub least_first : (s : SizeSet) (x : ℕ) → Has s x → s.least ≤ x
@@ -21,46 +21,63 @@ contains_cons : (l : Label) (labels : List Label) (x : Label) → Contains (l �
 contains_cons l labels x (zero, lt, is) = inl is
 contains_cons l labels x (suc at, lt, is) = inr (at, omega (arith, lt), is)
 
+-- where a label of a list stands for sizes alone, and as far as it reaches
+pub held_of : (labels : List Label) (x y right up : ℕ) → HeldTo labels x y right up → Held labels x y
+unfolding Held HeldTo
+held_of labels x y right up (l, has, stands) = (l, has, stands.0)
+
+pub held_to_at : (labels : List Label) (at : ℕ) (d : Label) (x y right up : ℕ) → at < length labels → Stands (get_or labels at d) x y right up → HeldTo labels x y right up
+unfolding HeldTo
+held_to_at labels at d x y right up lt stands = (get_or labels at d, Contains-get_or labels at d lt, stands)
+
 -- where a label is taken away
-pub held_without : (labels : List Label) (at : ℕ) (l : Label) → at < length labels → l ≡ get_or labels at l → (x y : ℕ) → Held labels x y → Held (swap_remove labels at l) x y ⊎ Fits l x y
-unfolding Held
-held_without labels at l lt is x y (k, has, fits) =
+pub held_without : (labels : List Label) (at : ℕ) (l : Label) → at < length labels → l ≡ get_or labels at l → (x y right up : ℕ) → HeldTo labels x y right up → HeldTo (swap_remove labels at l) x y right up ⊎ Stands l x y right up
+unfolding HeldTo
+held_without labels at l lt is x y right up (k, has, stands) =
     elim (contains_cons l (swap_remove labels at l) k (Contains-permutation labels (l ∷ swap_remove labels at l) k (IsPermutation-swap_remove labels at l lt is) has)) [
-      | inl same ↦ inr (subst (λ (l : Label). Fits l x y) (sym same) fits)
-      | inr there ↦ inl (k, there, fits)
+      | inl same ↦ inr (subst (λ (l : Label). Stands l x y right up) (sym same) stands)
+      | inr there ↦ inl (k, there, stands)
     ]
 
 -- where a label is added
-pub held_push_old : (labels : List Label) (l : Label) (x y : ℕ) → Held labels x y → Held (labels ++ l ∷ []) x y
-unfolding Held
-held_push_old labels l x y (k, has, fits) = (k, Contains-append_left labels (l ∷ []) k has, fits)
+held_push_old : (labels : List Label) (l : Label) (x y right up : ℕ) → HeldTo labels x y right up → HeldTo (labels ++ l ∷ []) x y right up
+unfolding HeldTo
+held_push_old labels l x y right up (k, has, stands) = (k, Contains-append_left labels (l ∷ []) k has, stands)
 
-pub held_push_new : (labels : List Label) (l : Label) (x y : ℕ) → Fits l x y → Held (labels ++ l ∷ []) x y
-unfolding Held
-held_push_new labels l x y fits = (l, Contains-push labels l, fits)
+pub held_push_new : (labels : List Label) (l : Label) (x y right up : ℕ) → Stands l x y right up → HeldTo (labels ++ l ∷ []) x y right up
+unfolding HeldTo
+held_push_new labels l x y right up stands = (l, Contains-push labels l, stands)
 
 pub keeps_same : (labels : List Label) → Keeps labels labels
 unfolding Keeps
-keeps_same labels x y held = held
+keeps_same labels x y right up held = held
 
 -- where those go that the new one stands for
-pub keeps_push : (old thinned : List Label) (l : Label) → ((x y : ℕ) → Held old x y → Held thinned x y ⊎ Fits l x y) → Keeps old (thinned ++ l ∷ [])
+pub keeps_push : (old thinned : List Label) (l : Label) → ((x y right up : ℕ) → HeldTo old x y right up → HeldTo thinned x y right up ⊎ Stands l x y right up) → Keeps old (thinned ++ l ∷ [])
 unfolding Keeps
-keeps_push old thinned l thin x y held =
-    elim (thin x y held) [
-      | inl there ↦ held_push_old thinned l x y there
-      | inr fits ↦ held_push_new thinned l x y fits
+keeps_push old thinned l thin x y right up held =
+    elim (thin x y right up held) [
+      | inl there ↦ held_push_old thinned l x y right up there
+      | inr stands ↦ held_push_new thinned l x y right up stands
     ]
+
+-- of a label itself, as far as it reaches
+pub stands_itself : (l : Label) (x y : ℕ) → Fits l x y → Stands l x y l.right l.up
+stands_itself l x y fits = (fits, omega arith, omega arith)
 
 -- what holds of each label holds of what the list stands for
 pub held_each : (labels : List Label) (Q : ℕ → ℕ → Type 0) → ((k : ℕ) (d : Label) → k < length labels → (x y : ℕ) → Fits (get_or labels k d) x y → Q x y) → (x y : ℕ) → Held labels x y → Q x y
 unfolding Held
 held_each labels Q each x y (l, (k, lt, is), fits) = each k l lt x y (subst (λ (l : Label). Fits l x y) (sym is) fits)
 
-pub keeps_held : (old new : List Label) (x y : ℕ) → Keeps old new → Held old x y → Held new x y
+pub keeps_to : (old new : List Label) (x y right up : ℕ) → Keeps old new → HeldTo old x y right up → HeldTo new x y right up
 unfolding Keeps
-keeps_held old new x y keeps held = keeps x y held
+keeps_to old new x y right up keeps held = keeps x y right up held
+
+pub keeps_held : (old new : List Label) (x y : ℕ) → Keeps old new → Held old x y → Held new x y
+unfolding Keeps Held HeldTo
+keeps_held old new x y keeps (l, has, fits) = held_of new x y l.right l.up (keeps x y l.right l.up (l, has, stands_itself l x y fits))
 
 pub keeps_then : (old mid new : List Label) → Keeps old mid → Keeps mid new → Keeps old new
 unfolding Keeps
-keeps_then old mid new s t x y held = t x y (s x y held)
+keeps_then old mid new s t x y right up held = t x y right up (s x y right up held)

@@ -13,3 +13,5 @@ pub mod Leasts
 pub mod LevelLists
 pub mod SideLemmas
 pub mod Reached
+pub mod PlacedRows
+pub mod PlacedRuns

@@ -1,9 +1,12 @@
 -- Right sides of strips.
-use Rattle.std.proofs.Common.{◌≡◌, ℕ, suc, ◌+◌, ◌-◌, ◌<◌, ◌≤◌, ◌⊎◌, inl, inr, List, length, get_or, sym, ap, ◌∙◌, subst, arith, Bool, true, false, IsTrue}
+use Rattle.std.proofs.Common.{◌≡◌, ℕ, suc, ◌==◌, ◌+◌, ◌-◌, ◌<◌, ◌≤◌, ◌⊎◌, inl, inr, List, [], ◌∷◌, Contains, length, get_or, refl, sym, ap, ◌∙◌, subst, arith, Bool, true, false, IsTrue}
 use Rattle.std.proofs.lemmas.Bool.{cases_lt}
+use Rattle.std.proofs.lemmas.Bool.Decides.{nat_tests}
 use Rattle.glass_base.specs.Plates.{Before, Width}
 use Rattle.glass_base.specs.Problem.{Problem}
 use Rattle.plan_trace.specs.TraceRules.{Gap}
+use Rattle.front_course.specs.Fronts.{Front}
+use Rattle.front_course.specs.Strips.{Band}
 use Rattle.front_bound.specs.declared.labels.Label.{Label}
 use Rattle.front_bound.specs.declared.sets.SizeSet.{SizeSet}
 use Rattle.front_bound.specs.declared.levels.Level.{Level}
@@ -16,7 +19,9 @@ use Rattle.front_bound.specs.inner.Pools.{row_at, HeldAt, Spreads}
 use Rattle.front_bound.specs.inner.Ready.{Ready, Fitting, Built}
 use Rattle.front_bound.specs.inner.Lists.{HasBands}
 use Rattle.front_bound.specs.inner.Tries.{RowExtended, Searchable}
-use Rattle.front_bound.specs.inner.Sides.{EndsHeld, NextHeld, PlateGoesOn, ClassGoesOn, SidesGoOn}
+use Rattle.front_bound.specs.inner.Sides.{EndsHeld, StripHeld, Placed, NextHeld, PlateGoesOn, ClassGoesOn, BeginGoesOn, SidesGoOn}
+use Rattle.front_bound.proofs.PoolRows.{kept_at}
+use Rattle.front_bound.proofs.PlacedRows.{one_held}
 use Rattle.front_bound.proofs.StripRuns.{strip_down, strips_held}
 
 pub gap_behind : (waste from to : ℕ) → Gap waste from to → from ≤ to
@@ -25,7 +30,7 @@ gap_behind waste from to (inr least) = omega (arith, least)
 
 pub ends_kept : (b : Problem) (far most g : ℕ) (old new : List (List Label)) (m plate from width : ℕ) → Spreads g old new → EndsHeld b far most old m plate from width → EndsHeld b far most new m plate from width
 unfolding EndsHeld
-ends_kept b far most g old new m plate from width s held right gap within near = s.kept m right plate (held right gap within near)
+ends_kept b far most g old new m plate from width s held right gap within near = kept_at g old new s m right plate (held right gap within near)
 
 -- no right side is on the plate, or near enough
 pub ends_wide : (b : Problem) (far most : ℕ) (sides : List (List Label)) (m plate from width : ℕ) → Width b plate < from + width → EndsHeld b far most sides m plate from width
@@ -35,6 +40,15 @@ ends_wide b far most sides m plate from width wide right gap within near = absur
 pub ends_far : (b : Problem) (far most : ℕ) (sides : List (List Label)) (m plate from width : ℕ) → most < Before b plate + (from + width) + far → EndsHeld b far most sides m plate from width
 unfolding EndsHeld
 ends_far b far most sides m plate from width past right gap within near = absurd (omega (arith, past, gap_behind b.params.waste (from + width) right gap, near))
+
+-- of strips whose items have places
+pub strip_held : (b : Problem) (far most : ℕ) (sides : List (List Label)) (m plate from width : ℕ) (f : Front) (bands : List Band) → EndsHeld b far most sides m plate from width → StripHeld b far most sides m plate from width f bands
+unfolding EndsHeld StripHeld
+strip_held b far most sides m plate from width f bands held right placed gap within near = held right gap within near
+
+strip_kept : (b : Problem) (far most g : ℕ) (old new : List (List Label)) (m plate from width : ℕ) (f : Front) (bands : List Band) → Spreads g old new → StripHeld b far most old m plate from width f bands → StripHeld b far most new m plate from width f bands
+unfolding StripHeld
+strip_kept b far most g old new m plate from width f bands s held right placed gap within near = kept_at g old new s m right plate (held right placed gap within near)
 
 -- right sides that a set has are held where it is offered
 pub ends_offered : (b : Problem) (far most : ℕ) (sides : List (List Label)) (m plate from width : ℕ) → ((right : ℕ) → Gap b.params.waste (from + width) right → HeldAt sides m right plate) → EndsHeld b far most sides m plate from width
@@ -61,7 +75,7 @@ plate_none b rows to_go most sides n begins plate low le f at from held w bands 
 pub plate_kept : (b : Problem) (rows : List Row) (to_go : ℕ → ℕ) (most g : ℕ) (old new : List (List Label)) (n : ℕ) (begins : List Label) (plate low : ℕ) → Spreads g old new → PlateGoesOn b rows to_go most old n begins plate low →
     PlateGoesOn b rows to_go most new n begins plate low
 unfolding PlateGoesOn
-plate_kept b rows to_go most g old new n begins plate low s goes f at from held w bands is below m to = ends_kept b (to_go m) most g old new m plate from w s (goes f at from held w bands is below m to)
+plate_kept b rows to_go most g old new n begins plate low s goes f at from held w bands is below m to = strip_kept b (to_go m) most g old new m plate from w f bands s (goes f at from held w bands is below m to)
 
 -- one class more; `first` is where strips begin at the earliest
 pub plate_next : (b : Problem) (rows : List Row) (to_go : ℕ → ℕ) (most : ℕ) (sides : List (List Label)) (n : ℕ) (begins : List Label) (plate low top room left first next : ℕ) → PlateGoesOn b rows to_go most sides n begins plate low →
@@ -73,10 +87,10 @@ plate_next b rows to_go most sides n begins plate low top room left first next b
       | inl narrower ↦ before f at from held w bands is narrower m to
       | inr enough ↦
           elim (cases_lt room w) [
-            | inl wider ↦ ends_wide b (to_go m) most sides m plate from w (omega (arith, wider, wide, least from held))
+            | inl wider ↦ strip_held b (to_go m) most sides m plate from w f bands (ends_wide b (to_go m) most sides m plate from w (omega (arith, wider, wide, least from held)))
             | inr fits ↦
                 elim (cases_lt left (w + to_go m)) [
-                  | inl further ↦ ends_far b (to_go m) most sides m plate from w (omega (arith, further, far, least from held))
+                  | inl further ↦ strip_held b (to_go m) most sides m plate from w f bands (ends_far b (to_go m) most sides m plate from w (omega (arith, further, far, least from held)))
                   | inr near ↦ class f at from held w bands is enough (omega (arith, below, ends)) fits m to near
                 ]
           ]
@@ -91,7 +105,7 @@ plate_all b rows to_go most sides n begins plate low other past goes f at from h
 pub plate_far : (b : Problem) (rows : List Row) (to_go : ℕ → ℕ) (most : ℕ) (sides : List (List Label)) (n : ℕ) (begins : List Label) (plate first low : ℕ) → ((from : ℕ) → Held begins from plate → first ≤ from) → most < Before b plate + first →
     PlateGoesOn b rows to_go most sides n begins plate low
 unfolding PlateGoesOn
-plate_far b rows to_go most sides n begins plate first low least past f at from held w bands is below m to = ends_far b (to_go m) most sides m plate from w (omega (arith, past, least from held))
+plate_far b rows to_go most sides n begins plate first low least past f at from held w bands is below m to = strip_held b (to_go m) most sides m plate from w f bands (ends_far b (to_go m) most sides m plate from w (omega (arith, past, least from held)))
 
 -- a class of strips that are held where they end
 pub class_goes_on : (b : Problem) (rows : List Row) → IsLattice b rows → (levels : List Level) (l : Limits) (cover : ℕ) → Fitting b l cover → (start : ℕ) → Ready b rows levels cover (to_go_at levels) start → (pool : List (List Label)) →
@@ -100,28 +114,29 @@ pub class_goes_on : (b : Problem) (rows : List Row) → IsLattice b rows → (le
     ClassGoesOn b rows (to_go_at levels) most sides start begins plate low top room l.most
 unfolding ClassGoesOn
 class_goes_on b rows h levels l cover fit start r pool extended low begun most sides begins plate top room bound ends f at from held w bands is wide narrow fits m to near =
-    ends m from w (strip_down b rows h f start at w bands is m to) held
-    (subst (λ k. HeldAt pool m k w) fit.height (strips_held b rows h levels l cover fit (to_go_at levels) start r pool extended low begun f at w bands is wide (bound w narrow is.narrow fits) m to near))
+    strip_held b (to_go_at levels m) most sides m plate from w f bands (ends m from w (strip_down b rows h f start at w bands is m to) held
+    (subst (λ k. HeldAt pool m k w) fit.height (strips_held b rows h levels l cover fit (to_go_at levels) start r pool extended low begun f at w bands is wide (bound w narrow is.narrow fits) m to near)))
 
 -- strips on all plates are held where they end, so those from the row are
 pub sides_go_on : (b : Problem) (rows : List Row) (levels : List Level) (most : ℕ) (sides old : List (List Label)) (n : ℕ) (begins : List Label) → IsToGo b rows (to_go_at levels) n → HeldSame sides old n →
     ((from plate : ℕ) → HeldAt old n from plate → Held begins from plate) → ((from plate : ℕ) → HeldAt old n from plate → NextHeld b (to_go_at levels n) most begins from plate) →
     ((plate : ℕ) → plate < b.params.plates → PlateGoesOn b rows (to_go_at levels) most sides n begins plate (b.params.max1 + 1)) → SidesGoOn b rows (to_go_at levels) most sides n
-unfolding SidesGoOn PlateGoesOn EndsHeld
+unfolding SidesGoOn PlateGoesOn StripHeld
 sides_go_on b rows levels most sides old n begins far same own next each f at plate from held strip follows m to near =
     let w : ℕ = strip.width in
     let was : HeldAt old n from plate = subst (λ l. Held l from plate) same held in
     let below : w < b.params.max1 + 1 = omega (arith, follows.is_strip.narrow) in
     let leaves = far f at w strip.bands follows.is_strip m to in
+    let placed : Placed b strip.plate strip.right w f strip.bands = record { places = follows.places; end = follows.end } in
     elim follows.behind [
       | inl here ↦
           let begin : Held begins from strip.plate = subst (λ k. Held begins from k) (sym here.0) (own from plate was) in
-          each strip.plate follows.few f at from begin w strip.bands follows.is_strip below m to strip.right here.1 follows.within near
+          each strip.plate follows.few f at from begin w strip.bands follows.is_strip below m to strip.right placed here.1 follows.within near
       | inr there ↦
           let few : suc plate < b.params.plates = omega (arith, there.0, follows.few) in
           let before : Before b (suc plate) + to_go_at levels n ≤ most = omega (arith, ap (Before b) there.0, near, leaves, gap_behind b.params.waste w strip.right there.2) in
           let begin : Held begins 0 strip.plate = subst (λ k. Held begins 0 k) (sym there.0) (next from plate was few there.1 before) in
-          each strip.plate follows.few f at 0 begin w strip.bands follows.is_strip below m to strip.right (subst (λ k. Gap b.params.waste k strip.right) (omega arith) there.2) follows.within near
+          each strip.plate follows.few f at 0 begin w strip.bands follows.is_strip below m to strip.right placed (subst (λ k. Gap b.params.waste k strip.right) (omega arith) there.2) follows.within near
     ]
 
 -- what a table of all rows says to a search
@@ -145,7 +160,7 @@ built_ready b rows tops cover levels o start within = record {
 pub sides_kept : (b : Problem) (rows : List Row) (to_go : ℕ → ℕ) (most g : ℕ) (old new : List (List Label)) (n : ℕ) → Spreads g old new → g ≤ n → SidesGoOn b rows to_go most old n → SidesGoOn b rows to_go most new n
 unfolding SidesGoOn
 sides_kept b rows to_go most g old new n s le goes f at plate from held strip follows m to near =
-    s.kept m strip.right strip.plate (goes f at plate from (subst (λ l. Held l from plate) (s.same n le) held) strip follows m to near)
+    kept_at g old new s m strip.right strip.plate (goes f at plate from (subst (λ l. Held l from plate) (s.same n le) held) strip follows m to near)
 
 -- one row more
 pub sides_next : (b : Problem) (rows : List Row) (to_go : ℕ → ℕ) (most first done row : ℕ) (old new : List (List Label)) → row ≡ first - done → done < first → Spreads row old new → SidesGoOn b rows to_go most new row →
@@ -160,3 +175,47 @@ sides_next b rows to_go most first done row old new is lt s goes before n after 
 
 pub goes_as : (b : Problem) (rows shown : List Row) (levels seen : List Level) (most : ℕ) (sides : List (List Label)) (n : ℕ) → shown ≡ rows → seen ≡ levels → SidesGoOn b shown (to_go_at seen) most sides n → SidesGoOn b rows (to_go_at levels) most sides n
 goes_as b rows shown levels seen most sides n e1 e2 goes = subst (λ l. SidesGoOn b rows (to_go_at l) most sides n) e2 (subst (λ r. SidesGoOn b r (to_go_at seen) most sides n) e1 goes)
+
+-- a class behind each begin: those that are clear of defects, and each of the others
+pub class_joined : (b : Problem) (rows : List Row) (to_go : ℕ → ℕ) (most : ℕ) (sides : List (List Label)) (n : ℕ) (begins clear : List Label) (plate low top room left : ℕ) →
+    ((k : ℕ) (d : Label) → k < length begins → Contains clear (get_or begins k d) ⊎ ClassGoesOn b rows to_go most sides n (get_or begins k d ∷ []) plate low top room left) → ClassGoesOn b rows to_go most sides n clear plate low top room left →
+    ClassGoesOn b rows to_go most sides n begins plate low top room left
+unfolding ClassGoesOn Held
+class_joined b rows to_go most sides n begins clear plate low top room left each goes f at from (l, (k, lt, is), fits) w bands is_strip wide narrow roomy m to near =
+    elim (each k l lt) [
+      | inl has ↦ goes f at from (l, subst (Contains clear) is has, fits) w bands is_strip wide narrow roomy m to near
+      | inr own ↦ own f at from (l, (0, omega arith, is), fits) w bands is_strip wide narrow roomy m to near
+    ]
+
+pub class_kept : (b : Problem) (rows : List Row) (to_go : ℕ → ℕ) (most g : ℕ) (old new : List (List Label)) (n : ℕ) (begins : List Label) (plate low top room left : ℕ) → Spreads g old new → ClassGoesOn b rows to_go most old n begins plate low top room left →
+    ClassGoesOn b rows to_go most new n begins plate low top room left
+unfolding ClassGoesOn
+class_kept b rows to_go most g old new n begins plate low top room left s goes f at from held w bands is wide narrow roomy m to near = strip_kept b (to_go m) most g old new m plate from w f bands s (goes f at from held w bands is wide narrow roomy m to near)
+
+-- no strip begins there
+pub class_none : (b : Problem) (rows : List Row) (to_go : ℕ → ℕ) (most : ℕ) (sides : List (List Label)) (n : ℕ) (begin : Label) (plate low top room left : ℕ) → (Has begin.across plate → ⊥) → ClassGoesOn b rows to_go most sides n (begin ∷ []) plate low top room left
+unfolding ClassGoesOn
+class_none b rows to_go most sides n begin plate low top room left none f at from held w bands is wide narrow roomy m to near = absurd (none (one_held begin from plate held).1)
+
+pub none_left : (n : ℕ) → true ≡ (n == 0) → n ≡ 0
+none_left n e = grind (arith, nat_tests)
+
+pub class_empty : (b : Problem) (rows : List Row) (to_go : ℕ → ℕ) (most : ℕ) (sides : List (List Label)) (n : ℕ) (begins : List Label) (plate low top room left : ℕ) → length begins ≡ 0 → ClassGoesOn b rows to_go most sides n begins plate low top room left
+unfolding ClassGoesOn Held
+class_empty b rows to_go most sides n begins plate low top room left none f at from (l, (k, lt, is), fits) w bands is_strip wide narrow roomy m to near = absurd (omega (arith, lt, none))
+
+-- one begin more
+pub begin_case : {A B : Type 0} (done : Bool) → (done ≡ false → A) → (done ≡ true → B) → A ⊎ B
+begin_case true clear own = inr (own refl)
+begin_case false clear own = inl (clear refl)
+
+pub begin_kept : (b : Problem) (rows : List Row) (to_go : ℕ → ℕ) (most g : ℕ) (old new : List (List Label)) (n : ℕ) (clear more : List Label) (begin : Label) (plate low top room left : ℕ) → Spreads g old new → ((l : Label) → Contains clear l → Contains more l) →
+    BeginGoesOn b rows to_go most old n clear begin plate low top room left → BeginGoesOn b rows to_go most new n more begin plate low top room left
+begin_kept b rows to_go most g old new n clear more begin plate low top room left s kept (inl has) = inl (kept begin has)
+begin_kept b rows to_go most g old new n clear more begin plate low top room left s kept (inr own) = inr (class_kept b rows to_go most g old new n (begin ∷ []) plate low top room left s own)
+
+-- a class behind each of the begins
+pub class_whole : (b : Problem) (rows : List Row) (to_go : ℕ → ℕ) (most g : ℕ) (old new : List (List Label)) (n : ℕ) (begins clear : List Label) (plate low top room left : ℕ) → Spreads g old new →
+    ((k : ℕ) (d : Label) → k < length begins → BeginGoesOn b rows to_go most old n clear (get_or begins k d) plate low top room left) → ClassGoesOn b rows to_go most new n clear plate low top room left → ClassGoesOn b rows to_go most new n begins plate low top room left
+class_whole b rows to_go most g old new n begins clear plate low top room left s each goes =
+    class_joined b rows to_go most new n begins clear plate low top room left (λ k d lt. begin_kept b rows to_go most g old new n clear clear (get_or begins k d) plate low top room left s (λ l has. has) (each k d lt)) goes

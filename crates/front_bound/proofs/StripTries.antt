@@ -17,6 +17,7 @@ use Rattle.front_bound.specs.inner.Lists.{Listed, HasBands, waste_of}
 use Rattle.front_bound.specs.inner.Pools.{row_at, Spreads}
 use Rattle.front_bound.specs.inner.Tries.{Tried, EntryTried, Extended, RowExtended}
 use Rattle.front_bound.proofs.HeldLists.{least_first}
+use Rattle.front_bound.proofs.PoolRows.{kept_at}
 
 -- glass above a band of a strip that is no wider than this
 pub less_glass : (w bound height used least : ℕ) → w ≤ bound → least ≤ used → w * (height - used) ≤ bound * (height - least)
@@ -33,7 +34,7 @@ least_waste top w height x d low own area between before behind narrow lx ld sum
 
 pub tried_kept : (levels : List Level) (l : Limits) (g : ℕ) (old new : List (List Label)) (label : Label) (m : Move) → Spreads g old new → Tried levels l old label m → Tried levels l new label m
 unfolding Tried
-tried_kept levels l g old new label m s tried x d w area to_go own next sum narrow ended few near = s.kept m.to (x + d) w (tried x d w area to_go own next sum narrow ended few near)
+tried_kept levels l g old new label m s tried x d w area to_go own next sum narrow ended few near = kept_at g old new s m.to (x + d) w (tried x d w area to_go own next sum narrow ended few near)
 
 pub entry_kept : (levels : List Level) (l : Limits) (g : ℕ) (old new : List (List Label)) (n : ℕ) (label : Label) (place : ℕ) → Spreads g old new → EntryTried levels l old n label place → EntryTried levels l new n label place
 unfolding EntryTried
@@ -41,12 +42,12 @@ entry_kept levels l g old new n label place s tried m is down = tried_kept level
 
 pub extended_kept : (rows : List Row) (levels : List Level) (l : Limits) (g : ℕ) (old new : List (List Label)) (n : ℕ) (label : Label) → Spreads g old new → Extended rows levels l old n label → Extended rows levels l new n label
 unfolding Extended
-extended_kept rows levels l g old new n label s extended m has x d w own next may = s.kept m.to (x + d) w (extended m has x d w own next may)
+extended_kept rows levels l g old new n label s extended m has x d w own next may = kept_at g old new s m.to (x + d) w (extended m has x d w own next may)
 
 pub row_kept : (rows : List Row) (levels : List Level) (l : Limits) (g : ℕ) (old new : List (List Label)) (n : ℕ) → Spreads g old new → g ≤ n → RowExtended rows levels l old n → RowExtended rows levels l new n
 unfolding RowExtended
 row_kept rows levels l g old new n s le extended x w held m has d next may =
-    s.kept m.to (x + d) w (extended x w (subst (λ row. Held row x w) (s.same n le) held) m has d next may)
+    kept_at g old new s m.to (x + d) w (extended x w (subst (λ row. Held row x w) (s.same n le) held) m has d next may)
 
 -- each label of a row is extended
 pub row_extended : (rows : List Row) (levels : List Level) (l : Limits) (pool : List (List Label)) (n : ℕ) → ((k : ℕ) (d : Label) → k < length (row_at pool n) → Extended rows levels l pool n (get_or (row_at pool n) k d)) →

@@ -8,3 +8,5 @@ pub mod Lists
 pub mod Tries
 pub mod Ready
 pub mod Sides
+pub mod Clear
+pub mod Around

@@ -99,7 +99,7 @@ fn is_shown_at_all(
 
 /// Whether it is shown that no lawful plan is shorter than a length, in mm: a plan's length is where its last plate's residual begins, with all plates before
 /// that in one line. `false` says that it was not shown: a plan may be shorter, or there are more than `limit` fronts, or more than `limit` labels would be
-/// looked at in one of the two searches. So `limit` bounds time and memory.
+/// looked at in one of the searches. So `limit` bounds time and memory.
 pub fn is_no_shorter(
     alloc: Global,
     instance: &Instance,

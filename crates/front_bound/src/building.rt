@@ -86,6 +86,8 @@ fn push_cell(moves: &mut Vec<Move>, to: usize, wide: u32, across: SizeSet) -> Re
     let label = Label {
         along: SizeSet::only(wide),
         across,
+        right: 0,
+        up: 0,
     };
     if moves.push(Move { to, label }).is_err() {
         return Err(Halt::Memory);

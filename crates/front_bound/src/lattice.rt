@@ -4,7 +4,7 @@ ghost use Rattle.std.specs.Prelude.{◌≡◌, ℕ, ◌+◌, ◌*◌, ◌<◌, �
 ghost use Rattle.glass_base.specs.Problem.{item_at};
 ghost use Rattle.plan_trace.specs.Marks.{item_height, item_width};
 ghost use Rattle.front_course.specs.Cells.{Stands};
-ghost use Rattle.front_bound.specs.inner.Lattice.{AllPairsLed, AloneLed, HasLeft, IsLattice, IsLink, IsNumbered, IsOneMore, IsRow, ItemLed, Led, PairLed, PairsLed, StackLed, count_at, links_at, moves_at};
+ghost use Rattle.front_bound.specs.inner.Lattice.{AllPairsLed, AloneLed, HasLeft, IsLattice, IsLink, IsNumbered, IsOneMore, IsRow, ItemLed, LedBy, PairLed, PairsLed, StackLed, count_at, links_at, moves_at};
 ghost use Rattle.front_bound.specs.inner.Sets.{Fits, Has};
 
 use crate::moves::Move;
@@ -113,7 +113,7 @@ fn leads(next: &Move, to: u32, wide: u32, high: &SizeSet) -> bool
 
 /// Whether one of the moves does.
 fn led(moves: &[Move], to: u32, wide: u32, high: &SizeSet) -> bool
-    ensures { IsTrue result → (y : ℕ) → Has high.now y → Led moves.now to wide y }
+    ensures { IsTrue result → LedBy moves.now to wide (λ y. Has high.now y) }
 {
     for next in moves {
         if leads(next, to, wide, high) {

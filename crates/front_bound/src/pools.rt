@@ -2,7 +2,7 @@
 
 ghost use Rattle.std.specs.Prelude.{◌≡◌, ℕ, ◌+◌, ◌<◌, ◌≤◌, length, slice_index_or, OnOk, IfOk};
 ghost use Rattle.front_bound.specs.inner.Pools.{HeldAt, Joined, Spreads, row_at};
-ghost use Rattle.front_bound.specs.inner.Sets.{Fits};
+ghost use Rattle.front_bound.specs.inner.Sets.{Fits, HeldTo, Stands};
 
 use crate::halt::Halt;
 use crate::labels::{Label, offer};
@@ -72,6 +72,7 @@ impl Pool {
     pub fn offer(&mut self, row: usize, label: &Label) -> Result<(), Halt>
         requires { row < length self.old }
         ensures spreads { OnOk result (Spreads (row + 1) self.old self.new) }
+        ensures stands { OnOk result ((x y right up : ℕ) → Stands label.now x y right up → HeldTo (row_at self.new row) x y right up) }
         ensures held { OnOk result ((x y : ℕ) → Fits label.now x y → HeldAt self.new row x y) }
     {
         if self.left == 0 {
@@ -114,6 +115,8 @@ pub fn join(
     let joined = Label {
         along: sum,
         across: shared,
+        right: 0,
+        up: 0,
     };
     pool.offer(next.to as usize, &joined)?;
     Ok(())

@@ -1,26 +1,32 @@
 //! Where strips can end within a length, from the first row down.
 
-ghost use Rattle.std.specs.Prelude.{◌≡◌, ℕ, suc, false, IsTrue, ◌+◌, ◌*◌, ◌<◌, ◌≤◌, length, slice_index_or, IfOk, OnOk};
+ghost use Rattle.std.specs.Prelude.{◌≡◌, ℕ, suc, false, true, IsTrue, ◌+◌, ◌*◌, ◌<◌, ◌≤◌, [], ◌∷◌, Contains, length, slice_index_or, IfOk, OnOk};
+ghost use Rattle.front_bound.specs.declared.labels.Label.{Label as LabelOf};
 ghost use Rattle.glass_base.specs.Plates.{Before, Width};
 ghost use Rattle.plan_trace.specs.TraceRules.{Gap};
 ghost use Rattle.front_course.specs.Claims.{NoCourseShorter};
 ghost use Rattle.front_bound.specs.inner.Lattice.{IsLattice};
 ghost use Rattle.front_bound.specs.inner.Levels.{to_go_at};
 ghost use Rattle.front_bound.specs.inner.Pools.{HeldAt, Spreads};
-ghost use Rattle.front_bound.specs.inner.Ready.{Built, IsTable};
+ghost use Rattle.front_bound.specs.inner.Ready.{Built, Fitting, IsTable};
 ghost use Rattle.front_bound.specs.inner.Sets.{Fits, Held, Keeps};
-ghost use Rattle.front_bound.specs.inner.Sides.{ClassGoesOn, EndsHeld, NextHeld, PlateGoesOn, SidesGoOn};
+ghost use Rattle.front_bound.specs.inner.Around.{IsRoomy};
+ghost use Rattle.front_bound.specs.inner.Sides.{BeginGoesOn, ClassGoesOn, EndsHeld, NextHeld, PlateGoesOn, SidesGoOn};
 
 use crate::halt::Halt;
+use crate::holes::holes_of;
 use crate::labels::{Label, offer};
 use crate::levels::{Level, to_go};
+use crate::placed_cells::{Lists, Site};
+use crate::placed_sides::offer_placed_ends;
+use crate::placed_strips::placed_from;
 use crate::pools::Pool;
 use crate::rows::Row;
 use crate::sets::SizeSet;
 use crate::sides::offer_ends;
 use crate::strips::{Limits, strips_from};
 use crate::table::Table;
-use glass_base::Instance;
+use glass_base::{Defect, Instance};
 use std::alloc::Global;
 
 /// The most plates of an instance.
@@ -57,6 +63,8 @@ fn offer_begin(
     let next = Label {
         along: SizeSet::only(0),
         across: SizeSet::only(plate + 1),
+        right: 0,
+        up: 0,
     };
     offer(begins, &next)?;
     Ok(())
@@ -102,6 +110,149 @@ fn first_at(begins: &[Label], plate: u32) -> u32
     least
 }
 
+/// What is used again around defects: labels of strips and of cells by their rows, defects, places, and the begins that are clear of defects.
+#[derive(Drop)]
+pub struct Around {
+    pub strips: Pool,
+    pub cells: Pool,
+    pub holes: Vec<Defect>,
+    pub lists: Lists,
+    pub clear: Vec<Label>,
+}
+
+/// Offers where the strips of a class end that begin behind one label, where defects are near; whether they are.
+fn place_begin(
+    instance: &Instance,
+    rows: &[Row],
+    tops: &[u32],
+    levels: &[Level],
+    around: &mut Around,
+    sides: &mut Pool,
+    begin: &Label,
+    row: usize,
+    plate: u32,
+    limits: &Limits,
+    low: u32,
+    room: u32,
+    most: u64,
+    cover: u64,
+) -> Result<bool, Halt>
+    requires row { row < length rows.now }
+    requires levels { length levels.now ≡ length rows.now }
+    requires around { IsRoomy rows.now around.old }
+    requires sides { length sides.old ≡ length rows.now }
+    requires plate { plate ≤ 1000 }
+    requires lattice { IsLattice instance.now rows.now }
+    requires built { Built instance.now rows.now tops.now cover levels.now }
+    requires fitting { Fitting instance.now limits.now cover }
+    requires bound { (w : ℕ) → w ≤ limits.now.top → w ≤ instance.now.params.max1 → w ≤ room → w ≤ limits.now.bound }
+    ensures around { OnOk result (IsRoomy rows.now around.new) }
+    ensures clear { OnOk result (around.new.clear ≡ around.old.clear) }
+    ensures spreads { OnOk result (Spreads row sides.old sides.new) }
+    ensures goes_on { IfOk result (λ done. done ≡ true → ClassGoesOn instance.now rows.now (to_go_at levels.now) most sides.new row (begin.now ∷ []) plate low limits.now.top room limits.now.most) }
+{
+    if !begin.across.has(plate) {
+        return Ok(true);
+    }
+    let left = begin.along.least;
+    holes_of(instance, &mut around.holes, plate, left, limits.top)?;
+    if around.holes.is_empty() {
+        return Ok(false);
+    }
+    // (a strip that begins behind a gap, or is pushed on, meets those further on as well)
+    holes_of(instance, &mut around.holes, plate, left, u32::MAX)?;
+    let params = instance.params();
+    let site = Site {
+        left,
+        room: instance.width(plate),
+        height: params.height,
+        widest: limits.bound,
+        least: params.min2,
+        waste: params.waste,
+    };
+    let reach = most.saturating_sub(instance.before(plate));
+    placed_from(
+        &mut around.strips,
+        &mut around.cells,
+        &mut around.lists,
+        rows,
+        levels,
+        limits,
+        &site,
+        around.holes.as_slice(),
+        reach,
+        row,
+        low,
+    )?;
+    offer_placed_ends(
+        instance,
+        around.holes.as_slice(),
+        sides,
+        &around.strips,
+        levels,
+        row,
+        left,
+        plate,
+        most,
+    )?;
+    Ok(true)
+}
+
+/// Keeps a begin that is clear of defects.
+fn keep_clear(clear: &mut Vec<Label>, begin: &Label, done: bool) -> Result<(), Halt>
+    ensures kept { OnOk result ((l : LabelOf) → Contains clear.old.items l → Contains clear.new.items l) }
+    ensures new { OnOk result (done ≡ false → Contains clear.new.items begin.now) }
+{
+    if done {
+        return Ok(());
+    }
+    match clear.push(*begin) {
+        Ok(()) => Ok(()),
+        Err(_) => Err(Halt::Memory),
+    }
+}
+
+/// Offers where the strips of a class end that begin near defects, and keeps the begins that are clear of them.
+fn place_begins(
+    instance: &Instance,
+    rows: &[Row],
+    tops: &[u32],
+    levels: &[Level],
+    around: &mut Around,
+    sides: &mut Pool,
+    begins: &[Label],
+    row: usize,
+    plate: u32,
+    limits: &Limits,
+    low: u32,
+    room: u32,
+    most: u64,
+    cover: u64,
+) -> Result<(), Halt>
+    requires row { row < length rows.now }
+    requires levels { length levels.now ≡ length rows.now }
+    requires around { IsRoomy rows.now around.old }
+    requires sides { length sides.old ≡ length rows.now }
+    requires plate { plate ≤ 1000 }
+    requires lattice { IsLattice instance.now rows.now }
+    requires built { Built instance.now rows.now tops.now cover levels.now }
+    requires fitting { Fitting instance.now limits.now cover }
+    requires bound { (w : ℕ) → w ≤ limits.now.top → w ≤ instance.now.params.max1 → w ≤ room → w ≤ limits.now.bound }
+    ensures around { OnOk result (IsRoomy rows.now around.new) }
+    ensures spreads { OnOk result (Spreads row sides.old sides.new) }
+    ensures goes_on { OnOk result ((k : ℕ) (d : LabelOf) → k < length begins.now → BeginGoesOn instance.now rows.now (to_go_at levels.now) most sides.new row around.new.clear.items (slice_index_or begins.now k d) plate low limits.now.top room limits.now.most) }
+{
+    around.clear.clear();
+    for begin in begins {
+        let done = place_begin(
+            instance, rows, tops, levels, around, sides, begin, row, plate, limits, low, room,
+            most, cover,
+        )?;
+        keep_clear(&mut around.clear, begin, done)?;
+    }
+    Ok(())
+}
+
 /// Offers where the strips of a class end that begin on a plate.
 fn handle_class(
     instance: &Instance,
@@ -109,6 +260,7 @@ fn handle_class(
     tops: &[u32],
     levels: &[Level],
     pool: &mut Pool,
+    around: &mut Around,
     sides: &mut Pool,
     begins: &[Label],
     row: usize,
@@ -123,6 +275,7 @@ fn handle_class(
     requires row { row < length rows.now }
     requires levels { length levels.now ≡ length rows.now }
     requires pool { length pool.old ≡ length rows.now }
+    requires around { IsRoomy rows.now around.old }
     requires sides { length sides.old ≡ length rows.now }
     requires plate { plate ≤ 1000 }
     requires class { class < length tops.now }
@@ -130,6 +283,7 @@ fn handle_class(
     requires built { Built instance.now rows.now tops.now cover levels.now }
     requires cover { instance.now.params.max1 * instance.now.params.height ≤ cover }
     ensures len { OnOk result (length pool.new ≡ length pool.old) }
+    ensures around { OnOk result (IsRoomy rows.now around.new) }
     ensures spreads { OnOk result (Spreads row sides.old sides.new) }
     ensures goes_on { OnOk result (ClassGoesOn instance.now rows.now (to_go_at levels.now) most sides.new row begins.now plate low (slice_index_or tops.now class 0) room left) }
 {
@@ -142,8 +296,16 @@ fn handle_class(
         height: params.height,
         most: left,
     };
+    place_begins(
+        instance, rows, tops, levels, around, sides, begins, row, plate, &limits, low, room, most,
+        cover,
+    )?;
+    let clear = around.clear.as_slice();
+    if clear.is_empty() {
+        return Ok(());
+    }
     strips_from(pool, rows, levels, &limits, row, low, params.waste)?;
-    offer_ends(instance, sides, pool, levels, begins, row, plate, most)?;
+    offer_ends(instance, sides, pool, levels, clear, row, plate, most)?;
     Ok(())
 }
 
@@ -154,6 +316,7 @@ fn handle_plate(
     tops: &[u32],
     levels: &[Level],
     pool: &mut Pool,
+    around: &mut Around,
     sides: &mut Pool,
     begins: &[Label],
     row: usize,
@@ -164,12 +327,14 @@ fn handle_plate(
     requires row { row < length rows.now }
     requires levels { length levels.now ≡ length rows.now }
     requires pool { length pool.old ≡ length rows.now }
+    requires around { IsRoomy rows.now around.old }
     requires sides { length sides.old ≡ length rows.now }
     requires plate { plate ≤ 1000 }
     requires lattice { IsLattice instance.now rows.now }
     requires built { Built instance.now rows.now tops.now cover levels.now }
     requires cover { instance.now.params.max1 * instance.now.params.height ≤ cover }
     ensures len { OnOk result (length pool.new ≡ length pool.old) }
+    ensures around { OnOk result (IsRoomy rows.now around.new) }
     ensures spreads { OnOk result (Spreads row sides.old sides.new) }
     ensures goes_on { OnOk result (PlateGoesOn instance.now rows.now (to_go_at levels.now) most sides.new row begins.now plate (instance.now.params.max1 + 1)) }
 {
@@ -184,8 +349,8 @@ fn handle_plate(
     let mut low = params.min1;
     for class in 0..tops.len() {
         handle_class(
-            instance, rows, tops, levels, pool, sides, begins, row, plate, class, low, room, left,
-            most, cover,
+            instance, rows, tops, levels, pool, around, sides, begins, row, plate, class, low,
+            room, left, most, cover,
         )?;
         let Some(next) = tops[class].checked_add(1) else {
             return Err(Halt::Limit);
@@ -205,6 +370,7 @@ fn handle_plates(
     tops: &[u32],
     levels: &[Level],
     pool: &mut Pool,
+    around: &mut Around,
     sides: &mut Pool,
     begins: &[Label],
     row: usize,
@@ -214,11 +380,13 @@ fn handle_plates(
     requires row { row < length rows.now }
     requires levels { length levels.now ≡ length rows.now }
     requires pool { length pool.old ≡ length rows.now }
+    requires around { IsRoomy rows.now around.old }
     requires sides { length sides.old ≡ length rows.now }
     requires lattice { IsLattice instance.now rows.now }
     requires built { Built instance.now rows.now tops.now cover levels.now }
     requires cover { instance.now.params.max1 * instance.now.params.height ≤ cover }
     ensures len { OnOk result (length pool.new ≡ length pool.old) }
+    ensures around { OnOk result (IsRoomy rows.now around.new) }
     ensures spreads { OnOk result (Spreads row sides.old sides.new) }
     ensures goes_on { OnOk result ((plate : ℕ) → plate < instance.now.params.plates → PlateGoesOn instance.now rows.now (to_go_at levels.now) most sides.new row begins.now plate (instance.now.params.max1 + 1)) }
 {
@@ -228,7 +396,7 @@ fn handle_plates(
     }
     for plate in 0..plates {
         handle_plate(
-            instance, rows, tops, levels, pool, sides, begins, row, plate, most, cover,
+            instance, rows, tops, levels, pool, around, sides, begins, row, plate, most, cover,
         )?;
     }
     Ok(())
@@ -241,6 +409,7 @@ fn handle_row(
     tops: &[u32],
     levels: &[Level],
     pool: &mut Pool,
+    around: &mut Around,
     sides: &mut Pool,
     begins: &mut Vec<Label>,
     row: usize,
@@ -250,11 +419,13 @@ fn handle_row(
     requires row { row < length rows.now }
     requires levels { length levels.now ≡ length rows.now }
     requires pool { length pool.old ≡ length rows.now }
+    requires around { IsRoomy rows.now around.old }
     requires sides { length sides.old ≡ length rows.now }
     requires lattice { IsLattice instance.now rows.now }
     requires built { Built instance.now rows.now tops.now cover levels.now }
     requires cover { instance.now.params.max1 * instance.now.params.height ≤ cover }
     ensures len { OnOk result (length pool.new ≡ length pool.old) }
+    ensures around { OnOk result (IsRoomy rows.now around.new) }
     ensures spreads { OnOk result (Spreads row sides.old sides.new) }
     ensures goes_on { OnOk result (SidesGoOn instance.now rows.now (to_go_at levels.now) most sides.new row) }
 {
@@ -271,6 +442,7 @@ fn handle_row(
         tops,
         levels,
         pool,
+        around,
         sides,
         begins.as_slice(),
         row,
@@ -310,6 +482,22 @@ fn can_end(instance: &Instance, sides: &[Label], most: u64) -> bool
     false
 }
 
+/// Room for all rows.
+fn new_around(alloc: Global, rows: &[Row], limit: u64) -> Result<Around, Halt>
+    ensures { IfOk result (λ around. IsRoomy rows.now around) }
+{
+    Ok(Around {
+        strips: Pool::new(alloc, rows.len(), limit)?,
+        cells: Pool::new(alloc, rows.len(), limit)?,
+        holes: Vec::new(alloc),
+        lists: Lists {
+            found: Vec::new(alloc),
+            next: Vec::new(alloc),
+        },
+        clear: Vec::new(alloc),
+    })
+}
+
 /// Whether a course may be no longer than this, as far as the table of all rows tells.
 pub fn may_reach(
     alloc: Global,
@@ -326,6 +514,7 @@ pub fn may_reach(
     let levels = table.levels.as_slice();
     let mut pool = Pool::new(alloc, rows.len(), limit)?;
     let mut sides = Pool::new(alloc, rows.len(), limit)?;
+    let mut around = new_around(alloc, rows, limit)?;
     let mut begins = Vec::new(alloc);
     let first = rows.len() - 1;
     if first == 0 {
@@ -334,6 +523,8 @@ pub fn may_reach(
     let start = Label {
         along: SizeSet::only(0),
         across: SizeSet::only(0),
+        right: 0,
+        up: 0,
     };
     sides.offer(first, &start)?;
     for done in 0..first {
@@ -343,6 +534,7 @@ pub fn may_reach(
             tops,
             levels,
             &mut pool,
+            &mut around,
             &mut sides,
             &mut begins,
             first - done,

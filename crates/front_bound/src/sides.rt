@@ -44,6 +44,8 @@ fn offer_end(
     let side = Label {
         along: sum.closed(instance.params().waste),
         across: SizeSet::only(plate),
+        right: 0,
+        up: 0,
     };
     sides.offer(row, &side)?;
     Ok(())

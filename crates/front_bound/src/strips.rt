@@ -34,7 +34,7 @@ pub struct Limits {
 }
 
 /// The glass of this width above what is used of a height, in mm².
-fn glass_above(width: u32, height: u32, used: u32) -> u64
+pub fn glass_above(width: u32, height: u32, used: u32) -> u64
     ensures { result ≡ width * (height - used) }
 {
     u64::from(width) * u64::from(height.saturating_sub(used))
@@ -72,6 +72,8 @@ fn try_band(
     let joined = Label {
         along: sum,
         across: shared,
+        right: 0,
+        up: 0,
     };
     pool.offer(band.to as usize, &joined)?;
     Ok(())
@@ -209,6 +211,8 @@ pub fn strips_from(
             least: low,
             more: 0,
         },
+        right: 0,
+        up: 0,
     };
     pool.offer(start, &none)?;
     for done in 0..start + 1 {

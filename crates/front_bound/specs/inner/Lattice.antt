@@ -58,16 +58,20 @@ HasLink b rows n stack item = (to : ℕ) × Contains (links_at rows n) to × IsL
 unfoldable pub Led : List Move → ℕ → ℕ → ℕ → Type 0
 Led moves to wide high = (m : Move) × Contains moves m × (m.to ≡ to) × Fits m.label wide high
 
+-- one move of these leads there with this width and each of these heights
+unfoldable pub LedBy : List Move → ℕ → ℕ → (ℕ → Type 0) → Type 0
+LedBy moves to wide Stand = (m : Move) × Contains moves m × (m.to ≡ to) × ((high : ℕ) → Stand high → Fits m.label wide high)
+
 -- the item alone, in this turn
 unfoldable pub AloneLed : ℕ → List Move → ℕ → Item → ℕ → Type 0
 AloneLed waste moves to item turn =
-    (high : ℕ) → Stands waste (item_width turn (Some item)) (item_height turn (Some item)) high → Led moves to (item_width turn (Some item)) high
+    LedBy moves to (item_width turn (Some item)) (λ high. Stands waste (item_width turn (Some item)) (item_height turn (Some item)) high)
 
 -- both items, one over the other, where these are of one width in these turns
 unfoldable pub PairLed : List Move → ℕ → Item → Item → ℕ → ℕ → Type 0
 PairLed moves to item other turn over =
     item_width over (Some other) ≡ item_width turn (Some item)
-    → Led moves to (item_width turn (Some item)) (item_height turn (Some item) + item_height over (Some other))
+    → LedBy moves to (item_width turn (Some item)) (λ high. high ≡ item_height turn (Some item) + item_height over (Some other))
 
 -- each pair of this item and the next one of a stack, at the row behind the item
 pub record PairsLed (b : Problem) (rows : List Row) (moves : List Move) (item : Item) (mid stack : ℕ) (other : Item) : Type 0 where

@@ -20,6 +20,11 @@ abbrev pub cells_area : Problem → Front → List Cell → ℕ
 cells_area b f [] = 0
 cells_area b f (c ∷ cells) = cell_area b f c + cells_area b (after_cell f c) cells
 
+-- how high a cell's items stand
+abbrev pub cell_height : Problem → Front → Cell → ℕ
+cell_height b f (alone p) = pick_height b f p
+cell_height b f (pair p q) = pick_height b f p + pick_height b (next f p.stack) q
+
 -- one of the moves from a row leads to the row of a front, by these sizes, with items of this area
 pub record Moved (b : Problem) (rows : List Row) (n : ℕ) (moves : List Move) (to : Front) (along across area : ℕ) : Type 0 where
   pub move : Move

@@ -15,6 +15,13 @@ Fits l x y = Has l.along x × Has l.across y
 unfoldable pub Held : List Label → ℕ → ℕ → Type 0
 Held labels x y = (l : Label) × Contains labels l × Fits l x y
 
+-- the same, of pieces that reach as far to the right and up as the label asks for
+abbrev pub Stands : Label → ℕ → ℕ → ℕ → ℕ → Type 0
+Stands l x y right up = Fits l x y × (l.right ≤ right) × (l.up ≤ up)
+
+unfoldable pub HeldTo : List Label → ℕ → ℕ → ℕ → ℕ → Type 0
+HeldTo labels x y right up = (l : Label) × Contains labels l × Stands l x y right up
+
 -- what the old labels stand for the new ones do
 unfoldable pub Keeps : List Label → List Label → Type 0
-Keeps old new = (x y : ℕ) → Held old x y → Held new x y
+Keeps old new = (x y right up : ℕ) → HeldTo old x y right up → HeldTo new x y right up

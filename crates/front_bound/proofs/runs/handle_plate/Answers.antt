@@ -13,6 +13,7 @@ returns-then-start-most-clause-goes_on c =
 pub loop-class-init : goal.loop-class-init
 loop-class-init c = record {
   len = refl;
+  around = c.requires.around;
   spreads = spreads_same c.args.row c.args.sides.now;
   goes_on = plate_none c.args.instance.now c.args.rows.now (to_go_at c.args.levels.now) c.args.most c.args.sides.now c.args.row c.args.begins.now c.args.plate c.params-params.result.now.min1 (omega (arith, ap (λ (p : Params). p.min1) c.params-params.ensures.value));
 }
@@ -20,6 +21,7 @@ loop-class-init c = record {
 pub loop-class-preserved : goal.loop-class-preserved
 loop-class-preserved c = record {
   len = c.in_ok-handle_class.ensures.len ∙ c.loop-class.invariant.len;
+  around = c.in_ok-handle_class.ensures.around;
   spreads = spreads_then c.args.row c.args.sides.now c.loop-class.sides c.handle_class.new.sides c.loop-class.invariant.spreads c.in_ok-handle_class.ensures.spreads;
   goes_on = plate_next c.args.instance.now c.args.rows.now (to_go_at c.args.levels.now) c.args.most c.handle_class.new.sides c.args.row c.args.begins.now c.args.plate c.loop-class.low (get_or c.args.tops.now c.loop-class.class 0)
       c.saturating_sub-room.result _ c.first_at-first.result c.in-Some.next

@@ -1,0 +1,321 @@
+-- Strips whose items have places are held where they end.
+use Rattle.std.proofs.Common.{◌≡◌, ℕ, zero, suc, ◌+◌, ◌*◌, ◌-◌, ◌<◌, ◌≤◌, ◌⊎◌, inl, inr, List, [], ◌∷◌, ◌++◌, length, get_or, sym, ap, ◌∙◌, subst, arith, Contains, All, IsTrue, true}
+use Rattle.std.proofs.lemmas.Bool.{cases_lt}
+use Rattle.std.proofs.lemmas.Bool.Decides.{nat_tests}
+use Rattle.std.proofs.lemmas.Nat.{mul-le}
+use Rattle.std.proofs.lemmas.List.Elements.{All-contains}
+use Rattle.glass_base.specs.Defects.{hits, crosses_x}
+use Rattle.glass_base.specs.Items.{IsDefectInRange}
+use Rattle.glass_base.specs.Plates.{Before, Width}
+use Rattle.plan_trace.specs.TraceRules.{HitsNone}
+use Rattle.front_course.specs.Fronts.{Front, next}
+use Rattle.front_course.specs.Cells.{Cell, pick_width, pick_height, CanStand, after_cell, cell_width, after_cells, cells_width, AllStand}
+use Rattle.front_course.specs.Cells.Cell.{alone, pair}
+use Rattle.front_course.specs.Strips.{Band, IsBand, after_bands, bands_height, AreBands}
+use Rattle.front_course.specs.Places.{HasPlaces, CellPlaces, BandPlaces, IsClearLine}
+use Rattle.front_bound.specs.declared.labels.Label.{Label}
+use Rattle.front_bound.specs.declared.levels.Level.{Level}
+use Rattle.front_bound.specs.declared.moves.Move.{Move}
+use Rattle.front_bound.specs.declared.placed_cells.Site.{Site}
+use Rattle.front_bound.specs.declared.rows.Row.{Row}
+use Rattle.front_bound.specs.declared.strips.Limits.{Limits}
+use Rattle.front_bound.specs.inner.Ends.{Ended, after_items}
+use Rattle.front_bound.specs.inner.Lattice.{At, area_at, moves_at, IsLattice}
+use Rattle.front_bound.specs.inner.Leads.{cell_height, cells_area, Moved}
+use Rattle.front_bound.specs.inner.Levels.{bands_at, ends_at}
+use Rattle.front_bound.specs.inner.Pools.{row_at}
+use Rattle.front_bound.specs.inner.Ready.{Ready, Fitting}
+use Rattle.front_bound.specs.inner.Sets.{HeldTo}
+use Rattle.front_bound.specs.inner.Sides.{StripHeld, ClassGoesOn}
+use Rattle.front_bound.proofs.CellRuns.{gap_within, gap_left}
+use Rattle.front_bound.proofs.Fronts.{one_row, CellMoved, cell_led}
+use Rattle.front_bound.proofs.HeldLists.{least_first}
+use Rattle.front_bound.proofs.PlacedRows.{one_held}
+use Rattle.front_bound.proofs.StripRuns.{bands_area, bands_within, bands_left, bands_take, stacks_in, after_in, strip_down}
+use Rattle.std.proofs.lemmas.List.Elements.{Contains-get_or}
+use Rattle.glass_base.specs.declared.item.Defect.{Defect}
+use Rattle.glass_base.specs.Problem.{Problem}
+use Rattle.front_bound.specs.inner.Clear.{AreHoles, Avoids, Clear, LineClear, CellsGoOn, CanEnd, RunsJoined, MoveJoined, MovesExtended, Extended, RowPlaced, EndsPlaced}
+
+pub contains_pushed : (xs : List Defect) (x y : Defect) → Contains (xs ++ x ∷ []) y → Contains xs y ⊎ (x ≡ y)
+contains_pushed [] x y (zero, lt, is) = inr is
+contains_pushed [] x y (suc k, lt, is) = absurd (omega (arith, lt))
+contains_pushed (z ∷ xs) x y (zero, lt, is) = inl (0, omega arith, is)
+contains_pushed (z ∷ xs) x y (suc k, lt, is) =
+    elim (contains_pushed xs x y (k, omega (arith, lt), is)) [
+      | inl old ↦ inl (suc old.0, omega (arith, old.1), old.2)
+      | inr new ↦ inr new
+    ]
+
+pub holes_none : (b : Problem) (plate : ℕ) (holes : List Defect) → holes ≡ [] → AreHoles b plate holes
+unfolding AreHoles
+holes_none b plate holes none d has = absurd (omega (arith, has.1, ap length none))
+
+-- one of an instance's defects, and lists of those of a plate
+pub defect_at : (b : Problem) (xs : List Defect) (at : ℕ) (d : Defect) → xs ≡ b.defects → at < length xs → Contains b.defects (get_or xs at d)
+defect_at b xs at d same lt = subst (λ l. Contains l (get_or xs at d)) same (Contains-get_or xs at d lt)
+
+pub holes_more : (b : Problem) (plate : ℕ) (old new : List Defect) (e : Defect) → All IsDefectInRange b.defects → Contains b.defects e → AreHoles b plate old → ((d : Defect) → Contains new d → Contains old d ⊎ ((e ≡ d) × (plate ≡ e.plate))) → AreHoles b plate new
+unfolding AreHoles
+holes_more b plate old new e range has are more d in_new =
+    elim (more d in_new) [
+      | inl before ↦ are d before
+      | inr own ↦
+          let here : Contains b.defects d = subst (Contains b.defects) own.0 has in
+          (here, own.1 ∙ ap (λ (e : Defect). e.plate) own.0, (All-contains IsDefectInRange b.defects d range here).2)
+    ]
+
+-- what meets no defect of the plate avoids each of these
+hit_true : (plate x0 y0 x1 y1 : ℕ) (d : Defect) → plate ≡ d.plate → d.x0 < x1 → x0 < d.x1 → d.y0 < y1 → y0 < d.y1 → hits plate x0 y0 x1 y1 d ≡ true
+hit_true plate x0 y0 x1 y1 d same a b e f = grind (arith, nat_tests)
+
+avoids : (plate x0 y0 x1 y1 : ℕ) (d : Defect) → plate ≡ d.plate → (IsTrue (hits plate x0 y0 x1 y1 d) → ⊥) → Avoids d x0 y0 x1 y1
+avoids plate x0 y0 x1 y1 d same none =
+    elim (cases_lt d.x0 x1) [
+      | inr before ↦ inl before
+      | inl a ↦
+          elim (cases_lt x0 d.x1) [
+            | inr behind ↦ inr (inl behind)
+            | inl c ↦
+                elim (cases_lt d.y0 y1) [
+                  | inr below ↦ inr (inr (inl below))
+                  | inl e ↦
+                      elim (cases_lt y0 d.y1) [
+                        | inr above ↦ inr (inr (inr above))
+                        | inl f ↦ absurd (none (hit_true plate x0 y0 x1 y1 d same a c e f))
+                      ]
+                ]
+          ]
+    ]
+
+clear_of : (b : Problem) (plate : ℕ) (holes : List Defect) → AreHoles b plate holes → (x0 y0 x1 y1 : ℕ) → HitsNone b.defects plate x0 y0 x1 y1 → Clear holes x0 y0 x1 y1
+unfolding AreHoles Clear
+clear_of b plate holes are x0 y0 x1 y1 none d has = avoids plate x0 y0 x1 y1 d (are d has).1 (All-contains (λ d. ¬ IsTrue (hits plate x0 y0 x1 y1 d)) b.defects d none (are d has).0)
+
+cross_true : (plate x y1 : ℕ) (d : Defect) → plate ≡ d.plate → d.x0 < x → x < d.x1 → d.y0 < y1 → 0 < d.y1 → crosses_x plate x 0 y1 d ≡ true
+cross_true plate x y1 d same a b e f = grind (arith, nat_tests)
+
+line_clear : (b : Problem) (plate : ℕ) (holes : List Defect) → AreHoles b plate holes → (x : ℕ) → IsClearLine b plate x → x < Width b plate → LineClear holes b.params.height x
+unfolding AreHoles LineClear
+line_clear b plate holes are x line within d has low top =
+    elim (cases_lt d.x0 x) [
+      | inr before ↦ inl before
+      | inl a ↦
+          elim (cases_lt x d.x1) [
+            | inr behind ↦ inr behind
+            | inl c ↦ absurd (All-contains (λ d. ¬ IsTrue (crosses_x plate x 0 b.params.height d)) b.defects d (line (omega (arith, a)) within) (are d has).0 (cross_true plate x b.params.height d (are d has).1 a c low top))
+          ]
+    ]
+
+-- a smaller rectangle, and one over another
+clear_within : (holes : List Defect) (x0 y0 x1 y1 a b : ℕ) → a ≤ x1 → b ≤ y1 → Clear holes x0 y0 x1 y1 → Clear holes x0 y0 a b
+unfolding Clear
+clear_within holes x0 y0 x1 y1 a b narrow low clear d has =
+    elim (clear d has) [
+      | inl before ↦ inl (omega (arith, before, narrow))
+      | inr more ↦
+          elim more [
+            | inl behind ↦ inr (inl behind)
+            | inr rest ↦
+                elim rest [
+                  | inl below ↦ inr (inr (inl (omega (arith, below, low))))
+                  | inr above ↦ inr (inr (inr above))
+                ]
+          ]
+    ]
+
+clear_both : (b : Problem) (plate : ℕ) (holes : List Defect) → AreHoles b plate holes → (x0 y0 x1 mid y1 : ℕ) → Clear holes x0 y0 x1 mid → Clear holes x0 mid x1 y1 → Clear holes x0 y0 x1 y1
+unfolding Clear AreHoles
+clear_both b plate holes are x0 y0 x1 mid y1 under over d has =
+    elim (under d has) [
+      | inl before ↦ inl before
+      | inr more ↦
+          elim more [
+            | inl behind ↦ inr (inl behind)
+            | inr rest ↦
+                elim rest [
+                  | inr above ↦ inr (inr (inr above))
+                  | inl below ↦
+                      elim (over d has) [
+                        | inl before ↦ inl before
+                        | inr more ↦
+                            elim more [
+                              | inl behind ↦ inr (inl behind)
+                              | inr rest ↦
+                                  elim rest [
+                                    | inl beyond ↦ inr (inr (inl beyond))
+                                    | inr above ↦ absurd (omega (arith, above, below, (are d has).2))
+                                  ]
+                            ]
+                      ]
+                ]
+          ]
+    ]
+
+-- what is held is held further right and up
+pub held_further : (labels : List Label) (x y right up right' up' : ℕ) → right ≤ right' → up ≤ up' → HeldTo labels x y right up → HeldTo labels x y right' up'
+unfolding HeldTo
+held_further labels x y right up right' up' beside above (l, has, stands) = (l, has, (stands.0, omega (arith, stands.1, beside), omega (arith, stands.2, above)))
+
+-- places lie within what they lie in
+cells_end : (b : Problem) (plate low top : ℕ) (f : Front) (from right : ℕ) (cells : List Cell) → CellPlaces b plate low top f from right cells → from ≤ right
+cells_end b plate low top f from right [] gap = gap_within b.params.waste from right gap
+cells_end b plate low top f from right (c ∷ cells) (left, gap, own, rest) =
+    omega (arith, gap_within b.params.waste from left gap, cells_end b plate low top (after_cell f c) (left + cell_width b f c) right cells rest)
+
+bands_end : (b : Problem) (plate left right : ℕ) (f : Front) (from : ℕ) (bands : List Band) → BandPlaces b plate left right f from bands → from ≤ b.params.height
+bands_end b plate left right f from [] gap = gap_within b.params.waste from b.params.height gap
+bands_end b plate left right f from (band ∷ bands) (low, gap, cells, rest) =
+    omega (arith, gap_within b.params.waste from low gap, bands_end b plate left right (after_cells f band.cells) (low + band.high) bands rest)
+
+-- where a cell's items lie, as one piece
+record CellPlace (b : Problem) (holes : List Defect) (left low top : ℕ) (f : Front) (c : Cell) : Type 0 where
+  bottom : ℕ
+  above : low ≤ bottom
+  within : bottom + cell_height b f c ≤ top
+  clear : Clear holes left bottom (left + cell_width b f c) (bottom + cell_height b f c)
+
+cell_place : (b : Problem) (plate : ℕ) (holes : List Defect) → AreHoles b plate holes → (left low high : ℕ) (f : Front) (c : Cell) → CanStand b high f c → HasPlaces b plate left low (low + high) f c → CellPlace b holes left low (low + high) f c
+cell_place b plate holes are left low high f (alone p) can (bottom, above, within, none) = record {
+  bottom = bottom;
+  above = above;
+  within = within;
+  clear = clear_of b plate holes are left bottom (left + pick_width b f p) (bottom + pick_height b f p) none;
+}
+cell_place b plate holes are left low high f (pair p q) can ((bottom, above, within, none), (bottom2, above2, within2, none2)) =
+    let h : ℕ = pick_height b f p in
+    let h2 : ℕ = pick_height b (next f p.stack) q in
+    let first : bottom ≡ low = omega (arith, above, within) in
+    let second : bottom2 ≡ low + h = omega (arith, above2, within2, can.3) in
+    let under : Clear holes left low (left + pick_width b f p) (low + h) = subst (λ k. Clear holes left k (left + pick_width b f p) (k + h)) first (clear_of b plate holes are left bottom (left + pick_width b f p) (bottom + h) none) in
+    let over : Clear holes left (low + h) (left + pick_width b f p) (low + h + h2) =
+    subst (λ w. Clear holes left (low + h) (left + w) (low + h + h2)) can.2
+    (subst (λ k. Clear holes left k (left + pick_width b (next f p.stack) q) (k + h2)) second (clear_of b plate holes are left bottom2 (left + pick_width b (next f p.stack) q) (bottom2 + h2) none2)) in
+    record {
+      bottom = low;
+      above = omega arith;
+      within = omega (arith, can.3);
+      clear = clear_within holes left low (left + pick_width b f p) (low + h + h2) (left + pick_width b f p) (low + (h + h2)) (omega arith) (omega arith) (clear_both b plate holes are left low (left + pick_width b f p) (low + h) (low + h + h2) under over);
+    }
+
+-- cells are held where they end, no further right than they lie
+record CellsRan (b : Problem) (rows : List Row) (cells : List (List Label)) (n : ℕ) (to : Front) (size x high right up : ℕ) : Type 0 where
+  row : ℕ
+  at : At b rows row to
+  held : HeldTo (row_at cells row) (x + size) high right up
+
+cells_ran : (b : Problem) (rows : List Row) → IsLattice b rows → (plate : ℕ) (holes : List Defect) → AreHoles b plate holes → (site : Site) → site.height ≡ b.params.height → (search low high : ℕ) → search ≤ low → low + high ≤ b.params.height →
+    (pool : List (List Label)) (start : ℕ) → ((m : ℕ) → m ≤ start → CellsGoOn site holes search pool m (moves_at rows m)) → (right : ℕ) → right ≤ site.room → (cells : List Cell) (n : ℕ) (f : Front) (x from : ℕ) → n ≤ start → At b rows n f →
+    AllStand b high f cells → CellPlaces b plate low (low + high) f from right cells → x + cells_width b f cells ≤ site.widest → HeldTo (row_at pool n) x high from (low + high) →
+    CellsRan b rows pool n (after_cells f cells) (cells_width b f cells) x high right (low + high)
+unfolding CellsGoOn
+cells_ran b rows h plate holes are site tall search low high above top pool start goes right room [] n f x from le at stand gap sum held = record {
+  row = n;
+  at = at;
+  held = subst (λ k. HeldTo (row_at pool n) k high right (low + high)) (omega arith) (held_further (row_at pool n) x high from (low + high) right (low + high) (gap_within b.params.waste from right gap) (omega arith) held);
+}
+cells_ran b rows h plate holes are site tall search low high above top pool start goes right room (c ∷ cells) n f x from le at stand (left, gap, own, rest) sum held =
+    let w : ℕ = cell_width b f c in
+    let g : Front = after_cell f c in
+    let m : CellMoved b rows n f high c = cell_led b rows h n f at high c stand.0 in
+    let p : CellPlace b holes left low (low + high) f c = cell_place b plate holes are left low high f c stand.0 own in
+    let mv : Move = m.moved.move in
+    let thin : mv.label.along.least ≤ w = least_first mv.label.along w m.moved.fits.0 in
+    let end : left + w ≤ right = cells_end b plate low (low + high) g (left + w) right cells rest in
+    let beside : HeldTo (row_at pool mv.to) (x + w) high (left + mv.label.along.least) (low + high) =
+    goes n le x high from (low + high) held mv m.moved.has w left p.bottom m.moved.fits (omega (arith, sum)) (omega (arith, top, tall)) (gap_within b.params.waste from left gap) (omega (arith, above, p.above))
+    (omega (arith, m.low, p.within)) (omega (arith, top, tall)) (omega (arith, thin, end, room))
+    (clear_within holes left p.bottom (left + w) (p.bottom + cell_height b f c) (left + mv.label.along.least) (p.bottom + mv.label.across.least) (omega (arith, thin)) (omega (arith, m.low)) p.clear) in
+    let r : CellsRan b rows pool mv.to (after_cells g cells) (cells_width b g cells) (x + w) high right (low + high) =
+    cells_ran b rows h plate holes are site tall search low high above top pool start goes right room cells mv.to g (x + w) (left + w) (omega (arith, m.moved.down, le)) m.moved.at stand.1 rest (omega (arith, sum))
+    (held_further (row_at pool mv.to) (x + w) high (left + mv.label.along.least) (low + high) (left + w) (low + high) (omega (arith, thin)) (omega arith) beside) in
+    record { row = r.row; at = r.at; held = subst (λ k. HeldTo (row_at pool r.row) k high right (low + high)) (omega arith) r.held }
+
+-- what a search around defects knows
+pub record Searched (b : Problem) (rows : List Row) (levels : List Level) (l : Limits) (site : Site) (plate : ℕ) (holes : List Defect) (reach : ℕ) (pool : List (List Label)) (start : ℕ) : Type 0 where
+  pub are : AreHoles b plate holes
+  pub height : site.height ≡ b.params.height
+  pub least : site.least ≡ b.params.min2
+  pub waste : site.waste ≡ b.params.waste
+  pub widest : l.bound ≤ site.widest
+  pub placed : (n : ℕ) → n ≤ start → RowPlaced rows levels l site holes reach pool n
+
+-- one band more
+band_step : (b : Problem) (rows : List Row) → IsLattice b rows → (levels : List Level) (l : Limits) (site : Site) (plate : ℕ) (holes : List Defect) (reach : ℕ) (pool : List (List Label)) (start : ℕ) → Searched b rows levels l site plate holes reach pool start →
+    (n : ℕ) (f : Front) → n ≤ start → At b rows n f → (w : ℕ) (band : Band) → IsBand b w f band → (mv : Moved b rows n (bands_at levels n) (after_cells f band.cells) band.high w (cells_area b f band.cells)) → w ≤ l.bound →
+    (left right from low x : ℕ) → site.left ≤ left → right ≤ site.room → from ≤ low → low + band.high ≤ b.params.height → CellPlaces b plate low (low + band.high) f left right band.cells → CanEnd levels l reach mv.move.to x band.high w right (low + band.high) →
+    HeldTo (row_at pool n) x w right from → HeldTo (row_at pool mv.move.to) (x + band.high) w right (low + band.high)
+unfolding RowPlaced HeldTo MovesExtended MoveJoined RunsJoined
+band_step b rows h levels l site plate holes reach pool start s n f le at w band is mv narrow left right from low x begin room above top cells can (label, (k, lt, same), stands) =
+    elim (subst (λ (a : Label). Extended rows levels l site holes reach pool n a) same (s.placed n le k label lt)) [
+      | inl moves ↦ moves mv.move mv.has mv.down x band.high w right from (low + band.high) stands mv.fits (omega (arith, above)) can
+      | inr runs ↦
+          let size : ℕ = cells_width b f band.cells in
+          let within : size ≤ w = gap_within b.params.waste size w is.fill in
+          let none : (w - size ≡ 0) ⊎ (0 + site.waste ≤ w - size) = subst (λ k. (w - size ≡ 0) ⊎ (0 + k ≤ w - size)) (sym s.waste) (gap_left b.params.waste size w is.fill) in
+          let begun : HeldTo (row_at runs.cells n) (w - size) band.high left (low + band.high) = runs.placed.begun (w - size) band.high left (low + band.high) none (omega (arith, s.least, is.tall)) begin in
+          let r : CellsRan b rows runs.cells n (after_cells f band.cells) size (w - size) band.high right (low + band.high) =
+          cells_ran b rows h plate holes s.are site s.height label.up low band.high (omega (arith, stands.2, above)) top runs.cells n runs.placed.goes_on right room band.cells n f (w - size) left (omega arith) at is.stand cells
+          (omega (arith, within, narrow, s.widest)) begun in
+          let to : r.row ≡ mv.move.to = one_row b rows h r.row mv.move.to (after_cells f band.cells) r.at mv.at in
+          let held : HeldTo (row_at runs.cells mv.move.to) w band.high right (low + band.high) =
+          subst (λ k. HeldTo (row_at runs.cells k) w band.high right (low + band.high)) to (subst (λ k. HeldTo (row_at runs.cells r.row) k band.high right (low + band.high)) (omega (arith, within)) r.held) in
+          runs.joined mv.move.to mv.down x band.high w right from (low + band.high) stands held (omega (arith, above)) can
+    ]
+
+bands_placed : (b : Problem) (rows : List Row) → IsLattice b rows → (levels : List Level) (l : Limits) (cover : ℕ) → Fitting b l cover → (to_go : ℕ → ℕ) (start : ℕ) → Ready b rows levels cover to_go start → (site : Site) (plate : ℕ) (holes : List Defect) (reach : ℕ) →
+    (pool : List (List Label)) → Searched b rows levels l site plate holes reach pool start → (w : ℕ) → w ≤ l.bound → (left right : ℕ) → site.left ≤ left → right ≤ site.room → (bands : List Band) (n : ℕ) (f : Front) (x from : ℕ) → n ≤ start → At b rows n f →
+    AreBands b w f bands → BandPlaces b plate left right f from bands → x + bands_height bands ≡ l.height → (m : ℕ) → At b rows m (after_bands f bands) → w + to_go m ≤ l.most → right + to_go m ≤ reach → HeldTo (row_at pool n) x w right from →
+    HeldTo (row_at pool m) l.height w right b.params.height
+bands_placed b rows h levels l cover fit to_go start r site plate holes reach pool s w narrow left right begin room [] n f x from le at are gap whole m to near reaches held =
+    let same : n ≡ m = one_row b rows h n m f at to in
+    subst (λ k. HeldTo (row_at pool k) l.height w right b.params.height) same
+    (subst (λ k. HeldTo (row_at pool n) k w right b.params.height) (omega (arith, whole)) (held_further (row_at pool n) x w right from right b.params.height (omega arith) (gap_within b.params.waste from b.params.height gap) held))
+bands_placed b rows h levels l cover fit to_go start r site plate holes reach pool s w narrow left right begin room (band ∷ bands) n f x from le at are (low, gap, cells, rest) whole m to near reaches held =
+    let g : Front = after_cells f band.cells in
+    let d : ℕ = band.high in
+    let after : ℕ = bands_height bands in
+    let mv : Moved b rows n (bands_at levels n) g d w (cells_area b f band.cells) = r.bands n le f at w band (omega (arith, narrow, fit.bound)) (omega (arith, whole, fit.height)) are.0 in
+    let more : ℕ = bands_area b g bands in
+    let later : area_at rows mv.move.to ≡ area_at rows m + more = bands_left b rows h w bands mv.move.to g mv.at are.1 m to in
+    let there : more ≤ w * (l.height - (x + d)) = omega (arith, bands_within b w g bands are.1, ap (λ k. w * k) (sum_left l.height (x + d) after (omega (arith, whole)))) in
+    let few : more ≤ cover = omega (arith, there, mul-le w (l.height - (x + d)) l.bound l.height narrow (omega arith), fit.covered) in
+    let to_more : At b rows m (after_items g (stacks_in bands)) = subst (λ k. At b rows m k) (sym (after_in g bands)) to in
+    let behind : Ended (ends_at levels mv.move.to) more (to_go m) = r.ends mv.move.to (omega (arith, mv.down, le)) g mv.at (stacks_in bands) (bands_take b w g bands are.1) m to_more more later few in
+    let top : low + d ≤ b.params.height = bands_end b plate left right g (low + d) bands rest in
+    let can : CanEnd levels l reach mv.move.to x d w right (low + d) = record {
+      area = more;
+      far = to_go m;
+      sum = omega (arith, whole);
+      narrow = narrow;
+      ends = behind;
+      within = there;
+      near = near;
+      reaches = reaches;
+      top = omega (arith, top, fit.height);
+    } in
+    bands_placed b rows h levels l cover fit to_go start r site plate holes reach pool s w narrow left right begin room bands mv.move.to g (x + d) (low + d) (omega (arith, mv.down, le)) mv.at are.1 rest (omega (arith, whole)) m to near reaches
+    (band_step b rows h levels l site plate holes reach pool start s n f le at w band are.0 mv narrow left right from low x begin room (gap_within b.params.waste from low gap) top cells can held)
+  where
+    sum_left : (height used rest : ℕ) → used + rest ≡ height → rest ≡ height - used
+    sum_left height used rest e = omega (arith, e)
+
+-- strips that begin behind one of a plate are held where they end
+pub placed_goes_on : (b : Problem) (rows : List Row) → IsLattice b rows → (levels : List Level) (l : Limits) (cover : ℕ) → Fitting b l cover → (to_go : ℕ → ℕ) (start : ℕ) → Ready b rows levels cover to_go start → (site : Site) (plate : ℕ) (holes : List Defect) (reach : ℕ) →
+    (pool : List (List Label)) → Searched b rows levels l site plate holes reach pool start → (low : ℕ) → ((x w right up : ℕ) → (x ≡ 0) ⊎ (0 + site.waste ≤ x) → low ≤ w → site.left ≤ right → HeldTo (row_at pool start) x w right up) →
+    (most : ℕ) (sides : List (List Label)) (begin : Label) (top room : ℕ) → site.left ≡ begin.along.least → site.room ≡ Width b plate → most ≤ Before b plate + reach → ((w : ℕ) → w ≤ top → w ≤ b.params.max1 → w ≤ room → w ≤ l.bound) →
+    ((m : ℕ) → m < start → EndsPlaced b holes (to_go m) most sides m plate site.left (row_at pool m)) → ClassGoesOn b rows to_go most sides start (begin ∷ []) plate low top room l.most
+unfolding ClassGoesOn StripHeld EndsPlaced
+placed_goes_on b rows h levels l cover fit to_go start r site plate holes reach pool s low begun most sides begin top room begins width reaches bound ends f at from held w bands is wide narrow fits m to near right placed gap within close =
+    let here : begin.along.least ≤ from = least_first begin.along from (one_held begin from plate held).0 in
+    let sum : from + w ≤ right = gap_within b.params.waste (from + w) right gap in
+    let high : ℕ = bands_height bands in
+    let tall : high ≤ b.params.height = gap_within b.params.waste high b.params.height is.fill in
+    let none : (l.height - high ≡ 0) ⊎ (0 + site.waste ≤ l.height - high) =
+    subst (λ k. (l.height - high ≡ 0) ⊎ (0 + k ≤ l.height - high)) (sym s.waste) (subst (λ k. (k - high ≡ 0) ⊎ (0 + b.params.waste ≤ k - high)) (sym fit.height) (gap_left b.params.waste high b.params.height is.fill)) in
+    let left : site.left ≤ right - w = omega (arith, begins, here, sum) in
+    let strip : HeldTo (row_at pool m) l.height w right b.params.height =
+    bands_placed b rows h levels l cover fit to_go start r site plate holes reach pool s w (bound w narrow is.narrow fits) (right - w) right left (omega (arith, width, within)) bands start f (l.height - high) 0 (omega arith) at is.each placed.places
+    (omega (arith, tall, fit.height)) m to near (omega (arith, close, reaches)) (begun (l.height - high) w right 0 none wide (omega (arith, left))) in
+    ends m (strip_down b rows h f start at w bands is m to) w right (subst (λ k. HeldTo (row_at pool m) k w right b.params.height) fit.height strip) (omega (arith, begins, here, sum)) within
+    (λ inside. line_clear b plate holes s.are right placed.end inside) close

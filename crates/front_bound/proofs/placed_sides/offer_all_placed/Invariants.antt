@@ -1,0 +1,11 @@
+use Rattle.std.proofs.Common.{ℕ, ◌+◌, ◌<◌, [], ◌∷◌, get_or}
+use Rattle.front_bound.specs.declared.labels.Label.{Label}
+use Rattle.front_bound.specs.inner.Clear.{EndsPlaced}
+use Rattle.front_bound.specs.inner.Pools.{Spreads}
+use Rattle.front_bound.proofs.placed_sides.offer_all_placed.Given as goal
+
+abbrev pub invariant-loop-strip : goal.invariant-loop-strip
+invariant-loop-strip l = record {
+  spreads : Spreads (l.row + 1) l.fn.sides l.sides;
+  held : (k : ℕ) (d : Label) → k < l.strip-index → EndsPlaced l.instance l.holes l.far l.most l.sides l.row l.plate l.begin (get_or l.strips k d ∷ []);
+}
