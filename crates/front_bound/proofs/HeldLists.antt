@@ -1,5 +1,5 @@
 -- What lists of labels stand for.
-use Rattle.std.proofs.Common.{◌≡◌, ℕ, zero, suc, ◌<◌, ◌≤◌, ◌⊎◌, inl, inr, List, [], ◌∷◌, ◌++◌, length, get_or, sym, subst, arith, Contains}
+use Rattle.std.proofs.Common.{◌≡◌, ℕ, zero, suc, ◌<◌, ◌≤◌, ◌⊎◌, inl, inr, List, [], ◌∷◌, ◌++◌, length, get_or, sym, ap, subst, arith, Contains}
 use Rattle.std.specs.List.{swap_remove}
 use Rattle.std.proofs.lemmas.List.Elements.{Contains-get_or, Contains-append_left, Contains-push}
 use Rattle.std.proofs.lemmas.List.Sorted.{Contains-permutation, IsPermutation-swap_remove}
@@ -81,3 +81,12 @@ keeps_held old new x y keeps (l, has, fits) = held_of new x y l.right l.up (keep
 pub keeps_then : (old mid new : List Label) → Keeps old mid → Keeps mid new → Keeps old new
 unfolding Keeps
 keeps_then old mid new s t x y right up held = t x y right up (s x y right up held)
+
+-- an empty list stands for nothing
+pub held_none : (labels : List Label) (x y right up : ℕ) → labels ≡ [] → HeldTo labels x y right up → ⊥
+unfolding HeldTo
+held_none labels x y right up none (l, (k, lt, is), stands) = omega (arith, lt, ap length none)
+
+pub fits_none : (labels : List Label) (x y : ℕ) → labels ≡ [] → Held labels x y → ⊥
+unfolding Held
+fits_none labels x y none (l, (k, lt, is), fits) = omega (arith, lt, ap length none)

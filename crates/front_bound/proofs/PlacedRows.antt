@@ -1,23 +1,28 @@
 -- Places around defects, and labels that reach so far: what was joined stays so.
-use Rattle.std.proofs.Common.{ℕ, zero, suc, ◌+◌, ◌<◌, ◌≤◌, ◌⊎◌, inl, inr, List, [], ◌∷◌, ◌++◌, length, get_or, refl, sym, subst, arith, All, Contains}
+use Rattle.std.proofs.Common.{◌≡◌, ℕ, zero, suc, ◌+◌, ◌*◌, ◌-◌, ◌<◌, ◌≤◌, ◌⊎◌, inl, inr, List, [], ◌∷◌, ◌++◌, length, get_or, refl, sym, ap, ◌∙◌, subst, arith, All, Contains, slice_get}
+use Rattle.std.proofs.lemmas.Nat.{mul-le}
 use Rattle.std.proofs.lemmas.List.Elements.{All-contains, Contains-append_left, Contains-push}
 use Rattle.glass_base.specs.declared.item.Defect.{Defect}
 use Rattle.glass_base.specs.Plates.{Before, Width}
 use Rattle.glass_base.specs.Problem.{Problem}
+use Rattle.front_bound.specs.declared.ground.Ground.{Ground}
+use Rattle.front_bound.specs.declared.ground.Sought.{Sought}
+use Rattle.front_bound.specs.declared.keyed.Keyed.{Keyed}
 use Rattle.front_bound.specs.declared.labels.Label.{Label}
-use Rattle.front_bound.specs.declared.levels.Level.{Level}
 use Rattle.front_bound.specs.declared.moves.Move.{Move}
-use Rattle.front_bound.specs.declared.placed_cells.Site.{Site}
 use Rattle.front_bound.specs.declared.places.Piece.{Piece}
 use Rattle.front_bound.specs.declared.places.Place.{Place}
-use Rattle.front_bound.specs.declared.rows.Row.{Row}
-use Rattle.front_bound.specs.declared.strips.Limits.{Limits}
-use Rattle.front_bound.specs.inner.Clear.{Clear, LineClear, Meets, IsFree, Covered, CellJoined, CellsGoOn, RunJoined, RunsJoined, MoveJoined, MovesExtended, Extended, RowPlaced, EndsPlaced}
+use Rattle.front_bound.specs.inner.Clear.{Clear, LineClear, Meets, IsFree, Covered, EndsPlaced}
+use Rattle.front_bound.specs.inner.Lattice.{area_at}
+use Rattle.front_bound.specs.inner.Levels.{bands_at, list_at}
+use Rattle.front_bound.specs.inner.Lists.{Listed, HasBands, waste_of}
+use Rattle.front_bound.specs.inner.Placed.{CellJoined, CellsGoOn, CanGoOn, RunJoined, RunsJoined, MoveJoined, EntryJoined, IsSlack, NoneGoesOn, MovesExtended, Extended, RowPlaced}
 use Rattle.front_bound.specs.inner.Pools.{row_at, HeldAt, Spreads}
 use Rattle.front_bound.specs.inner.Sets.{Has, Fits, Held, HeldTo, Stands}
 use Rattle.front_bound.proofs.Each.{contained_each}
-use Rattle.front_bound.proofs.HeldLists.{least_first}
+use Rattle.front_bound.proofs.HeldLists.{least_first, held_none}
 use Rattle.front_bound.proofs.PoolRows.{kept_at}
+use Rattle.front_bound.proofs.StripTries.{less_glass, least_waste, at_place}
 
 -- a list of places
 pub covered_push_old : (places : List Place) (p : Place) (left low : ℕ) → Covered places left low → Covered (places ++ p ∷ []) left low
@@ -51,54 +56,98 @@ behind_or_above holes piece at d left low has meets x y free =
     ]
 
 -- cells
-pub cell_joined_kept : (site : Site) (holes : List Defect) (low g : ℕ) (old new : List (List Label)) (l : Label) (m : Move) → Spreads g old new → CellJoined site holes low old l m → CellJoined site holes low new l m
-unfolding CellJoined
-cell_joined_kept site holes low g old new l m s joined x w y right up left bottom own next sum most beside above top within room clear =
-    s.kept m.to (x + w) y (left + m.label.along.least) up (joined x w y right up left bottom own next sum most beside above top within room clear)
+module _ (g : Ground) (s : Sought) where
+  pub cell_joined_kept : (from : ℕ) (old new : List (List Label)) (l : Label) (m : Move) → Spreads from old new → CellJoined g s old l m → CellJoined g s new l m
+  unfolding CellJoined
+  cell_joined_kept from old new l m spreads joined x w y right up left bottom own next can = spreads.kept m.to (x + w) y (left + m.label.along.least) up (joined x w y right up left bottom own next can)
 
-pub cells_kept : (site : Site) (holes : List Defect) (low g : ℕ) (old new : List (List Label)) (n : ℕ) (moves : List Move) → Spreads g old new → g ≤ n → CellsGoOn site holes low old n moves → CellsGoOn site holes low new n moves
-unfolding CellsGoOn
-cells_kept site holes low g old new n moves s le goes x y right up held m has w left bottom next sum most beside above top within room clear =
-    s.kept m.to (x + w) y (left + m.label.along.least) up
-    (goes x y right up (subst (λ l. HeldTo l x y right up) (s.same n le) held) m has w left bottom next sum most beside above top within room clear)
+  pub cells_kept : (from : ℕ) (old new : List (List Label)) (n : ℕ) (moves : List Move) → Spreads from old new → from ≤ n → CellsGoOn g s old n moves → CellsGoOn g s new n moves
+  unfolding CellsGoOn
+  cells_kept from old new n moves spreads le goes x y right up held m has w left bottom next can =
+      spreads.kept m.to (x + w) y (left + m.label.along.least) up (goes x y right up (subst (λ l. HeldTo l x y right up) (spreads.same n le) held) m has w left bottom next can)
 
-pub cells_go_on : (site : Site) (holes : List Defect) (low : ℕ) (pool : List (List Label)) (n : ℕ) (moves : List Move) → ((k : ℕ) (d : Label) → k < length (row_at pool n) → All (CellJoined site holes low pool (get_or (row_at pool n) k d)) moves) →
-    CellsGoOn site holes low pool n moves
-unfolding CellsGoOn CellJoined HeldTo
-cells_go_on site holes low pool n moves each x y right up (l, (k, lt, is), stands) m has w left bottom next sum most beside above top within room clear =
-    let all : All (CellJoined site holes low pool l) moves = subst (λ (l : Label). All (CellJoined site holes low pool l) moves) is (each k l lt) in
-    All-contains (CellJoined site holes low pool l) moves m all has x w y right up left bottom stands next sum most beside above top within room clear
+  pub cells_go_on : (pool : List (List Label)) (n : ℕ) (moves : List Move) → ((k : ℕ) (d : Label) → k < length (row_at pool n) → All (CellJoined g s pool (get_or (row_at pool n) k d)) moves) → CellsGoOn g s pool n moves
+  unfolding CellsGoOn CellJoined HeldTo
+  cells_go_on pool n moves each x y right up (l, (k, lt, is), stands) m has w left bottom next can =
+      let all : All (CellJoined g s pool l) moves = subst (λ (l : Label). All (CellJoined g s pool l) moves) is (each k l lt) in
+      All-contains (CellJoined g s pool l) moves m all has x w y right up left bottom stands next can
+
+  -- where no label leads to the row
+  pub cells_none : (pool : List (List Label)) (n : ℕ) (moves : List Move) → row_at pool n ≡ [] → CellsGoOn g s pool n moves
+  unfolding CellsGoOn
+  cells_none pool n moves none x y right up held m has w left bottom next can = absurd (held_none (row_at pool n) x y right up none held)
 
 -- bands
-module _ (levels : List Level) (l : Limits) (reach g : ℕ) (old new : List (List Label)) (s : Spreads g old new) where
-  pub run_kept : (label : Label) (to : ℕ) (cells : Label) → RunJoined levels l reach old label to cells → RunJoined levels l reach new label to cells
+module _ (g : Ground) (from : ℕ) (old new : List (List Label)) (s : Spreads from old new) where
+  pub run_kept : (n : ℕ) (label : Label) (to : ℕ) (cells : Label) → RunJoined g old n label to cells → RunJoined g new n label to cells
   unfolding RunJoined
-  run_kept label to cells joined x d w right low up own run sum can = s.kept to (x + d) w right up (joined x d w right low up own run sum can)
+  run_kept n label to cells joined x d w right low up own run can = s.kept to (x + d) w right up (joined x d w right low up own run can)
 
-  pub runs_kept : (label : Label) (to : ℕ) (runs : List Label) → RunsJoined levels l reach old label to runs → RunsJoined levels l reach new label to runs
+  pub runs_kept : (n : ℕ) (label : Label) (to : ℕ) (runs : List Label) → RunsJoined g old n label to runs → RunsJoined g new n label to runs
   unfolding RunsJoined
-  runs_kept label to runs joined x d w right low up own held sum can = s.kept to (x + d) w right up (joined x d w right low up own held sum can)
+  runs_kept n label to runs joined x d w right low up own held can = s.kept to (x + d) w right up (joined x d w right low up own held can)
 
-  pub move_kept : (label : Label) (n : ℕ) (m : Move) → MoveJoined levels l reach old label n m → MoveJoined levels l reach new label n m
+  pub move_kept : (n : ℕ) (label : Label) (m : Move) → MoveJoined g old n label m → MoveJoined g new n label m
   unfolding MoveJoined
-  move_kept label n m joined down x d w right low up own next sum can = s.kept m.to (x + d) w right up (joined down x d w right low up own next sum can)
+  move_kept n label m joined x d w right low up own next can = s.kept m.to (x + d) w right up (joined x d w right low up own next can)
 
-  pub extended_kept : (rows : List Row) (site : Site) (holes : List Defect) (n : ℕ) (label : Label) → Extended rows levels l site holes reach old n label → Extended rows levels l site holes reach new n label
+  pub entry_kept : (n : ℕ) (label : Label) (place : ℕ) → EntryJoined g old n label place → EntryJoined g new n label place
+  unfolding EntryJoined
+  entry_kept n label place joined m is = move_kept n label m (joined m is)
+
+  pub extended_kept : (n : ℕ) (label : Label) → Extended g old n label → Extended g new n label
   unfolding MovesExtended
-  extended_kept rows site holes n label (inl moves) = inl (λ m has. move_kept label n m (moves m has))
-  extended_kept rows site holes n label (inr runs) = inr (record { cells = runs.cells; placed = runs.placed; joined = λ to lt. runs_kept label to (row_at runs.cells to) (runs.joined to lt) })
+  extended_kept n label (inl moves) = inl (λ m has. move_kept n label m (moves m has))
+  extended_kept n label (inr runs) = inr (record { sought = runs.sought; cells = runs.cells; are = runs.are; low = runs.low; slack = runs.slack; joined = λ to lt. runs_kept n label to (row_at runs.cells to) (runs.joined to lt) })
 
-  pub placed_kept : (rows : List Row) (site : Site) (holes : List Defect) (n : ℕ) → g ≤ n → RowPlaced rows levels l site holes reach old n → RowPlaced rows levels l site holes reach new n
+  pub placed_kept : (n : ℕ) → from ≤ n → RowPlaced g old n → RowPlaced g new n
   unfolding RowPlaced
-  placed_kept rows site holes n le placed =
-      subst (λ row. (k : ℕ) (d : Label) → k < length row → Extended rows levels l site holes reach new n (get_or row k d)) (sym (s.same n le))
-      (λ k d lt. extended_kept rows site holes n (get_or (row_at old n) k d) (placed k d lt))
+  placed_kept n le placed =
+      subst (λ row. (k : ℕ) (d : Label) → k < length row → Extended g new n (get_or row k d)) (sym (s.same n le)) (λ k d lt. extended_kept n (get_or (row_at old n) k d) (placed k d lt))
 
-pub runs_joined : (levels : List Level) (l : Limits) (reach : ℕ) (pool : List (List Label)) (label : Label) (to : ℕ) (runs : List Label) → ((k : ℕ) (d : Label) → k < length runs → RunJoined levels l reach pool label to (get_or runs k d)) →
-    RunsJoined levels l reach pool label to runs
-unfolding RunsJoined RunJoined HeldTo
-runs_joined levels l reach pool label to runs each x d w right low up own (cells, has, stands) sum can =
-    contained_each (λ (cells : Label). RunJoined levels l reach pool label to cells) runs each cells has x d w right low up own stands sum can
+module _ (g : Ground) (pool : List (List Label)) (n : ℕ) where
+  pub runs_joined : (label : Label) (to : ℕ) (runs : List Label) → ((k : ℕ) (d : Label) → k < length runs → RunJoined g pool n label to (get_or runs k d)) → RunsJoined g pool n label to runs
+  unfolding RunsJoined RunJoined HeldTo
+  runs_joined label to runs each x d w right low up own (cells, has, stands) can = contained_each (λ (cells : Label). RunJoined g pool n label to cells) runs each cells has x d w right low up own stands can
+
+  pub runs_none : (label : Label) (to : ℕ) (runs : List Label) → runs ≡ [] → RunsJoined g pool n label to runs
+  unfolding RunsJoined
+  runs_none label to runs none x d w right low up own held can = absurd (held_none runs w d right up none held)
+
+  -- where no band goes on
+  pub none_extended : (label : Label) → NoneGoesOn g n label → Extended g pool n label
+  unfolding NoneGoesOn MovesExtended MoveJoined
+  none_extended label none = inl (λ m has x d w right low up own next can. absurd (none m.to x d w right low up own can))
+
+  pub row_none : row_at pool n ≡ [] → RowPlaced g pool n
+  unfolding RowPlaced
+  row_none none k d lt = absurd (omega (arith, lt, ap length none))
+
+  -- each band of the list goes on, or leaves more than it may
+  pub all_joined : (label : Label) (slack : ℕ) → g.limits.bound ≤ g.limits.top → HasBands g.rows.now n g.limits.top (bands_at g.levels.now n) (list_at g.levels.now n g.limits.class) → IsSlack g n label slack →
+      ((e : Keyed) → Contains (list_at g.levels.now n g.limits.class) e → e.key ≤ slack → EntryJoined g pool n label e.place) → Extended g pool n label
+  unfolding MovesExtended EntryJoined MoveJoined HasBands Listed IsSlack
+  all_joined label slack bound bands most joined = inl (λ m has x d w right low up own next can.
+      let listed = bands has.0 m has.1 (omega (arith, ap (λ (b : Move). b.label.across.least) has.2, least_first m.label.across w next.1, can.end.narrow, bound)) in
+      let less : g.limits.top * m.label.along.least ≤ g.limits.top * d = mul-le g.limits.top m.label.along.least g.limits.top d (omega arith) (least_first m.label.along d next.0) in
+      let waste : waste_of g.rows.now n g.limits.top m ≤ slack = omega (arith, less, most m.to x d w right low up own can) in
+      let key : listed.0.key ≤ slack = omega (arith, listed.3, ap (waste_of g.rows.now n g.limits.top) has.2, waste) in
+      joined listed.0 listed.1 key m (ap (slice_get (bands_at g.levels.now n)) listed.2 ∙ at_place (bands_at g.levels.now n) m has) x d w right low up own next can)
+
+-- how much a band may leave
+pub slack_more : (g : Ground) (n : ℕ) (label : Label) (slack more : ℕ) → slack ≤ more → IsSlack g n label slack → IsSlack g n label more
+unfolding IsSlack
+slack_more g n label slack more le is to x d w right low up own can = omega (arith, is to x d w right low up own can, le)
+
+pub can_leave : (g : Ground) (n to x d w right low up area up_to : ℕ) → g.limits.bound ≤ g.limits.top → up_to ≤ low → (can : CanGoOn g n to x d w right low up) → area ≤ can.area →
+    g.limits.top * d - (area_at g.rows.now n - area_at g.rows.now to) ≤ g.limits.top * (g.limits.height - up_to) - area
+can_leave g n to x d w right low up area up_to bound below can least =
+    let h : ℕ = g.limits.height in
+    let rest : can.end.area ≤ w * (h - (low + d)) = omega (arith, can.end.within, mul-le w (h - up) w (h - (low + d)) (omega arith) (omega (arith, can.above))) in
+    least_waste g.limits.top w h low d up_to d area (area_at g.rows.now n - area_at g.rows.now to) can.area can.end.area (omega (arith, can.end.narrow, bound)) below (omega arith) (omega (arith, can.above, can.end.top)) least can.split rest
+
+pub can_hold : (g : Ground) (n to x d w right low up up_to : ℕ) → g.limits.bound ≤ g.limits.top → up_to ≤ low → (can : CanGoOn g n to x d w right low up) → can.area ≤ g.limits.top * (g.limits.height - up_to)
+can_hold g n to x d w right low up up_to bound below can = omega (arith, can.within, less_glass w g.limits.top g.limits.height low up_to (omega (arith, can.end.narrow, bound)) below)
 
 -- right sides
 pub ends_placed_kept : (b : Problem) (holes : List Defect) (far most g : ℕ) (old new : List (List Label)) (m plate begin : ℕ) (strips : List Label) → Spreads g old new → EndsPlaced b holes far most old m plate begin strips →
@@ -111,6 +160,10 @@ pub ends_of_each : (b : Problem) (holes : List Defect) (far most : ℕ) (sides :
 unfolding EndsPlaced HeldTo
 ends_of_each b holes far most sides m plate begin strips each width right (strip, has, stands) sum within line near =
     contained_each (λ (strip : Label). EndsPlaced b holes far most sides m plate begin (strip ∷ [])) strips each strip has width right (strip, (0, omega arith, refl), stands) sum within line near
+
+pub ends_empty : (b : Problem) (holes : List Defect) (far most : ℕ) (sides : List (List Label)) (m plate begin : ℕ) (strips : List Label) → strips ≡ [] → EndsPlaced b holes far most sides m plate begin strips
+unfolding EndsPlaced
+ends_empty b holes far most sides m plate begin strips none width right held sum within line near = absurd (held_none strips b.params.height width right b.params.height none held)
 
 pub one_stands : (strip : Label) (x y right up : ℕ) → HeldTo (strip ∷ []) x y right up → Stands strip x y right up
 unfolding HeldTo

@@ -55,16 +55,16 @@ last_few : (b : Problem) (f : Front) (plate from : ℕ) (strip : Strip) (strips 
 last_few b f plate from strip [] are = are.0.few
 last_few b f plate from strip (next ∷ strips) are = last_few b (after_bands f strip.bands) strip.plate strip.right next strips are.1
 
--- where the last plate cannot end within a length, no course is so short
+-- where no last plate can end before a length that is no more than that, no course is so short
 pub none_shorter : (b : Problem) (rows : List Row) → IsLattice b rows → (to_go : ℕ → ℕ) → to_go 0 ≡ 0 → ((n : ℕ) → n < length rows → IsToGo b rows to_go n) → (most : ℕ) (sides : List (List Label)) → ((n : ℕ) → 1 ≤ n → n < length rows → SidesGoOn b rows to_go most sides n) →
-    1 ≤ length rows - 1 → HeldAt sides (length rows - 1) 0 0 →
-    ((right plate : ℕ) → HeldAt sides 0 right plate → plate < b.params.plates → Gap b.params.waste right (Width b plate) → most < Before b plate + right) → NoCourseShorter b (most + 1)
-none_shorter b rows h to_go zero_is far most sides goes some held none [] is =
+    1 ≤ length rows - 1 → HeldAt sides (length rows - 1) 0 0 → (least : ℕ) → least ≤ most + 1 →
+    ((right plate : ℕ) → HeldAt sides 0 right plate → plate < b.params.plates → Gap b.params.waste right (Width b plate) → least ≤ Before b plate + right) → NoCourseShorter b least
+none_shorter b rows h to_go zero_is far most sides goes some held least le none [] is =
     absurd (omega (arith, last_row b rows h (length rows - 1) no_item (first_row b rows h) is.full, some))
-none_shorter b rows h to_go zero_is far most sides goes some held none (strip ∷ strips) is =
+none_shorter b rows h to_go zero_is far most sides goes some held least le none (strip ∷ strips) is =
     elim (cases_lt most (course_length b (strip ∷ strips))) [
-      | inl longer ↦ omega (arith, longer)
+      | inl longer ↦ omega (arith, longer, le)
       | inr near ↦
           let ends = course_held b rows h to_go zero_is far most sides goes (strip ∷ strips) (length rows - 1) no_item 0 0 (first_row b rows h) is.strips is.full near held in
-          absurd (omega (arith, none (last_right 0 (strip ∷ strips)) (last_plate 0 (strip ∷ strips)) ends (last_few b no_item 0 0 strip strips is.strips) is.rest, near))
+          none (last_right 0 (strip ∷ strips)) (last_plate 0 (strip ∷ strips)) ends (last_few b no_item 0 0 strip strips is.strips) is.rest
     ]

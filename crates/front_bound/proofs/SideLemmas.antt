@@ -173,9 +173,6 @@ sides_next b rows to_go most first done row old new is lt s goes before n after 
           subst (SidesGoOn b rows to_go most new) same goes
     ]
 
-pub goes_as : (b : Problem) (rows shown : List Row) (levels seen : List Level) (most : ℕ) (sides : List (List Label)) (n : ℕ) → shown ≡ rows → seen ≡ levels → SidesGoOn b shown (to_go_at seen) most sides n → SidesGoOn b rows (to_go_at levels) most sides n
-goes_as b rows shown levels seen most sides n e1 e2 goes = subst (λ l. SidesGoOn b rows (to_go_at l) most sides n) e2 (subst (λ r. SidesGoOn b r (to_go_at seen) most sides n) e1 goes)
-
 -- a class behind each begin: those that are clear of defects, and each of the others
 pub class_joined : (b : Problem) (rows : List Row) (to_go : ℕ → ℕ) (most : ℕ) (sides : List (List Label)) (n : ℕ) (begins clear : List Label) (plate low top room left : ℕ) →
     ((k : ℕ) (d : Label) → k < length begins → Contains clear (get_or begins k d) ⊎ ClassGoesOn b rows to_go most sides n (get_or begins k d ∷ []) plate low top room left) → ClassGoesOn b rows to_go most sides n clear plate low top room left →
@@ -196,6 +193,12 @@ class_kept b rows to_go most g old new n begins plate low top room left s goes f
 pub class_none : (b : Problem) (rows : List Row) (to_go : ℕ → ℕ) (most : ℕ) (sides : List (List Label)) (n : ℕ) (begin : Label) (plate low top room left : ℕ) → (Has begin.across plate → ⊥) → ClassGoesOn b rows to_go most sides n (begin ∷ []) plate low top room left
 unfolding ClassGoesOn
 class_none b rows to_go most sides n begin plate low top room left none f at from held w bands is wide narrow roomy m to near = absurd (none (one_held begin from plate held).1)
+
+-- no strip of the class is so narrow
+pub class_narrow : (b : Problem) (rows : List Row) (to_go : ℕ → ℕ) (most : ℕ) (sides : List (List Label)) (n : ℕ) (begins : List Label) (plate low top room left bound : ℕ) → bound < low → ((w : ℕ) → w ≤ top → w ≤ b.params.max1 → w ≤ room → w ≤ bound) →
+    ClassGoesOn b rows to_go most sides n begins plate low top room left
+unfolding ClassGoesOn
+class_narrow b rows to_go most sides n begins plate low top room left bound below fits f at from held w bands is wide narrow roomy m to near = absurd (omega (arith, fits w narrow is.narrow roomy, wide, below))
 
 pub none_left : (n : ℕ) → true ≡ (n == 0) → n ≡ 0
 none_left n e = grind (arith, nat_tests)

@@ -79,7 +79,7 @@ cell_within b high f (pair p q) can =
       mul_comm w high,
     )
 
-cells_within : (b : Problem) (high : ℕ) (f : Front) (cells : List Cell) → AllStand b high f cells → cells_area b f cells ≤ high * cells_width b f cells
+pub cells_within : (b : Problem) (high : ℕ) (f : Front) (cells : List Cell) → AllStand b high f cells → cells_area b f cells ≤ high * cells_width b f cells
 cells_within b high f [] stand = omega arith
 cells_within b high f (c ∷ cells) stand =
     omega (arith, cell_within b high f c stand.0, cells_within b high (after_cell f c) cells stand.1, mul-add high (cell_width b f c) (cells_width b (after_cell f c) cells))
@@ -106,6 +106,9 @@ stacks_some : (cells : List Cell) → length cells ≤ length (stacks_of cells)
 stacks_some [] = omega arith
 stacks_some (alone p ∷ cells) = omega (arith, stacks_some cells)
 stacks_some (pair p q ∷ cells) = omega (arith, stacks_some cells)
+
+pub stacks_more : (band : Band) (bands : List Band) → 1 ≤ length band.cells → 1 ≤ length (stacks_in (band ∷ bands))
+stacks_more band bands some = omega (arith, length-append (stacks_of band.cells) (stacks_in bands), stacks_some band.cells, some)
 
 -- a row to which items lead from another, and their area
 pub record Path (b : Problem) (rows : List Row) (n : ℕ) (to : Front) (cover : ℕ) : Type 0 where
@@ -148,7 +151,7 @@ bands_left b rows h width bands n f at are m to =
     let p : Path b rows n (after_bands f bands) (bands_area b f bands) = bands_path b rows h width bands n f at are in
     omega (arith, p.left, ap (area_at rows) (one_row b rows h p.row m (after_bands f bands) p.at to))
 
-behind_at : (b : Problem) (rows : List Row) (levels : List Level) (cover : ℕ) (to_go : ℕ → ℕ) (start : ℕ) → Ready b rows levels cover to_go start → (n : ℕ) → n ≤ start → EndsBehind b rows cover to_go n (ends_at levels n)
+pub behind_at : (b : Problem) (rows : List Row) (levels : List Level) (cover : ℕ) (to_go : ℕ → ℕ) (start : ℕ) → Ready b rows levels cover to_go start → (n : ℕ) → n ≤ start → EndsBehind b rows cover to_go n (ends_at levels n)
 behind_at b rows levels cover to_go start r n le f at stacks some takes m to area left few =
     elim (cases_lt n start) [
       | inl below ↦ r.ends n below f at stacks takes m to area left few
@@ -178,7 +181,7 @@ bands_held b rows h levels l cover fit to_go start r pool closed w narrow (band 
     let few : all ≤ cover = omega (arith, here, mul-le w (l.height - x) l.bound l.height narrow (omega arith), fit.covered) in
     let to_all : At b rows m (after_items f (stacks_in (band ∷ bands))) = subst (λ k. At b rows m k) (sym (after_in f (band ∷ bands))) to in
     let to_more : At b rows m (after_items g (stacks_in bands)) = subst (λ k. At b rows m k) (sym (after_in g bands)) to in
-    let some : 1 ≤ length (stacks_in (band ∷ bands)) = omega (arith, length-append (stacks_of band.cells) (stacks_in bands), stacks_some band.cells, are.0.some) in
+    let some : 1 ≤ length (stacks_in (band ∷ bands)) = stacks_more band bands are.0.some in
     let before : Ended (ends_at levels n) all (to_go m) = behind_at b rows levels cover to_go start r n le f at (stacks_in (band ∷ bands)) some (bands_take b w f (band ∷ bands) are) m to_all all left few in
     let behind : Ended (ends_at levels mv.move.to) more (to_go m) =
     r.ends mv.move.to (omega (arith, mv.down, le)) g mv.at (stacks_in bands) (bands_take b w g bands are.1) m to_more more later (omega (arith, few)) in

@@ -1,5 +1,5 @@
 -- What is tried of strips, and what is passed over.
-use Rattle.std.proofs.Common.{◌≡◌, ℕ, ◌+◌, ◌*◌, ◌-◌, ◌<◌, ◌≤◌, List, length, get_or, ap, ◌∙◌, subst, arith, Some, Contains, slice_get}
+use Rattle.std.proofs.Common.{◌≡◌, ℕ, ◌+◌, ◌*◌, ◌-◌, ◌<◌, ◌≤◌, List, [], length, get_or, ap, ◌∙◌, subst, arith, Some, Contains, slice_get}
 use Rattle.std.proofs.Math.Nat.{mul-add}
 use Rattle.std.proofs.lemmas.Nat.{mul-le}
 use Rattle.std.proofs.lemmas.Option.{slice_get-get_or}
@@ -16,7 +16,7 @@ use Rattle.front_bound.specs.inner.Levels.{bands_at, ends_at, list_at}
 use Rattle.front_bound.specs.inner.Lists.{Listed, HasBands, waste_of}
 use Rattle.front_bound.specs.inner.Pools.{row_at, Spreads}
 use Rattle.front_bound.specs.inner.Tries.{Tried, EntryTried, Extended, RowExtended}
-use Rattle.front_bound.proofs.HeldLists.{least_first}
+use Rattle.front_bound.proofs.HeldLists.{least_first, fits_none}
 use Rattle.front_bound.proofs.PoolRows.{kept_at}
 
 -- glass above a band of a strip that is no wider than this
@@ -48,6 +48,11 @@ pub row_kept : (rows : List Row) (levels : List Level) (l : Limits) (g : ℕ) (o
 unfolding RowExtended
 row_kept rows levels l g old new n s le extended x w held m has d next may =
     kept_at g old new s m.to (x + d) w (extended x w (subst (λ row. Held row x w) (s.same n le) held) m has d next may)
+
+-- where no label leads to the row
+pub row_empty : (rows : List Row) (levels : List Level) (l : Limits) (pool : List (List Label)) (n : ℕ) → row_at pool n ≡ [] → RowExtended rows levels l pool n
+unfolding RowExtended
+row_empty rows levels l pool n none x w held m has d next may = absurd (fits_none (row_at pool n) x w none held)
 
 -- each label of a row is extended
 pub row_extended : (rows : List Row) (levels : List Level) (l : Limits) (pool : List (List Label)) (n : ℕ) → ((k : ℕ) (d : Label) → k < length (row_at pool n) → Extended rows levels l pool n (get_or (row_at pool n) k d)) →

@@ -9,4 +9,5 @@ pub mod Tries
 pub mod Ready
 pub mod Sides
 pub mod Clear
+pub mod Placed
 pub mod Around

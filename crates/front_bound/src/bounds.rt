@@ -1,6 +1,6 @@
 //! Lengths that no lawful plan is below.
 
-ghost use Rattle.std.specs.Prelude.{◌≡◌, ◌≤◌, max, IfOk, true};
+ghost use Rattle.std.specs.Prelude.{◌≡◌, ◌≤◌, IfOk, true};
 ghost use Rattle.front_course.specs.Claims.{LosesAtLeast, NoCourseShorter};
 ghost use Rattle.front_bound.specs.inner.Ready.{IsTable};
 
@@ -9,7 +9,7 @@ use crate::halt::Halt;
 use crate::lattice::is_lattice;
 use crate::levels::to_go;
 use crate::pools::Pool;
-use crate::runs::may_reach;
+use crate::runs::least_reached;
 use crate::table::{Table, levels_of};
 use front_course::laws::courses_bound_losses;
 use glass_base::{Instance, Memory};
@@ -20,9 +20,6 @@ const FIRST_STEP: u64 = 8;
 
 /// How often it is raised at the most, each time by half as much again.
 const ROUNDS: u32 = 64;
-
-/// How often the rest is halved behind that.
-const HALVES: u32 = 20;
 
 /// What is to go from the first front.
 fn base_of(table: &Table) -> u64 {
@@ -79,8 +76,11 @@ fn is_shown(
     if length == 0 {
         return Ok(true);
     }
-    let reached = may_reach(alloc, instance, table, length - 1, limit)?;
-    Ok(!reached)
+    let least = least_reached(alloc, instance, &table.lend(), length - 1, limit)?;
+    if least < length {
+        return Ok(false);
+    }
+    Ok(true)
 }
 
 /// The same, with the table of fronts made for it.
@@ -117,73 +117,23 @@ pub fn is_no_shorter(
     }
 }
 
-/// A greater length, where it is shown that no course is shorter, else the one before.
-fn raise(
-    alloc: Global,
-    instance: &Instance,
-    table: &Table,
-    shown: u64,
-    next: u64,
-    limit: u64,
-) -> Result<u64, Halt>
-    requires table { IsTable instance.now table.now }
-    requires shown { NoCourseShorter instance.now shown }
-    ensures shown { IfOk result (NoCourseShorter instance.now) }
-    ensures most { IfOk result (λ least. least ≤ max shown next) }
-{
-    if is_shown(alloc, instance, table, next, limit)? {
-        Ok(next)
-    } else {
-        Ok(shown)
-    }
-}
-
-/// The greatest length up to one that is not shown of which it is shown that no course is shorter, by halves.
-fn halve(
-    alloc: Global,
-    instance: &Instance,
-    table: &Table,
-    shown: u64,
-    unshown: u64,
-    limit: u64,
-) -> Result<u64, Halt>
-    requires table { IsTable instance.now table.now }
-    requires shown { NoCourseShorter instance.now shown }
-    requires unshown { shown ≤ unshown }
-    ensures shown { IfOk result (NoCourseShorter instance.now) }
-    ensures most { IfOk result (λ least. least ≤ unshown) }
-{
-    let mut low = shown;
-    let mut high = unshown;
-    for _ in 0..HALVES {
-        let middle = low + (high - low) / 2;
-        let raised = raise(alloc, instance, table, low, middle, limit)?;
-        if raised == middle {
-            low = middle;
-        } else {
-            high = middle;
-        }
-    }
-    Ok(low)
-}
-
 /// The greatest length up to `most` of which it is shown that no course is shorter.
 fn longest(alloc: Global, instance: &Instance, most: u64, limit: u64) -> Result<u64, Halt>
     ensures shown { IfOk result (NoCourseShorter instance.now) }
     ensures most { IfOk result (λ least. least ≤ most) }
 {
     let table = table_of(alloc, instance, limit)?;
-    let base = base_of(&table).min(most);
     let mut shown = 0;
-    let mut next = base;
+    let mut next = base_of(&table).min(most);
     let mut step = FIRST_STEP;
     for _ in 0..ROUNDS {
-        let raised = raise(alloc, instance, &table, shown, next, limit)?;
-        if raised < next {
-            return halve(alloc, instance, &table, shown, next, limit);
-        }
-        shown = next;
-        if next == most {
+        let least = match least_reached(alloc, instance, &table.lend(), next, limit) {
+            Ok(least) => least,
+            Err(Halt::Limit) => return Ok(shown),
+            Err(Halt::Memory) => return Err(Halt::Memory),
+        };
+        shown = least.min(most);
+        if least <= next || next == most {
             return Ok(shown);
         }
         next = next.saturating_add(step).min(most);
@@ -192,8 +142,9 @@ fn longest(alloc: Global, instance: &Instance, most: u64, limit: u64) -> Result<
     Ok(shown)
 }
 
-/// The greatest length up to `most`, in mm, of which it is shown that no lawful plan is shorter, by raising it step by step. 0, which says nothing, where there
-/// are more than `limit` fronts, or more than `limit` labels would be looked at in a search.
+/// The greatest length up to `most`, in mm, of which it is shown that no lawful plan is shorter: searches within a growing length, the last of which comes to
+/// an end. Where more than `limit` labels would be looked at in one of them, it is what those before have shown; where there are more than `limit` fronts, it
+/// is 0, which says nothing.
 pub fn longest_shown(
     alloc: Global,
     instance: &Instance,

@@ -1,6 +1,6 @@
 //! Where strips can end: staircases of the area before an end and of what is to go from there.
 
-ghost use Rattle.std.specs.Prelude.{◌≡◌, ℕ, ◌+◌, ◌<◌, ◌≤◌, Contains, IsTrue, IfNone, IfSome, IfOk, OnOk, length, ◌⊎◌};
+ghost use Rattle.std.specs.Prelude.{◌≡◌, ℕ, ◌+◌, ◌-◌, ◌<◌, ◌≤◌, Contains, IsTrue, IfNone, IfSome, IfOk, OnOk, length, ◌⊎◌};
 ghost use Rattle.front_bound.specs.declared.ends.End.{End as EndOf};
 ghost use Rattle.front_bound.specs.inner.Ends.{Ended, Falls, area_of, to_go_of};
 
@@ -10,10 +10,10 @@ use std::alloc::Global;
 /// A front that a strip can end at, seen from an earlier one.
 #[derive(Clone, Copy)]
 pub struct End {
-    /// The area of the items between the two, in mm².
-    pub area: u64,
-    /// The least width of strips from there to the last front, in mm.
-    pub to_go: u64,
+    /// No more than the area of the items between the two, in mm².
+    pub area: u32,
+    /// No more than the least width of strips from there to the last front, in mm.
+    pub to_go: u32,
 }
 
 /// The area before the end at this place.
@@ -21,7 +21,7 @@ fn area_in(ends: &[End], at: usize) -> u64
     requires { at < length ends.now }
     ensures { result ≡ area_of ends.now at }
 {
-    ends[at].area
+    u64::from(ends[at].area)
 }
 
 /// What is to go from the end at this place.
@@ -29,7 +29,7 @@ fn to_go_in(ends: &[End], at: usize) -> u64
     requires { at < length ends.now }
     ensures { result ≡ to_go_of ends.now at }
 {
-    ends[at].to_go
+    u64::from(ends[at].to_go)
 }
 
 /// Halves the places of which it is not known whether more is to go from there than this.
@@ -80,39 +80,46 @@ pub fn near(ends: &[End], within: u64) -> Option<u64>
     }
 }
 
-/// Halves the places of which it is not known whether more area is before the end there than this.
-fn halve_above(ends: &[End], low: usize, high: usize, area: u64) -> (usize, usize)
-    requires some { low < high }
-    requires bound { high ≤ length ends.now }
+/// Of `size` places from `base` on at which it is not known whether more area is before the ends there than this, the first of those that are left when `half`
+/// of them are taken away.
+fn step_above(ends: &[End], base: usize, size: usize, half: usize, area: u64) -> usize
+    requires some { 1 ≤ size }
+    requires half { half + half ≤ size }
+    requires bound { base + size ≤ length ends.now }
     requires falls { Falls ends.now }
-    ensures bound { result.1 ≤ length ends.now }
-    ensures above { (i : ℕ) → result.1 ≤ i → i < length ends.now → (high ≤ i) ⊎ (area < area_of ends.now i) }
+    ensures bound { result + (size - half) ≤ base + size }
+    ensures above { (i : ℕ) → result + (size - half) ≤ i → i < length ends.now → (base + size ≤ i) ⊎ (area < area_of ends.now i) }
 {
-    let middle = low + (high - low) / 2;
+    let middle = base + half;
     if area_in(ends, middle) > area {
-        (low, middle)
-    } else {
-        (middle + 1, high)
+        return base;
     }
+    middle
 }
 
-/// A place from which on each end has more area before it than this.
+/// A place from which on each end has more area before it than this, where the one before has not.
 fn first_above(ends: &[End], area: u64) -> usize
     requires { Falls ends.now }
     ensures bound { result ≤ length ends.now }
     ensures above { (i : ℕ) → result ≤ i → i < length ends.now → area < area_of ends.now i }
 {
-    let mut low = 0;
-    let mut high = ends.len();
+    let mut base = 0;
+    let mut size = ends.len();
     for _ in 0..64 {
-        if low >= high {
+        if size <= 1 {
             break;
         }
-        let halves = halve_above(ends, low, high, area);
-        low = halves.0;
-        high = halves.1;
+        let half = size / 2;
+        base = step_above(ends, base, size, half, area);
+        size -= half;
     }
-    high
+    if base >= ends.len() {
+        return base;
+    }
+    if area_in(ends, base) > area {
+        return base;
+    }
+    base + size
 }
 
 /// Whether more than this is to go from each end that has no more than this area before it.
@@ -120,6 +127,18 @@ pub fn is_beyond(ends: &[End], area: u64, within: u64) -> bool
     requires { Falls ends.now }
     ensures { IsTrue result → (a t : ℕ) → Ended ends.now a t → a ≤ area → within < t }
 {
+    let len = ends.len();
+    if len == 0 {
+        return true;
+    }
+    // (from the last one the least is to go, and it is mostly this one that decides)
+    let least = to_go_in(ends, len - 1);
+    if least > within {
+        return true;
+    }
+    if area_in(ends, len - 1) <= area {
+        return false;
+    }
     let high = first_above(ends, area);
     if high == 0 {
         return true;

@@ -55,7 +55,8 @@ fn least_end(pool: &Pool, levels: &[Level], start: usize, height: u32) -> u64
     ensures { (m w : ℕ) → m < start → HeldAt pool.now m height w → result ≤ w + to_go_at levels.now m }
 {
     let mut least = FAR;
-    for row in 0..start {
+    let low = pool.low();
+    for row in low..start {
         least = least_in(pool.labels(row), height, to_go(levels, row), least);
     }
     least
@@ -119,7 +120,40 @@ fn least_in_class(
     Ok(least)
 }
 
-/// The least that strips leave to go from a row, where it is no more than `limit`, else more than that.
+/// What strips of one class leave to go from a row; any number where none is within the limit.
+fn least_hinted(
+    instance: &Instance,
+    rows: &[Row],
+    tops: &[u32],
+    levels: &[Level],
+    pool: &mut Pool,
+    start: usize,
+    class: usize,
+    limit: u64,
+    cover: u64,
+) -> Result<u64, Halt>
+    requires pool { start < length pool.old }
+    requires lattice { IsLattice instance.now rows.now }
+    requires opened { Opened instance.now rows.now tops.now cover levels.now start }
+    requires cover { instance.now.params.max1 * instance.now.params.height ≤ cover }
+    ensures { OnOk result (length pool.new ≡ length pool.old) }
+{
+    if class >= tops.len() {
+        return Ok(FAR);
+    }
+    let low = if class == 0 {
+        instance.params().min1
+    } else {
+        tops[class - 1].saturating_add(1)
+    };
+    let least = least_in_class(
+        instance, rows, tops, levels, pool, start, class, low, limit, cover,
+    )?;
+    Ok(least)
+}
+
+/// The least that strips leave to go from a row, where it is no more than `limit`, else more than that. `hint` is the class in which a strip was found last: it is
+/// looked at first, since what is found there bounds the search in the others.
 fn least_strip(
     instance: &Instance,
     rows: &[Row],
@@ -129,6 +163,7 @@ fn least_strip(
     start: usize,
     limit: u64,
     cover: u64,
+    hint: &mut usize,
 ) -> Result<u64, Halt>
     requires pool { start < length pool.old }
     requires lattice { IsLattice instance.now rows.now }
@@ -138,13 +173,19 @@ fn least_strip(
     ensures least { IfOk result (LeavesLeast instance.now rows.now (to_go_at levels.now) start) }
 {
     let params = instance.params();
-    let mut found = FAR;
+    let first = least_hinted(
+        instance, rows, tops, levels, pool, start, *hint, limit, cover,
+    )?;
+    let mut found = first;
     let mut low = params.min1;
     for class in 0..tops.len() {
         let most = limit.min(found.saturating_sub(1));
         let least = least_in_class(
             instance, rows, tops, levels, pool, start, class, low, most, cover,
         )?;
+        if least < found {
+            *hint = class;
+        }
         found = found.min(least);
         let Some(next) = tops[class].checked_add(1) else {
             return Ok(0);
@@ -167,6 +208,7 @@ pub fn far_from(
     start: usize,
     base: u64,
     cover: u64,
+    hint: &mut usize,
 ) -> Result<u64, Halt>
     requires pool { start < length pool.old }
     requires lattice { IsLattice instance.now rows.now }
@@ -178,12 +220,14 @@ pub fn far_from(
     let mut step = FIRST_STEP;
     for _ in 0..ROUNDS {
         let limit = base.saturating_add(step);
-        let least = least_strip(instance, rows, tops, levels, pool, start, limit, cover)?;
+        let least = least_strip(
+            instance, rows, tops, levels, pool, start, limit, cover, hint,
+        )?;
         if least <= limit {
             return Ok(least);
         }
         step = step.saturating_mul(2);
     }
-    let least = least_strip(instance, rows, tops, levels, pool, start, FAR, cover)?;
+    let least = least_strip(instance, rows, tops, levels, pool, start, FAR, cover, hint)?;
     Ok(least)
 }

@@ -1,12 +1,11 @@
 //! Bands in lists by least waste, so that a search can end where no band fits that leaves more.
 
 ghost use Rattle.std.specs.Prelude.{◌≡◌, ℕ, ◌*◌, ◌-◌, ◌<◌, ◌≤◌, IsTrue, IfOk, OnOk, length, slice_index_or};
-ghost use Rattle.front_bound.specs.inner.Lattice.{area_at};
 ghost use Rattle.front_bound.specs.inner.Lists.{HasBands, Listed, Rises, key_in, waste_of};
 
 use crate::halt::Halt;
 use crate::moves::Move;
-use crate::rows::{Row, area_left};
+use crate::rows::{Row, waste_left};
 use std::alloc::Global;
 
 /// A band in a list by least waste.
@@ -22,9 +21,8 @@ pub struct Keyed {
 fn key_of(rows: &[Row], row: usize, top: u32, band: &Move) -> u32
     ensures { result ≤ waste_of rows.now row top band.now }
 {
-    let glass = u64::from(top) * u64::from(band.label.along.least);
-    let own = area_left(rows, row).saturating_sub(area_left(rows, band.to as usize));
-    glass.saturating_sub(own).min(u64::from(u32::MAX)) as u32
+    let waste = waste_left(rows, row, band.to as usize, top, band.label.along.least);
+    waste.min(u64::from(u32::MAX)) as u32
 }
 
 /// Appends an entry.

@@ -1,31 +1,20 @@
 //! Bands around defects: cells one behind the other, each item at one of its least places.
 
-ghost use Rattle.std.specs.Prelude.{◌≡◌, ℕ, ◌+◌, ◌<◌, ◌≤◌, All, length, OnOk};
-ghost use Rattle.front_bound.specs.inner.Clear.{CellJoined, CellsGoOn, CellsPlaced, Covered};
+ghost use Rattle.std.specs.Prelude.{◌≡◌, ℕ, ◌+◌, ◌<◌, ◌≤◌, All, IsTrue, length, OnOk};
+ghost use Rattle.front_bound.specs.inner.Clear.{Covered};
 ghost use Rattle.front_bound.specs.inner.Lattice.{LeadDown, moves_at};
+ghost use Rattle.front_bound.specs.inner.Placed.{CellJoined, CellsGoOn, CellsPlaced, IsLean};
 ghost use Rattle.front_bound.specs.inner.Pools.{Spreads, row_at};
-ghost use Rattle.front_bound.specs.inner.Sets.{Fits, HeldTo, Stands};
+ghost use Rattle.front_bound.specs.inner.Sets.{Fits, HeldTo};
 
+use crate::ground::{Ground, Sought};
 use crate::halt::Halt;
 use crate::labels::Label;
 use crate::moves::Move;
 use crate::places::{Piece, Place, least_places};
 use crate::pools::Pool;
-use crate::rows::{Row, moves_of};
+use crate::rows::{area_left, glass_of, moves_of};
 use crate::sets::SizeSet;
-use glass_base::Defect;
-
-/// Where strips begin, and how far they may reach, in mm.
-#[derive(Clone, Copy)]
-pub struct Site {
-    pub left: u32,
-    pub room: u32,
-    pub height: u32,
-    pub widest: u32,
-    /// The least height of a band.
-    pub least: u32,
-    pub waste: u32,
-}
 
 /// Lists of places that are used again.
 #[derive(Drop)]
@@ -74,25 +63,46 @@ fn join_places(
     Ok(())
 }
 
-/// Goes on from a label by a cell, above `low`.
+/// Whether cells that lead to a row, at least so wide in a band at least so high, leave more beside and over them than the band may.
+fn is_wasteful(ground: &Ground<'_>, sought: &Sought, to: usize, wide: u32, high: u32) -> bool
+    ensures { IsTrue result → (x y : ℕ) → wide ≤ x → high ≤ y → IsLean ground.now sought.now to x y → ⊥ }
+{
+    let used = glass_of(wide, high).saturating_add(area_left(ground.rows, to));
+    let most = sought
+        .slack
+        .saturating_add(area_left(ground.rows, sought.start));
+    if used > most {
+        return true;
+    }
+    false
+}
+
+/// Goes on from a label by a cell.
 fn join_cell(
     pool: &mut Pool,
-    site: &Site,
-    holes: &[Defect],
     lists: &mut Lists,
+    ground: &Ground<'_>,
+    sought: &Sought,
     label: &Label,
     cell: &Move,
-    low: u32,
 ) -> Result<(), Halt>
     requires { cell.now.to < length pool.old }
     ensures spreads { OnOk result (Spreads (cell.now.to + 1) pool.old pool.new) }
-    ensures joined { OnOk result (CellJoined site.now holes.now low pool.new label.now cell.now) }
+    ensures joined { OnOk result (CellJoined ground.now sought.now pool.new label.now cell.now) }
 {
+    let site = ground.site;
     let Some(sum) = label.along.plus(&cell.label.along, site.widest) else {
         return Ok(());
     };
     let shared = label.across.meet(&cell.label.across);
     if shared.least > site.height {
+        return Ok(());
+    }
+    let top = sought.low.saturating_add(shared.least);
+    if top > site.height {
+        return Ok(());
+    }
+    if is_wasteful(ground, sought, cell.to as usize, sum.least, shared.least) {
         return Ok(());
     }
     let piece = Piece {
@@ -104,10 +114,10 @@ fn join_cell(
     least_places(
         &mut lists.found,
         &mut lists.next,
-        holes,
+        ground.holes,
         &piece,
         label.right,
-        low,
+        sought.low,
     )?;
     let joined = Label {
         along: sum,
@@ -128,21 +138,20 @@ fn join_cell(
 /// Goes on from a label of a row by each of the cells.
 fn join_cells(
     pool: &mut Pool,
-    site: &Site,
-    holes: &[Defect],
     lists: &mut Lists,
+    ground: &Ground<'_>,
+    sought: &Sought,
     row: usize,
     label: &Label,
     cells: &[Move],
-    low: u32,
 ) -> Result<(), Halt>
     requires row { row ≤ length pool.old }
     requires down { All (λ m. m.to < row) cells.now }
     ensures spreads { OnOk result (Spreads row pool.old pool.new) }
-    ensures joined { OnOk result (All (CellJoined site.now holes.now low pool.new label.now) cells.now) }
+    ensures joined { OnOk result (All (CellJoined ground.now sought.now pool.new label.now) cells.now) }
 {
     for cell in cells {
-        join_cell(pool, site, holes, lists, label, cell, low)?;
+        join_cell(pool, lists, ground, sought, label, cell)?;
     }
     Ok(())
 }
@@ -150,78 +159,76 @@ fn join_cells(
 /// Goes on from each label of a row by each of the cells.
 fn grow_cells(
     pool: &mut Pool,
-    site: &Site,
-    holes: &[Defect],
     lists: &mut Lists,
+    ground: &Ground<'_>,
+    sought: &Sought,
     row: usize,
     cells: &[Move],
-    low: u32,
 ) -> Result<(), Halt>
     requires row { row < length pool.old }
     requires down { All (λ m. m.to < row) cells.now }
     ensures spreads { OnOk result (Spreads row pool.old pool.new) }
-    ensures goes_on { OnOk result (CellsGoOn site.now holes.now low pool.new row cells.now) }
+    ensures goes_on { OnOk result (CellsGoOn ground.now sought.now pool.new row cells.now) }
 {
     for at in 0..pool.labels(row).len() {
         let label = pool.label(row, at);
-        join_cells(pool, site, holes, lists, row, &label, cells, low)?;
+        join_cells(pool, lists, ground, sought, row, &label, cells)?;
     }
     Ok(())
 }
 
-/// Goes on from this row, and from each row that comes to have labels.
+/// Goes on from the row at which the bands begin, and from each row that comes to have labels.
 fn spread_cells(
     pool: &mut Pool,
-    rows: &[Row],
-    site: &Site,
-    holes: &[Defect],
     lists: &mut Lists,
-    start: usize,
-    low: u32,
+    ground: &Ground<'_>,
+    sought: &Sought,
 ) -> Result<(), Halt>
-    requires start { start < length rows.now }
-    requires pool { length pool.old ≡ length rows.now }
-    requires down { LeadDown rows.now }
-    ensures spreads { OnOk result (Spreads start pool.old pool.new) }
-    ensures goes_on { OnOk result ((n : ℕ) → n ≤ start → CellsGoOn site.now holes.now low pool.new n (moves_at rows.now n)) }
+    requires start { sought.now.start < length ground.now.rows.now }
+    requires pool { length pool.old ≡ length ground.now.rows.now }
+    requires down { LeadDown ground.now.rows.now }
+    ensures spreads { OnOk result (Spreads sought.now.start pool.old pool.new) }
+    ensures goes_on { OnOk result ((n : ℕ) → n ≤ sought.now.start → CellsGoOn ground.now sought.now pool.new n (moves_at ground.now.rows.now n)) }
 {
+    let start = sought.start;
     for done in 0..start + 1 {
         let row = start - done;
-        grow_cells(pool, site, holes, lists, row, moves_of(rows, row), low)?;
+        let low = pool.low();
+        if row < low {
+            return Ok(());
+        }
+        grow_cells(pool, lists, ground, sought, row, moves_of(ground.rows, row))?;
     }
     Ok(())
 }
 
-/// All cells from a row on that lie above `low` and right of where the strip begins.
+/// All cells of bands that lie right of where the strip begins.
 pub fn cells_from(
     pool: &mut Pool,
-    rows: &[Row],
-    site: &Site,
-    holes: &[Defect],
     lists: &mut Lists,
-    start: usize,
-    low: u32,
+    ground: &Ground<'_>,
+    sought: &Sought,
 ) -> Result<(), Halt>
-    requires start { start < length rows.now }
-    requires pool { length pool.old ≡ length rows.now }
-    requires down { LeadDown rows.now }
+    requires start { sought.now.start < length ground.now.rows.now }
+    requires pool { length pool.old ≡ length ground.now.rows.now }
+    requires down { LeadDown ground.now.rows.now }
     ensures len { OnOk result (length pool.new ≡ length pool.old) }
-    ensures placed { OnOk result (CellsPlaced rows.now site.now holes.now low pool.new start) }
+    ensures placed { OnOk result (CellsPlaced ground.now sought.now pool.new) }
 {
     pool.clear();
     let none = Label {
         along: SizeSet {
             least: 0,
-            more: site.waste,
+            more: ground.site.waste,
         },
         across: SizeSet {
-            least: site.least,
+            least: ground.site.least,
             more: 0,
         },
-        right: site.left,
+        right: ground.site.left,
         up: 0,
     };
-    pool.offer(start, &none)?;
-    spread_cells(pool, rows, site, holes, lists, start, low)?;
+    pool.offer(sought.start, &none)?;
+    spread_cells(pool, lists, ground, sought)?;
     Ok(())
 }

@@ -102,7 +102,8 @@ pub fn offer_placed_ends(
     ensures spreads { OnOk result (Spreads start sides.old sides.new) }
     ensures held { OnOk result ((m : ℕ) → m < start → EndsPlaced instance.now holes.now (to_go_at levels.now m) most sides.new m plate begin (row_at pool.now m)) }
 {
-    for row in 0..start {
+    let low = pool.low();
+    for row in low..start {
         let far = to_go(levels, row);
         offer_all_placed(
             instance,

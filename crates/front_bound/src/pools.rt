@@ -1,11 +1,11 @@
 //! Labels by the row of the front that they lead to, in lists that are used again.
 
-ghost use Rattle.std.specs.Prelude.{◌≡◌, ℕ, ◌+◌, ◌<◌, ◌≤◌, length, slice_index_or, OnOk, IfOk};
-ghost use Rattle.front_bound.specs.inner.Pools.{HeldAt, Joined, Spreads, row_at};
+ghost use Rattle.std.specs.Prelude.{◌≡◌, ℕ, ◌+◌, ◌<◌, ◌≤◌, [], length, map, slice_index_or, OnOk, IfOk};
+ghost use Rattle.front_bound.specs.inner.Pools.{HeldAt, IsSpan, Joined, Spreads, row_at};
 ghost use Rattle.front_bound.specs.inner.Sets.{Fits, HeldTo, Stands};
 
 use crate::halt::Halt;
-use crate::labels::{Label, offer};
+use crate::labels::{Label, offer, sort_by_reach};
 use crate::moves::Move;
 use std::alloc::Global;
 use std::marker::Model;
@@ -14,6 +14,9 @@ use std::marker::Model;
 #[derive(Drop)]
 pub struct Pool {
     rows: Vec<Vec<Label>>,
+    /// Rows before `low`, and those behind `last`, have no labels: a search comes to few of all rows.
+    low: usize,
+    last: usize,
     /// How many labels may still be offered.
     left: u64,
 }
@@ -21,10 +24,27 @@ pub struct Pool {
 impl Model for Pool {
     ghost use Rattle.std.specs.Prelude.{List, map};
     ghost use Rattle.front_bound.specs.declared.labels.Label.{Label as LabelOf};
+    ghost use Rattle.front_bound.specs.inner.Pools.{IsSpan};
 
     ghost Value = { List (List LabelOf) };
 
     ghost view = { λ p. map (λ row. row.items) p.rows.items };
+
+    ghost invariant = { λ p. IsSpan p.low p.last (map (λ row. row.items) p.rows.items) };
+}
+
+/// Takes the labels of each of the rows between two away, where the others have none.
+fn clear_rows(rows: &mut Vec<Vec<Label>>, low: usize, last: usize)
+    requires { IsSpan low last (map (λ row. row.items) rows.old.items) }
+    ensures len { length rows.new.items ≡ length rows.old.items }
+    ensures empty { (n : ℕ) → row_at (map (λ row. row.items) rows.new.items) n ≡ [] }
+{
+    for row in low..rows.len() {
+        if row > last {
+            return;
+        }
+        rows[row].clear();
+    }
 }
 
 impl Pool {
@@ -40,6 +60,8 @@ impl Pool {
         }
         Ok(Pool {
             rows: all,
+            low: 0,
+            last: rows,
             left: limit,
         })
     }
@@ -49,6 +71,13 @@ impl Pool {
         ensures { result ≡ length self.now }
     {
         self.rows.len()
+    }
+
+    /// A row before which none has labels.
+    pub fn low(&self) -> usize
+        ensures { (n : ℕ) → n < result → row_at self.now n ≡ [] }
+    {
+        self.low
     }
 
     /// The labels that lead to a row.
@@ -79,17 +108,29 @@ impl Pool {
             return Err(Halt::Limit);
         }
         self.left -= 1;
+        self.low = self.low.min(row);
+        self.last = self.last.max(row);
         offer(&mut self.rows[row], label)?;
         Ok(())
+    }
+
+    /// Puts the labels of a row in the order of how far up they reach.
+    pub fn sort(&mut self, row: usize)
+        requires { row < length self.old }
+        ensures { Spreads (row + 1) self.old self.new }
+    {
+        self.low = self.low.min(row);
+        self.last = self.last.max(row);
+        sort_by_reach(&mut self.rows[row]);
     }
 
     /// Takes the labels of each row away.
     pub fn clear(&mut self)
         ensures { length self.new ≡ length self.old }
     {
-        for row in 0..self.rows.len() {
-            self.rows[row].clear();
-        }
+        clear_rows(&mut self.rows, self.low, self.last);
+        self.low = self.rows.len();
+        self.last = 0;
     }
 }
 

@@ -1,6 +1,6 @@
 //! Fronts, each a row of a table with what leads on from it.
 
-ghost use Rattle.std.specs.Prelude.{◌≡◌, ◌<◌, length};
+ghost use Rattle.std.specs.Prelude.{◌≡◌, ◌*◌, ◌-◌, ◌<◌, length};
 ghost use Rattle.front_bound.specs.inner.Lattice.{area_at, count_at, links_at, moves_at};
 
 use crate::moves::Move;
@@ -57,4 +57,19 @@ pub fn moves_of(rows: &[Row], row: usize) -> &[Move]
     ensures { result.now ≡ moves_at rows.now row }
 {
     rows[row].moves.as_slice()
+}
+
+/// The area of a piece of glass, in mm².
+pub fn glass_of(wide: u32, high: u32) -> u64
+    ensures { result ≡ wide * high }
+{
+    u64::from(wide) * u64::from(high)
+}
+
+/// What a band so high, whose cells lead from a row to another, leaves beside and over them in a strip of this width, in mm².
+pub fn waste_left(rows: &[Row], row: usize, to: usize, top: u32, high: u32) -> u64
+    ensures { result ≡ top * high - (area_at rows.now row - area_at rows.now to) }
+{
+    let own = area_left(rows, row).saturating_sub(area_left(rows, to));
+    glass_of(top, high).saturating_sub(own)
 }

@@ -60,6 +60,10 @@ pub fn spread(
 {
     for done in 0..start + 1 {
         let row = start - done;
+        let low = pool.low();
+        if row < low {
+            return Ok(());
+        }
         grow(pool, row, moves_of(rows, row), along, across)?;
     }
     Ok(())

@@ -165,7 +165,8 @@ pub fn offer_ends(
         → EndsHeld instance.now (to_go_at levels.now m) most sides.new m plate from width) }
 {
     let height = instance.params().height;
-    for row in 0..start {
+    let low = pool.low();
+    for row in low..start {
         let far = to_go(levels, row);
         offer_ends_at(
             instance,

@@ -64,19 +64,26 @@ fn push_ends(stairs: &mut Vec<End>, ends: &[End]) -> Result<(), Halt>
     Ok(())
 }
 
+/// A number, or the greatest that has room where that is less: an end that serves for more than it has to is no mistake.
+fn narrow(number: u64) -> u32
+    ensures { result ≤ number }
+{
+    number.min(u64::from(u32::MAX)) as u32
+}
+
 /// Appends an end with more area before it, where that is not too much.
 fn append_behind(all: &mut Vec<End>, end: &End, area: u64, most: u64) -> Result<(), Halt>
     ensures kept { OnOk result ((a t : ℕ) → Ended all.old.items a t → Ended all.new.items a t) }
     ensures new { OnOk result (end.now.area + area ≤ most → Ended all.new.items (end.now.area + area) end.now.to_go) }
 {
-    let Some(sum) = end.area.checked_add(area) else {
+    let Some(sum) = u64::from(end.area).checked_add(area) else {
         return Ok(());
     };
     if sum > most {
         return Ok(());
     }
     let behind = End {
-        area: sum,
+        area: narrow(sum),
         to_go: end.to_go,
     };
     append_end(all, &behind)?;
@@ -176,7 +183,11 @@ pub fn with_itself(alloc: Global, behind: &[End], to_go: u64) -> Result<Vec<End>
     ensures ends { IfOk result (λ stairs. (a t : ℕ) → Ended behind.now a t → Ended stairs.items a t) }
 {
     let mut stairs = Vec::new(alloc);
-    push_end(&mut stairs, &End { area: 0, to_go })?;
+    let own = End {
+        area: 0,
+        to_go: narrow(to_go),
+    };
+    push_end(&mut stairs, &own)?;
     push_ends(&mut stairs, behind)?;
     if !falls(stairs.as_slice()) {
         return Err(Halt::Limit);

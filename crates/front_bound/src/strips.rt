@@ -216,7 +216,12 @@ pub fn strips_from(
     };
     pool.offer(start, &none)?;
     for done in 0..start + 1 {
-        extend_row(pool, rows, levels, limits, start, start - done)?;
+        let row = start - done;
+        let first = pool.low();
+        if row < first {
+            return Ok(());
+        }
+        extend_row(pool, rows, levels, limits, start, row)?;
     }
     Ok(())
 }

@@ -31,6 +31,32 @@ pub struct Table {
     pub cover: u64,
 }
 
+/// The same, lent.
+#[derive(Clone, Copy)]
+pub struct Fronts<'a> {
+    pub rows: &'a [Row],
+    pub tops: &'a [u32],
+    pub levels: &'a [Level],
+    pub cover: u64,
+}
+
+impl Table {
+    ghost use Rattle.glass_base.specs.Problem.{Problem};
+    ghost use Rattle.front_bound.specs.inner.Ready.{AreFronts, IsTable};
+
+    /// All that is known of the fronts, lent.
+    pub fn lend(&self) -> Fronts<'_>
+        ensures { (b : Problem) → IsTable b self.now → AreFronts b result }
+    {
+        Fronts {
+            rows: self.rows.as_slice(),
+            tops: self.tops.as_slice(),
+            levels: self.levels.as_slice(),
+            cover: self.cover,
+        }
+    }
+}
+
 /// Appends a list.
 fn push_list(lists: &mut Vec<Vec<Keyed>>, list: Vec<Keyed>) -> Result<(), Halt>
     ensures { OnOk result (map (λ v. v.items) lists.new.items ≡ map (λ v. v.items) lists.old.items ++ list.items ∷ []) }
@@ -131,6 +157,7 @@ fn far_of(
     start: usize,
     base: u64,
     cover: u64,
+    hint: &mut usize,
 ) -> Result<u64, Halt>
     requires pool { start < length pool.old }
     requires lattice { IsLattice instance.now rows.now }
@@ -142,7 +169,7 @@ fn far_of(
     if start == 0 {
         return Ok(0);
     }
-    let far = far_from(instance, rows, tops, levels, pool, start, base, cover)?;
+    let far = far_from(instance, rows, tops, levels, pool, start, base, cover, hint)?;
     Ok(far)
 }
 
@@ -155,6 +182,7 @@ fn add_level(
     levels: &mut Vec<Level>,
     pool: &mut Pool,
     cover: u64,
+    hint: &mut usize,
 ) -> Result<(), Halt>
     requires rows { length levels.old.items < length rows.now }
     requires pool { length pool.old ≡ length rows.now }
@@ -187,6 +215,7 @@ fn add_level(
         row,
         base,
         cover,
+        hint,
     )?;
     close_level(alloc, levels, far)?;
     Ok(())
@@ -209,8 +238,18 @@ pub fn levels_of(
     ensures built { IfOk result (λ levels. Built instance.now rows.now tops.now cover levels.items) }
 {
     let mut levels = Vec::new(alloc);
+    let mut hint = 0;
     for _ in 0..rows.len() {
-        add_level(alloc, instance, rows, tops, &mut levels, pool, cover)?;
+        add_level(
+            alloc,
+            instance,
+            rows,
+            tops,
+            &mut levels,
+            pool,
+            cover,
+            &mut hint,
+        )?;
     }
     Ok(levels)
 }

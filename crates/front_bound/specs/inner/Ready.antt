@@ -8,6 +8,7 @@ use Rattle.front_bound.specs.declared.levels.Level.{Level}
 use Rattle.front_bound.specs.declared.moves.Move.{Move}
 use Rattle.front_bound.specs.declared.rows.Row.{Row}
 use Rattle.front_bound.specs.declared.strips.Limits.{Limits}
+use Rattle.front_bound.specs.declared.table.Fronts.{Fronts}
 use Rattle.front_bound.specs.declared.table.Table.{Table}
 use Rattle.front_bound.specs.inner.Ends.{Ended, Falls, EndsFrom, EndsBehind}
 use Rattle.front_bound.specs.inner.Lattice.{At, IsLattice}
@@ -110,3 +111,11 @@ pub record IsTable (b : Problem) (table : Table) : Type 0 where
   pub enough : b.params.max1 * b.params.height ≤ table.cover
   pub built : Built b table.rows.items table.tops.items table.cover table.levels.items
   pub zero : to_go_at table.levels.items 0 ≡ 0
+
+-- the same of what is lent of a table
+pub record AreFronts (b : Problem) (fronts : Fronts) : Type 0 where
+  pub lattice : IsLattice b fronts.rows.now
+  pub len : length fronts.levels.now ≡ length fronts.rows.now
+  pub enough : b.params.max1 * b.params.height ≤ fronts.cover
+  pub built : Built b fronts.rows.now fronts.tops.now fronts.cover fronts.levels.now
+  pub zero : to_go_at fronts.levels.now 0 ≡ 0

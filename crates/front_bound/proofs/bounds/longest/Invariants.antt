@@ -5,6 +5,5 @@ use Rattle.front_bound.proofs.bounds.longest.Given as goal
 abbrev pub invariant-loop : goal.invariant-loop
 invariant-loop l = record {
   shown : NoCourseShorter l.instance l.shown;
-  low : l.shown ≤ l.next;
-  most : l.next ≤ l.fn.most;
+  most : l.shown ≤ l.fn.most;
 }

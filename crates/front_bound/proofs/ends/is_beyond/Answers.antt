@@ -1,7 +1,18 @@
-use Rattle.std.proofs.Common.{◌-◌, inl, inr, arith}
+use Rattle.std.proofs.Common.{ℕ, ◌-◌, inl, inr, length, arith}
 use Rattle.std.proofs.lemmas.Bool.{cases_lt}
 use Rattle.front_bound.proofs.Staircases.{place_of, falls_at}
 use Rattle.front_bound.proofs.ends.is_beyond.Goals as goal
+
+pub returns-then-len-eq0 : goal.returns-then-len-eq0
+returns-then-len-eq0 c = λ yes a t ended le.
+    let p = place_of c.args.ends.now a t ended in
+    absurd (omega (arith, c.if-len-eq0.true, p.within))
+
+pub returns-then-least-within : goal.returns-then-least-within
+returns-then-least-within c = λ yes a t ended le.
+    let p = place_of c.args.ends.now a t ended in
+    let last : ℕ = length c.args.ends.now - 1 in
+    omega (arith, (falls_at c.args.ends.now p.at last c.requires (omega (arith, p.within)) (omega (arith, p.within))).1, p.low, c.if-least-within.true, c.to_go_in-least.ensures)
 
 pub returns-then-high-eq0 : goal.returns-then-high-eq0
 returns-then-high-eq0 c = λ yes a t ended le.

@@ -1,4 +1,4 @@
-use Rattle.std.proofs.Common.{get_or, ◌∙◌, refl, ap, arith}
+use Rattle.std.proofs.Common.{get_or, ◌∙◌, ap, arith}
 use Rattle.glass_base.specs.declared.params.Params.{Params}
 use Rattle.front_bound.specs.inner.Levels.{to_go_at}
 use Rattle.front_bound.proofs.Leasts.{least_none, least_next, least_all, least_zero}
@@ -6,7 +6,7 @@ use Rattle.front_bound.proofs.far.least_strip.Goals as goal
 
 pub loop-class-init : goal.loop-class-init
 loop-class-init c = record {
-  len = refl;
+  len = c.in_ok-first.ensures;
   least = least_none c.args.instance.now c.args.rows.now (to_go_at c.args.levels.now) c.args.start c.params-params.result.now.min1 c.args.limit _ (omega (arith, ap (λ (p : Params). p.min1) c.params-params.ensures.value));
 }
 

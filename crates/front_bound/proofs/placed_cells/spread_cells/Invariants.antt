@@ -1,11 +1,11 @@
 use Rattle.std.proofs.Common.{ℕ, ◌+◌, ◌<◌, ◌≤◌}
-use Rattle.front_bound.specs.inner.Clear.{CellsGoOn}
 use Rattle.front_bound.specs.inner.Lattice.{moves_at}
+use Rattle.front_bound.specs.inner.Placed.{CellsGoOn}
 use Rattle.front_bound.specs.inner.Pools.{Spreads}
 use Rattle.front_bound.proofs.placed_cells.spread_cells.Given as goal
 
 abbrev pub invariant-loop-done : goal.invariant-loop-done
 invariant-loop-done l = record {
-  spreads : Spreads l.start l.fn.pool l.pool;
-  goes_on : (n : ℕ) → l.start < n + l.done → n ≤ l.start → CellsGoOn l.site l.holes l.low l.pool n (moves_at l.rows n);
+  spreads : Spreads l.sought.start l.fn.pool l.pool;
+  goes_on : (n : ℕ) → l.sought.start < n + l.done → n ≤ l.sought.start → CellsGoOn l.ground l.sought l.pool n (moves_at l.ground.rows.now n);
 }

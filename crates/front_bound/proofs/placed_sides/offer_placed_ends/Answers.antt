@@ -3,8 +3,8 @@ use Rattle.front_bound.specs.inner.Clear.{EndsPlaced}
 use Rattle.front_bound.specs.inner.Levels.{to_go_at}
 use Rattle.front_bound.specs.inner.Pools.{row_at}
 use Rattle.front_bound.proofs.Each.{below_next}
-use Rattle.front_bound.proofs.PoolRows.{spreads_then, spreads_from}
-use Rattle.front_bound.proofs.PlacedRows.{ends_placed_kept}
+use Rattle.front_bound.proofs.PoolRows.{spreads_same, spreads_then, spreads_from}
+use Rattle.front_bound.proofs.PlacedRows.{ends_placed_kept, ends_empty}
 use Rattle.front_bound.proofs.placed_sides.offer_placed_ends.Goals as goal
 
 pub loop-row-preserved : goal.loop-row-preserved
@@ -15,4 +15,10 @@ loop-row-preserved c = record {
       (λ k before. ends_placed_kept c.args.instance.now c.args.holes.now (to_go_at c.args.levels.now k) c.args.most (c.loop-row.row + 1) c.loop-row.sides c.offer_all_placed.new.sides k c.args.plate c.args.begin (row_at c.args.pool.now k) c.in_ok-offer_all_placed.ensures.spreads (c.loop-row.invariant.held k before))
       (subst (λ l. EndsPlaced c.args.instance.now c.args.holes.now (to_go_at c.args.levels.now c.loop-row.row) c.args.most c.offer_all_placed.new.sides c.loop-row.row c.args.plate c.args.begin l) c.labels.ensures
       (subst (λ far. EndsPlaced c.args.instance.now c.args.holes.now far c.args.most c.offer_all_placed.new.sides c.loop-row.row c.args.plate c.args.begin c.labels.result.now) c.to_go-far.ensures c.in_ok-offer_all_placed.ensures.held));
+}
+
+pub loop-row-init : goal.loop-row-init
+loop-row-init c = record {
+  spreads = spreads_same c.args.start c.args.sides.now;
+  held = λ m lt. ends_empty c.args.instance.now c.args.holes.now (to_go_at c.args.levels.now m) c.args.most c.args.sides.now m c.args.plate c.args.begin (row_at c.args.pool.now m) (c.low-low.ensures m lt);
 }

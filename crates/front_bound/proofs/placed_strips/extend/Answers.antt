@@ -1,5 +1,5 @@
-use Rattle.std.proofs.Common.{inr}
+use Rattle.front_bound.proofs.PlacedRows.{none_extended}
 use Rattle.front_bound.proofs.placed_strips.extend.Goals as goal
 
-pub returns-clause-extended : goal.returns-clause-extended
-returns-clause-extended c = inr (record { cells = c.cells_from.new.pool; placed = c.in_ok-cells_from.ensures.placed; joined = c.in_ok-join_rows.ensures.joined })
+pub returns-in_default-clause-extended : goal.returns-in_default-clause-extended
+returns-in_default-clause-extended c = none_extended c.args.ground.now c.args.pool.now c.args.row c.args.label.now c.in_default.ensures.none

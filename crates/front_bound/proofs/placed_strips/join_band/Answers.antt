@@ -1,9 +1,13 @@
 use Rattle.std.proofs.Common.{◌+◌, ◌≤◌, sym, subst, arith}
 use Rattle.front_bound.specs.inner.Ends.{Ended}
-use Rattle.front_bound.specs.inner.Clear.{BandJoined}
+use Rattle.front_bound.specs.inner.Placed.{BandJoined}
 use Rattle.front_bound.proofs.HeldLists.{least_first}
 use Rattle.front_bound.proofs.StripTries.{less_glass}
 use Rattle.front_bound.proofs.placed_strips.join_band.Goals as goal
+
+pub returns-then-band-limits-clause-joined : goal.returns-then-band-limits-clause-joined
+unfolding BandJoined
+returns-then-band-limits-clause-joined c = λ x d w right low up own next beside above can. absurd (omega (arith, c.if-band-limits.true, above, can.top))
 
 pub returns-in_default-clause-joined : goal.returns-in_default-clause-joined
 unfolding BandJoined
@@ -14,30 +18,25 @@ unfolding BandJoined
 returns-then-shared-limits-clause-joined c = λ x d w right low up own next beside above can.
     absurd (omega (arith, least_first c.meet-shared.result w (c.meet-shared.ensures w own.0.1 next.1), c.if-shared-limits.true, can.narrow))
 
-pub returns-then-from-limits-clause-joined : goal.returns-then-from-limits-clause-joined
+pub returns-then-wide-limits-clause-joined : goal.returns-then-wide-limits-clause-joined
 unfolding BandJoined
-returns-then-from-limits-clause-joined c = λ x d w right low up own next beside above can.
-    absurd (omega (arith, least_first c.meet-shared.result w (c.meet-shared.ensures w own.0.1 next.1), c.if-from-limits.true, c.from.ensures, can.near))
+returns-then-wide-limits-clause-joined c = λ x d w right low up own next beside above can.
+    absurd (omega (arith, least_first c.meet-shared.result w (c.meet-shared.ensures w own.0.1 next.1), c.if-wide-limits.true, c.from-wide.ensures, can.near))
 
-pub returns-then-from-reach-clause-joined : goal.returns-then-from-reach-clause-joined
+pub returns-then-end-ground-clause-joined : goal.returns-then-end-ground-clause-joined
 unfolding BandJoined
-returns-then-from-reach-clause-joined c = λ x d w right low up own next beside above can.
-    absurd (omega (arith, c.if-from-reach.true, c.from-2.ensures, c.max-right.ensures, own.1, beside, can.reaches))
+returns-then-end-ground-clause-joined c = λ x d w right low up own next beside above can.
+    absurd (omega (arith, c.if-end-ground.true, c.from-end.ensures, c.max-right.ensures, own.1, beside, can.reaches))
 
 pub returns-then-is_beyond-clause-joined : goal.returns-then-is_beyond-clause-joined
 unfolding BandJoined
 returns-then-is_beyond-clause-joined c = λ x d w right low up own next beside above can.
     let wide = least_first c.meet-shared.result w (c.meet-shared.ensures w own.0.1 next.1) in
-    let high = least_first c.in-Some.sum (x + d) (c.in-Some.ensures.sums x d own.0.0 next.0) in
-    let free : can.area ≤ c.glass_above-free.result = omega (arith, can.within, less_glass w c.args.limits.now.bound c.args.limits.now.height (x + d) c.in-Some.sum.least can.narrow high, c.glass_above-free.ensures) in
+    let free : can.area ≤ c.glass_above-free.result = omega (arith, can.within, less_glass w c.args.ground.now.limits.bound c.args.ground.now.limits.height up c.args.band.now.up can.narrow above, c.glass_above-free.ensures) in
     let far = c.is_beyond.ensures c.if-is_beyond.true can.area can.far (subst (λ l. Ended l can.area can.far) (sym c.ends_of.ensures) can.ends) free in
-    absurd (omega (arith, far, can.near, can.reaches, wide, c.from.ensures, c.from-2.ensures, c.from-3.ensures, c.from-4.ensures, c.min-within.ensures, c.max-right.ensures, own.1, beside, c.if-from-limits.false, c.if-from-reach.false))
+    absurd (omega (arith, far, can.near, can.reaches, wide, c.from-wide.ensures, c.from-end.ensures, c.min-within.ensures, c.max-right.ensures, own.1, beside, c.if-wide-limits.false, c.if-end-ground.false))
 
 pub returns-clause-joined : goal.returns-clause-joined
 unfolding BandJoined
 returns-clause-joined c = λ x d w right low up own next beside above can.
     c.in_ok-offer.ensures.stands (x + d) w right up ((c.in-Some.ensures.sums x d own.0.0 next.0, c.meet-shared.ensures w own.0.1 next.1), omega (arith, c.max-right.ensures, own.1, beside), above)
-
-pub returns-then-band-limits-clause-joined : goal.returns-then-band-limits-clause-joined
-unfolding BandJoined
-returns-then-band-limits-clause-joined c = λ x d w right low up own next beside above can. absurd (omega (arith, c.if-band-limits.true, above, can.top))

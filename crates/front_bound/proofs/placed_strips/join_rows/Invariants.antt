@@ -1,10 +1,10 @@
 use Rattle.std.proofs.Common.{ℕ, ◌<◌}
-use Rattle.front_bound.specs.inner.Clear.{RunsJoined}
+use Rattle.front_bound.specs.inner.Placed.{RunsJoined}
 use Rattle.front_bound.specs.inner.Pools.{Spreads, row_at}
 use Rattle.front_bound.proofs.placed_strips.join_rows.Given as goal
 
 abbrev pub invariant-loop-to : goal.invariant-loop-to
 invariant-loop-to l = record {
   spreads : Spreads l.row l.fn.pool l.pool;
-  joined : (n : ℕ) → n < l.to → RunsJoined l.levels l.limits l.reach l.pool l.label n (row_at l.fn.cells n);
+  joined : (n : ℕ) → n < l.to → RunsJoined l.ground l.pool l.row l.label n (row_at l.fn.cells n);
 }

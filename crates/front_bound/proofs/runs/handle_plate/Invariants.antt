@@ -1,4 +1,3 @@
-use Rattle.std.proofs.Common.{◌≡◌, length}
 use Rattle.front_bound.specs.inner.Around.{IsRoomy}
 use Rattle.front_bound.specs.inner.Levels.{to_go_at}
 use Rattle.front_bound.specs.inner.Pools.{Spreads}
@@ -7,8 +6,7 @@ use Rattle.front_bound.proofs.runs.handle_plate.Given as goal
 
 abbrev pub invariant-loop-class : goal.invariant-loop-class
 invariant-loop-class l = record {
-  len : length l.pool ≡ length l.fn.pool;
-  around : IsRoomy l.rows l.around;
+  space : IsRoomy l.fronts.rows.now l.space;
   spreads : Spreads l.row l.fn.sides l.sides;
-  goes_on : PlateGoesOn l.instance l.rows (to_go_at l.levels) l.most l.sides l.row l.begins l.plate l.low;
+  goes_on : PlateGoesOn l.instance l.fronts.rows.now (to_go_at l.fronts.levels.now) l.most l.sides l.row l.begins l.plate l.low;
 }

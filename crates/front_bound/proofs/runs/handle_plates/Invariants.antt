@@ -1,4 +1,4 @@
-use Rattle.std.proofs.Common.{◌≡◌, ℕ, ◌+◌, ◌<◌, length}
+use Rattle.std.proofs.Common.{ℕ, ◌+◌, ◌<◌}
 use Rattle.front_bound.specs.inner.Around.{IsRoomy}
 use Rattle.front_bound.specs.inner.Levels.{to_go_at}
 use Rattle.front_bound.specs.inner.Pools.{Spreads}
@@ -7,8 +7,7 @@ use Rattle.front_bound.proofs.runs.handle_plates.Given as goal
 
 abbrev pub invariant-loop-plate : goal.invariant-loop-plate
 invariant-loop-plate l = record {
-  len : length l.pool ≡ length l.fn.pool;
-  around : IsRoomy l.rows l.around;
+  space : IsRoomy l.fronts.rows.now l.space;
   spreads : Spreads l.row l.fn.sides l.sides;
-  goes_on : (k : ℕ) → k < l.plate → PlateGoesOn l.instance l.rows (to_go_at l.levels) l.most l.sides l.row l.begins k (l.instance.params.max1 + 1);
+  goes_on : (k : ℕ) → k < l.plate → PlateGoesOn l.instance l.fronts.rows.now (to_go_at l.fronts.levels.now) l.most l.sides l.row l.begins k (l.instance.params.max1 + 1);
 }

@@ -3,7 +3,7 @@ use Rattle.std.proofs.lemmas.Bool.{cases_lt}
 use Rattle.front_bound.specs.declared.moves.Move.{Move}
 use Rattle.front_bound.specs.inner.Lattice.{LeadDown, moves_at}
 use Rattle.front_bound.specs.inner.Pools.{GoesOn}
-use Rattle.front_bound.proofs.PoolRows.{spreads_then, spreads_from, goes_on_kept}
+use Rattle.front_bound.proofs.PoolRows.{spreads_then, spreads_from, goes_on_kept, goes_on_none}
 use Rattle.front_bound.proofs.search.spread.Goals as goal
 
 pub grow-requires-clause-down : goal.grow-requires-clause-down
@@ -30,3 +30,11 @@ loop-done-preserved c =
                 (subst (λ l. GoesOn c.args.along c.args.across c.grow.new.pool row l) c.moves_of.ensures c.in_ok-grow.ensures.goes_on)
           ];
     }
+
+pub returns-then-row-low-clause-goes_on : goal.returns-then-row-low-clause-goes_on
+returns-then-row-low-clause-goes_on c = λ n le.
+    let row : ℕ = c.args.start - c.loop-done.done in
+    elim (cases_lt row n) [
+      | inl above ↦ c.loop-done.invariant.goes_on n (omega (arith, above, c.loop-done-test.true)) le
+      | inr below ↦ goes_on_none c.args.along c.args.across c.loop-done.pool n (moves_at c.args.rows.now n) (c.low-low.ensures n (omega (arith, below, c.if-row-low.true)))
+    ]

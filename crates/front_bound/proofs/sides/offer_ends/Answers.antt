@@ -1,10 +1,11 @@
 use Rattle.std.proofs.Common.{◌+◌, sym, subst, arith}
 use Rattle.front_bound.specs.inner.Levels.{to_go_at}
-use Rattle.front_bound.specs.inner.Pools.{HeldAt}
+use Rattle.front_bound.specs.inner.Pools.{HeldAt, row_at}
 use Rattle.front_bound.specs.inner.Sets.{Held}
 use Rattle.front_bound.specs.inner.Sides.{EndsHeld}
 use Rattle.front_bound.proofs.Each.{below_next}
-use Rattle.front_bound.proofs.PoolRows.{spreads_then, spreads_from}
+use Rattle.front_bound.proofs.HeldLists.{fits_none}
+use Rattle.front_bound.proofs.PoolRows.{spreads_same, spreads_then, spreads_from}
 use Rattle.front_bound.proofs.SideLemmas.{ends_kept}
 use Rattle.front_bound.proofs.sides.offer_ends.Goals as goal
 
@@ -17,4 +18,10 @@ loop-row-preserved c = record {
       (λ k before held. ends_kept c.args.instance.now (to_go_at c.args.levels.now k) c.args.most (c.loop-row.row + 1) c.loop-row.sides c.offer_ends_at.new.sides k c.args.plate from width c.in_ok-offer_ends_at.ensures.spreads (c.loop-row.invariant.held k from width before begun held))
       (λ held. subst (λ far. EndsHeld c.args.instance.now far c.args.most c.offer_ends_at.new.sides c.loop-row.row c.args.plate from width) c.to_go-far.ensures
       (c.in_ok-offer_ends_at.ensures.held from width begun (subst (λ l. Held l c.params.result.now.height width) (sym c.labels.ensures) held))) m lt;
+}
+
+pub loop-row-init : goal.loop-row-init
+loop-row-init c = record {
+  spreads = spreads_same c.args.start c.args.sides.now;
+  held = λ m from width lt begun held. absurd (fits_none (row_at c.args.pool.now m) c.params.result.now.height width (c.low-low.ensures m lt) held);
 }

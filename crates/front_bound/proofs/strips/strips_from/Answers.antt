@@ -2,7 +2,7 @@ use Rattle.std.proofs.Common.{◌≡◌, ℕ, ◌-◌, inl, inr, subst, arith}
 use Rattle.std.proofs.lemmas.Bool.{cases_lt}
 use Rattle.front_bound.specs.inner.Tries.{RowExtended}
 use Rattle.front_bound.proofs.PoolRows.{spreads_then, spreads_from}
-use Rattle.front_bound.proofs.StripTries.{row_kept}
+use Rattle.front_bound.proofs.StripTries.{row_kept, row_empty}
 use Rattle.front_bound.proofs.strips.strips_from.Goals as goal
 
 pub loop-done-preserved : goal.loop-done-preserved
@@ -22,3 +22,11 @@ loop-done-preserved c =
                 subst (RowExtended c.args.rows.now c.args.levels.now c.args.limits.now c.extend_row.new.pool) same c.in_ok-extend_row.ensures.extended
           ];
     }
+
+pub returns-then-row-first-clause-extended : goal.returns-then-row-first-clause-extended
+returns-then-row-first-clause-extended c = λ n le.
+    let row : ℕ = c.args.start - c.loop-done.done in
+    elim (cases_lt row n) [
+      | inl above ↦ c.loop-done.invariant.extended n (omega (arith, above, c.loop-done-test.true)) le
+      | inr below ↦ row_empty c.args.rows.now c.args.levels.now c.args.limits.now c.loop-done.pool n (c.low-first.ensures n (omega (arith, below, c.if-row-first.true)))
+    ]

@@ -2,7 +2,7 @@ use Rattle.std.proofs.Common.{◌≡◌, ◌+◌, ◌<◌, length, map, ap, sym,
 use Rattle.std.proofs.Math.ListN.{set}
 use Rattle.front_bound.specs.inner.Sets.{Keeps}
 use Rattle.front_bound.specs.inner.Pools.{row_at, Spreads}
-use Rattle.front_bound.proofs.PoolRows.{rows_len, row_view, view_held, view_stands, view_spreads}
+use Rattle.front_bound.proofs.PoolRows.{rows_len, row_view, view_held, view_stands, view_spreads, span_set}
 use Rattle.front_bound.proofs.pools.Pool.offer.Goals as goal
 
 pub returns-clause-spreads : goal.returns-clause-spreads
@@ -24,3 +24,15 @@ returns-clause-stands c = λ x y right up stands.
     let rows = c.self.inside.rows.items in
     let lt : c.args.row < length rows = omega (arith, c.requires, ap length c.self.view_is, rows_len rows (λ r. r.items)) in
     view_stands rows (λ r. r.items) c.args.row c.offer.new.labels lt x y right up (c.in_ok-offer.ensures.stands x y right up stands)
+
+pub invariant_of-self : goal.invariant_of-self
+invariant_of-self c =
+    let rows = c.self.inside.rows.items in
+    let lt : c.args.row < length rows = omega (arith, c.requires, ap length c.self.view_is, rows_len rows (λ r. r.items)) in
+    span_set rows (λ r. r.items) c.args.row c.offer.new.labels lt c.self.inside.low c.self.inside.last c.min-self-inside.result c.max-self-inside.result c.self.invariant (omega (arith, c.min-self-inside.ensures)) (omega (arith, c.min-self-inside.ensures)) (omega (arith, c.max-self-inside.ensures)) (omega (arith, c.max-self-inside.ensures))
+
+pub invariant_of-self-2 : goal.invariant_of-self-2
+invariant_of-self-2 c =
+    let rows = c.self.inside.rows.items in
+    let lt : c.args.row < length rows = omega (arith, c.requires, ap length c.self.view_is, rows_len rows (λ r. r.items)) in
+    span_set rows (λ r. r.items) c.args.row c.offer.new.labels lt c.self.inside.low c.self.inside.last c.min-self-inside.result c.max-self-inside.result c.self.invariant (omega (arith, c.min-self-inside.ensures)) (omega (arith, c.min-self-inside.ensures)) (omega (arith, c.max-self-inside.ensures)) (omega (arith, c.max-self-inside.ensures))

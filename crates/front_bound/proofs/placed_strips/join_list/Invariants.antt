@@ -1,0 +1,11 @@
+use Rattle.std.proofs.Common.{ℕ, ◌<◌, get_or}
+use Rattle.front_bound.specs.declared.keyed.Keyed.{Keyed}
+use Rattle.front_bound.specs.inner.Placed.{EntryJoined}
+use Rattle.front_bound.specs.inner.Pools.{Spreads}
+use Rattle.front_bound.proofs.placed_strips.join_list.Given as goal
+
+abbrev pub invariant-loop-at : goal.invariant-loop-at
+invariant-loop-at l = record {
+  spreads : Spreads l.row l.fn.pool l.pool;
+  joined : (k : ℕ) (d : Keyed) → k < l.at → EntryJoined l.ground l.pool l.row l.label (get_or l.list k d).place;
+}

@@ -1,0 +1,43 @@
+//! What a search for strips around defects looks at.
+
+use crate::levels::Level;
+use crate::rows::Row;
+use crate::strips::Limits;
+use glass_base::Defect;
+
+/// Where strips begin, and how far they may reach, in mm.
+#[derive(Clone, Copy)]
+pub struct Site {
+    pub left: u32,
+    pub room: u32,
+    pub height: u32,
+    pub widest: u32,
+    /// The least height of a band.
+    pub least: u32,
+    pub waste: u32,
+}
+
+/// Which strips are looked for, with all fronts and the defects that may be in their way.
+#[derive(Clone, Copy)]
+pub struct Ground<'a> {
+    pub rows: &'a [Row],
+    pub levels: &'a [Level],
+    pub limits: Limits,
+    pub site: Site,
+    /// The defects behind the place where the strips begin, and those of them that lie within their widest.
+    pub holes: &'a [Defect],
+    pub near: &'a [Defect],
+    /// A right side on the plate, with what is to go behind it, is no more than this, in mm.
+    pub reach: u64,
+}
+
+/// Which bands are looked for, by which strips that end at a row go on.
+#[derive(Clone, Copy)]
+pub struct Sought {
+    /// The row.
+    pub start: usize,
+    /// The bands lie above this, in mm.
+    pub low: u32,
+    /// They leave no more than this beside and over their cells, in mm².
+    pub slack: u64,
+}

@@ -1,0 +1,194 @@
+//! Strips that begin near defects.
+
+ghost use Rattle.std.specs.Prelude.{◌≡◌, ℕ, ◌+◌, ◌*◌, ◌<◌, ◌≤◌, false, true, [], ◌∷◌, Contains, length, slice_index_or, IfOk, OnOk};
+ghost use Rattle.front_bound.specs.declared.labels.Label.{Label as LabelOf};
+ghost use Rattle.front_bound.specs.inner.Around.{IsClass, IsRoomy};
+ghost use Rattle.front_bound.specs.inner.Levels.{to_go_at};
+ghost use Rattle.front_bound.specs.inner.Pools.{Spreads};
+ghost use Rattle.front_bound.specs.inner.Ready.{AreFronts};
+ghost use Rattle.front_bound.specs.inner.Sides.{BeginGoesOn, ClassGoesOn};
+
+use crate::ground::{Ground, Site};
+use crate::halt::Halt;
+use crate::holes::holes_of;
+use crate::labels::Label;
+use crate::placed_cells::Lists;
+use crate::placed_sides::offer_placed_ends;
+use crate::placed_strips::placed_from;
+use crate::pools::Pool;
+use crate::rows::Row;
+use crate::strips::Limits;
+use crate::table::Fronts;
+use glass_base::{Defect, Instance};
+use std::alloc::Global;
+
+/// What is used again from row to row.
+#[derive(Drop)]
+pub struct Space {
+    /// Labels of strips that begin clear of defects, of those that begin near them, and of the cells of these.
+    pub strips: Pool,
+    pub near: Pool,
+    pub cells: Pool,
+    /// The defects behind the place where strips begin, and those of them that lie within their widest.
+    pub holes: Vec<Defect>,
+    pub near_holes: Vec<Defect>,
+    pub lists: Lists,
+    /// The begins that are clear of defects.
+    pub clear: Vec<Label>,
+}
+
+/// Strips of a class that begin on a plate.
+#[derive(Clone, Copy)]
+pub struct Class {
+    pub plate: u32,
+    /// They are no narrower than this, in mm.
+    pub low: u32,
+    /// Behind the first begin there is so much of the plate, in mm.
+    pub room: u32,
+    pub limits: Limits,
+}
+
+/// Room for all rows.
+pub fn new_space(alloc: Global, rows: &[Row], limit: u64) -> Result<Space, Halt>
+    ensures { IfOk result (IsRoomy rows.now) }
+{
+    Ok(Space {
+        strips: Pool::new(alloc, rows.len(), limit)?,
+        near: Pool::new(alloc, rows.len(), limit)?,
+        cells: Pool::new(alloc, rows.len(), limit)?,
+        holes: Vec::new(alloc),
+        near_holes: Vec::new(alloc),
+        lists: Lists {
+            found: Vec::new(alloc),
+            next: Vec::new(alloc),
+        },
+        clear: Vec::new(alloc),
+    })
+}
+
+/// Offers where the strips of a class end that begin behind one label, where defects are near; whether they are.
+fn place_begin(
+    instance: &Instance,
+    fronts: &Fronts<'_>,
+    space: &mut Space,
+    sides: &mut Pool,
+    row: usize,
+    begin: &Label,
+    class: &Class,
+    most: u64,
+) -> Result<bool, Halt>
+    requires row { row < length fronts.now.rows.now }
+    requires fronts { AreFronts instance.now fronts.now }
+    requires space { IsRoomy fronts.now.rows.now space.old }
+    requires sides { length sides.old ≡ length fronts.now.rows.now }
+    requires class { IsClass instance.now fronts.now class.now }
+    ensures space { OnOk result (IsRoomy fronts.now.rows.now space.new) }
+    ensures clear { OnOk result (space.new.clear ≡ space.old.clear) }
+    ensures spreads { OnOk result (Spreads row sides.old sides.new) }
+    ensures goes_on { IfOk result (λ done. done ≡ true → ClassGoesOn instance.now fronts.now.rows.now (to_go_at fronts.now.levels.now) most sides.new row (begin.now ∷ []) class.now.plate class.now.low class.now.limits.top class.now.room class.now.limits.most) }
+{
+    if !begin.across.has(class.plate) {
+        return Ok(true);
+    }
+    let left = begin.along.least;
+    holes_of(
+        instance,
+        &mut space.near_holes,
+        class.plate,
+        left,
+        class.limits.top,
+    )?;
+    if space.near_holes.is_empty() {
+        return Ok(false);
+    }
+    // (a strip that begins behind a gap, or whose right side is moved out of a defect, meets those further on as well)
+    holes_of(instance, &mut space.holes, class.plate, left, u32::MAX)?;
+    let params = instance.params();
+    let width = instance.width(class.plate);
+    let reach = most.saturating_sub(instance.before(class.plate));
+    let bound = class.limits.bound.min(width.saturating_sub(left));
+    let ground = Ground {
+        rows: fronts.rows,
+        levels: fronts.levels,
+        limits: Limits {
+            class: class.limits.class,
+            top: class.limits.top,
+            bound,
+            height: class.limits.height,
+            most: reach.saturating_sub(u64::from(left)),
+        },
+        site: Site {
+            left,
+            room: width,
+            height: params.height,
+            widest: bound,
+            least: params.min2,
+            waste: params.waste,
+        },
+        holes: space.holes.as_slice(),
+        near: space.near_holes.as_slice(),
+        reach,
+    };
+    placed_from(
+        &mut space.near,
+        &mut space.cells,
+        &mut space.lists,
+        &ground,
+        row,
+        class.low,
+    )?;
+    offer_placed_ends(
+        instance,
+        space.holes.as_slice(),
+        sides,
+        &space.near,
+        fronts.levels,
+        row,
+        left,
+        class.plate,
+        most,
+    )?;
+    Ok(true)
+}
+
+/// Keeps a begin that is clear of defects.
+fn keep_clear(clear: &mut Vec<Label>, begin: &Label, done: bool) -> Result<(), Halt>
+    ensures kept { OnOk result ((l : LabelOf) → Contains clear.old.items l → Contains clear.new.items l) }
+    ensures new { OnOk result (done ≡ false → Contains clear.new.items begin.now) }
+{
+    if done {
+        return Ok(());
+    }
+    match clear.push(*begin) {
+        Ok(()) => Ok(()),
+        Err(_) => Err(Halt::Memory),
+    }
+}
+
+/// Offers where the strips of a class end that begin near defects, and keeps the begins that are clear of them.
+pub fn place_begins(
+    instance: &Instance,
+    fronts: &Fronts<'_>,
+    space: &mut Space,
+    sides: &mut Pool,
+    row: usize,
+    begins: &[Label],
+    class: &Class,
+    most: u64,
+) -> Result<(), Halt>
+    requires row { row < length fronts.now.rows.now }
+    requires fronts { AreFronts instance.now fronts.now }
+    requires space { IsRoomy fronts.now.rows.now space.old }
+    requires sides { length sides.old ≡ length fronts.now.rows.now }
+    requires class { IsClass instance.now fronts.now class.now }
+    ensures space { OnOk result (IsRoomy fronts.now.rows.now space.new) }
+    ensures spreads { OnOk result (Spreads row sides.old sides.new) }
+    ensures goes_on { OnOk result ((k : ℕ) (d : LabelOf) → k < length begins.now → BeginGoesOn instance.now fronts.now.rows.now (to_go_at fronts.now.levels.now) most sides.new row space.new.clear.items (slice_index_or begins.now k d) class.now.plate class.now.low class.now.limits.top class.now.room class.now.limits.most) }
+{
+    space.clear.clear();
+    for begin in begins {
+        let done = place_begin(instance, fronts, space, sides, row, begin, class, most)?;
+        keep_clear(&mut space.clear, begin, done)?;
+    }
+    Ok(())
+}
