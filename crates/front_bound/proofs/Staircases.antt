@@ -2,7 +2,7 @@
 use Rattle.std.proofs.Common.{◌≡◌, ℕ, ◌+◌, ◌-◌, ◌<◌, ◌≤◌, inl, inr, List, [], ◌∷◌, ◌++◌, length, get_or, sym, ap, arith}
 use Rattle.std.proofs.lemmas.Bool.{cases_lt}
 use Rattle.std.proofs.lemmas.List.{get_or-map}
-use Rattle.std.proofs.lemmas.List.Elements.{Contains-get_or, Contains-append_left, Contains-push}
+use Rattle.std.proofs.lemmas.List.Elements.{Contains-get_or, Contains-append_left, Contains-push, Contains-push_cases}
 use Rattle.std.proofs.lemmas.List.Sorted.{Contains-permutation}
 use Rattle.std.specs.Prelude.{IsPermutation}
 use Rattle.front_bound.specs.declared.ends.End.{End}
@@ -90,3 +90,13 @@ ended_behind ends other more most each area to_go (x, (k, lt, is), less, low) fe
 pub ended_permuted : (ends other : List End) (area to_go : ℕ) → IsPermutation ends other → Ended ends area to_go → Ended other area to_go
 unfolding Ended
 ended_permuted ends other area to_go p (x, has, less, low) = (x, Contains-permutation ends other x p has, less, low)
+
+-- the last of the ends is taken away, and one stands there that serves for it
+pub ended_merged : (rest other : List End) (last : End) (less low area to_go : ℕ) → less ≤ last.area → low ≤ last.to_go → ((area to_go : ℕ) → Ended rest area to_go → Ended other area to_go) → Ended other less low →
+    Ended (rest ++ last ∷ []) area to_go → Ended other area to_go
+unfolding Ended
+ended_merged rest other last less low area to_go small near kept own (x, has, before, few) =
+    elim (Contains-push_cases rest last x has) [
+      | inl held ↦ kept area to_go (x, held, before, few)
+      | inr is ↦ ended_more other less low area to_go (omega (arith, small, ap (λ (e : End). e.area) is, before)) (omega (arith, near, ap (λ (e : End). e.to_go) is, few)) own
+    ]

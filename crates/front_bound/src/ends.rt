@@ -80,50 +80,23 @@ pub fn near(ends: &[End], within: u64) -> Option<u64>
     }
 }
 
-/// Of `size` places from `base` on at which it is not known whether more area is before the ends there than this, the first of those that are left when `half`
-/// of them are taken away.
-fn step_above(ends: &[End], base: usize, size: usize, half: usize, area: u64) -> usize
-    requires some { 1 ≤ size }
-    requires half { half + half ≤ size }
-    requires bound { base + size ≤ length ends.now }
-    requires falls { Falls ends.now }
-    ensures bound { result + (size - half) ≤ base + size }
-    ensures above { (i : ℕ) → result + (size - half) ≤ i → i < length ends.now → (base + size ≤ i) ⊎ (area < area_of ends.now i) }
+/// How wide steps are that ends stand in, as a power of 2 in mm², where no more than this area is before them: there are less than 256.
+pub fn shift_of(most: u64) -> u32
+    ensures { result ≤ 56 }
 {
-    let middle = base + half;
-    if area_in(ends, middle) > area {
-        return base;
-    }
-    middle
+    (64 - most.leading_zeros()).saturating_sub(8)
 }
 
-/// A place from which on each end has more area before it than this, where the one before has not.
-fn first_above(ends: &[End], area: u64) -> usize
-    requires { Falls ends.now }
-    ensures bound { result ≤ length ends.now }
-    ensures above { (i : ℕ) → result ≤ i → i < length ends.now → area < area_of ends.now i }
+/// The step that an area lies in, where each is 2^`shift` mm² wide.
+pub fn step_of(area: u64, shift: u32) -> usize
+    ensures { result ≤ area }
 {
-    let mut base = 0;
-    let mut size = ends.len();
-    for _ in 0..64 {
-        if size <= 1 {
-            break;
-        }
-        let half = size / 2;
-        base = step_above(ends, base, size, half, area);
-        size -= half;
-    }
-    if base >= ends.len() {
-        return base;
-    }
-    if area_in(ends, base) > area {
-        return base;
-    }
-    base + size
+    area.wrapping_shr(shift) as usize
 }
 
-/// Whether more than this is to go from each end that has no more than this area before it.
-pub fn is_beyond(ends: &[End], area: u64, within: u64) -> bool
+/// Whether it is seen at once that more than this is to go from each end that has no more than this area before it. That is seen where there is an end for each
+/// step of 2^`shift` mm².
+pub fn is_beyond(ends: &[End], shift: u32, area: u64, within: u64) -> bool
     requires { Falls ends.now }
     ensures { IsTrue result → (a t : ℕ) → Ended ends.now a t → a ≤ area → within < t }
 {
@@ -131,19 +104,11 @@ pub fn is_beyond(ends: &[End], area: u64, within: u64) -> bool
     if len == 0 {
         return true;
     }
-    // (from the last one the least is to go, and it is mostly this one that decides)
-    let least = to_go_in(ends, len - 1);
-    if least > within {
-        return true;
-    }
-    if area_in(ends, len - 1) <= area {
+    let at = step_of(area, shift).min(len - 1);
+    if at + 1 < len && area_in(ends, at + 1) <= area {
         return false;
     }
-    let high = first_above(ends, area);
-    if high == 0 {
-        return true;
-    }
-    if to_go_in(ends, high - 1) > within {
+    if to_go_in(ends, at) > within {
         return true;
     }
     false

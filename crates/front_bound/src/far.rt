@@ -8,6 +8,7 @@ ghost use Rattle.front_bound.specs.inner.Ready.{Fitting, IsLeast, LeavesLeast, O
 ghost use Rattle.front_bound.specs.inner.Sets.{Fits, Held};
 ghost use Rattle.front_bound.specs.inner.Tries.{Searchable};
 
+use crate::ends::shift_of;
 use crate::halt::Halt;
 use crate::labels::Label;
 use crate::levels::{Level, to_go};
@@ -115,6 +116,7 @@ fn least_in_class(
         bound: top.min(params.max1),
         height: params.height,
         most,
+        shift: shift_of(cover),
     };
     let least = least_of_class(instance, rows, levels, pool, &limits, start, low, cover)?;
     Ok(least)

@@ -116,6 +116,7 @@ fn place_begin(
             bound,
             height: class.limits.height,
             most: reach.saturating_sub(u64::from(left)),
+            shift: class.limits.shift,
         },
         site: Site {
             left,

@@ -11,6 +11,7 @@ ghost use Rattle.front_bound.specs.inner.Ready.{AreFronts};
 ghost use Rattle.front_bound.specs.inner.Sets.{Fits, Held, Keeps};
 ghost use Rattle.front_bound.specs.inner.Sides.{ClassGoesOn, NextHeld, PlateGoesOn, SidesGoOn};
 
+use crate::ends::shift_of;
 use crate::halt::Halt;
 use crate::labels::{Label, offer};
 use crate::levels::to_go;
@@ -196,6 +197,7 @@ fn handle_plate(
                 bound: top.min(params.max1).min(room),
                 height: params.height,
                 most: left,
+                shift: shift_of(fronts.cover),
             },
         };
         handle_class(instance, fronts, space, sides, row, begins, &strips, most)?;

@@ -5,7 +5,7 @@ ghost use Rattle.front_bound.specs.inner.Ends.{Ended, EndsBehind, EndsFrom, Fall
 ghost use Rattle.front_bound.specs.inner.Lattice.{IsLattice, links_at};
 ghost use Rattle.front_bound.specs.inner.Levels.{Gathered, ends_at, to_go_at};
 
-use crate::ends::{End, falls};
+use crate::ends::{End, falls, shift_of, step_of};
 use crate::halt::Halt;
 use crate::levels::{Level, ends_of};
 use crate::rows::{Row, area_left, links_of};
@@ -41,34 +41,75 @@ fn append_end(ends: &mut Vec<End>, end: &End) -> Result<(), Halt>
     }
 }
 
-/// Appends an end, unless the last one serves as well.
-fn push_end(ends: &mut Vec<End>, end: &End) -> Result<(), Halt>
+/// A number, or the greatest that has room where that is less: an end that serves for more than it has to is no mistake.
+fn narrow(number: u64) -> u32
+    ensures { result ≤ number }
+{
+    number.min(u64::from(u32::MAX)) as u32
+}
+
+/// Takes the last of the ends away and appends one that serves for it and for this one.
+fn merge_end(ends: &mut Vec<End>, end: &End) -> Result<(), Halt>
+    ensures kept { OnOk result ((a t : ℕ) → Ended ends.old.items a t → Ended ends.new.items a t) }
+    ensures new { OnOk result (Ended ends.new.items end.now.area end.now.to_go) }
+{
+    let Some(last) = ends.pop() else {
+        append_end(ends, end)?;
+        return Ok(());
+    };
+    let both = End {
+        area: last.area.min(end.area),
+        to_go: last.to_go.min(end.to_go),
+    };
+    append_end(ends, &both)?;
+    Ok(())
+}
+
+/// Appends ends for the steps before this one that have none, from which as much is to go as from the last of them: so the end of each step is found by its place.
+fn fill_steps(ends: &mut Vec<End>, step: usize, shift: u32) -> Result<(), Halt>
+    ensures { OnOk result ((a t : ℕ) → Ended ends.old.items a t → Ended ends.new.items a t) }
+{
+    let to_go = match ends.as_slice().last() {
+        Some(last) => last.to_go,
+        None => u32::MAX,
+    };
+    for at in ends.len()..step {
+        let filled = End {
+            area: narrow((at as u64).wrapping_shl(shift)),
+            to_go,
+        };
+        append_end(ends, &filled)?;
+    }
+    Ok(())
+}
+
+/// Appends an end, unless the last one serves as well. Steps are 2^`shift` mm² wide, and each has one end, with the least area before it of those that lie in it.
+fn push_end(ends: &mut Vec<End>, end: &End, shift: u32) -> Result<(), Halt>
     ensures kept { OnOk result ((a t : ℕ) → Ended ends.old.items a t → Ended ends.new.items a t) }
     ensures new { OnOk result (Ended ends.new.items end.now.area end.now.to_go) }
 {
     if is_served(ends.as_slice(), end) {
         return Ok(());
     }
+    let step = step_of(u64::from(end.area), shift);
+    if step < ends.len() {
+        merge_end(ends, end)?;
+        return Ok(());
+    }
+    fill_steps(ends, step, shift)?;
     append_end(ends, end)?;
     Ok(())
 }
 
 /// Appends those of the ends that the ones before them do not serve for.
-fn push_ends(stairs: &mut Vec<End>, ends: &[End]) -> Result<(), Halt>
+fn push_ends(stairs: &mut Vec<End>, ends: &[End], shift: u32) -> Result<(), Halt>
     ensures kept { OnOk result ((a t : ℕ) → Ended stairs.old.items a t → Ended stairs.new.items a t) }
     ensures new { OnOk result ((a t : ℕ) → Ended ends.now a t → Ended stairs.new.items a t) }
 {
     for end in ends {
-        push_end(stairs, end)?;
+        push_end(stairs, end, shift)?;
     }
     Ok(())
-}
-
-/// A number, or the greatest that has room where that is less: an end that serves for more than it has to is no mistake.
-fn narrow(number: u64) -> u32
-    ensures { result ≤ number }
-{
-    number.min(u64::from(u32::MAX)) as u32
 }
 
 /// Appends an end with more area before it, where that is not too much.
@@ -142,12 +183,12 @@ fn gather_ends(
 }
 
 /// A staircase of these ends.
-fn staircase(alloc: Global, ends: &[End]) -> Result<Vec<End>, Halt>
+fn staircase(alloc: Global, ends: &[End], shift: u32) -> Result<Vec<End>, Halt>
     ensures falls { IfOk result (λ stairs. Falls stairs.items) }
     ensures ends { IfOk result (λ stairs. (a t : ℕ) → Ended ends.now a t → Ended stairs.items a t) }
 {
     let mut stairs = Vec::new(alloc);
-    push_ends(&mut stairs, ends)?;
+    push_ends(&mut stairs, ends, shift)?;
     if !falls(stairs.as_slice()) {
         return Err(Halt::Limit);
     }
@@ -172,12 +213,12 @@ pub fn ends_behind(
 {
     let mut all = gather_ends(alloc, rows, levels, row, most)?;
     all.sort_unstable_by_key(|end| end.area);
-    let stairs = staircase(alloc, all.as_slice())?;
+    let stairs = staircase(alloc, all.as_slice(), shift_of(most))?;
     Ok(stairs)
 }
 
-/// The ends of a row with itself, from which this is to go.
-pub fn with_itself(alloc: Global, behind: &[End], to_go: u64) -> Result<Vec<End>, Halt>
+/// The ends of a row with itself, from which this is to go; no more than `most` area is before them.
+pub fn with_itself(alloc: Global, behind: &[End], to_go: u64, most: u64) -> Result<Vec<End>, Halt>
     ensures falls { IfOk result (λ stairs. Falls stairs.items) }
     ensures own { IfOk result (λ stairs. Ended stairs.items 0 to_go) }
     ensures ends { IfOk result (λ stairs. (a t : ℕ) → Ended behind.now a t → Ended stairs.items a t) }
@@ -187,8 +228,9 @@ pub fn with_itself(alloc: Global, behind: &[End], to_go: u64) -> Result<Vec<End>
         area: 0,
         to_go: narrow(to_go),
     };
-    push_end(&mut stairs, &own)?;
-    push_ends(&mut stairs, behind)?;
+    let shift = shift_of(most);
+    push_end(&mut stairs, &own, shift)?;
+    push_ends(&mut stairs, behind, shift)?;
     if !falls(stairs.as_slice()) {
         return Err(Halt::Limit);
     }

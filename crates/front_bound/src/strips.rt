@@ -31,6 +31,8 @@ pub struct Limits {
     pub height: u32,
     /// Their width and what is to go behind them is no more than this, in mm.
     pub most: u64,
+    /// Ends of strips stand in steps of so much area, as a power of 2 in mm².
+    pub shift: u32,
 }
 
 /// The glass of this width above what is used of a height, in mm².
@@ -66,7 +68,12 @@ fn try_band(
     }
     let free = glass_above(limits.bound, limits.height, sum.least);
     let within = limits.most - u64::from(shared.least);
-    if is_beyond(ends_of(levels, band.to as usize), free, within) {
+    if is_beyond(
+        ends_of(levels, band.to as usize),
+        limits.shift,
+        free,
+        within,
+    ) {
         return Ok(());
     }
     let joined = Label {

@@ -117,13 +117,13 @@ fn open_level(
 }
 
 /// Says what is to go from the last row, and with that it is an end of its own.
-fn close_level(alloc: Global, levels: &mut Vec<Level>, far: u64) -> Result<(), Halt>
+fn close_level(alloc: Global, levels: &mut Vec<Level>, far: u64, cover: u64) -> Result<(), Halt>
     ensures { OnOk result (IsClosed levels.old.items levels.new.items far) }
 {
     let Some(last) = levels.pop() else {
         return Err(Halt::Limit);
     };
-    let ends = with_itself(alloc, last.ends.as_slice(), far)?;
+    let ends = with_itself(alloc, last.ends.as_slice(), far, cover)?;
     let closed = Level {
         bands: last.bands,
         lists: last.lists,
@@ -217,7 +217,7 @@ fn add_level(
         cover,
         hint,
     )?;
-    close_level(alloc, levels, far)?;
+    close_level(alloc, levels, far, cover)?;
     Ok(())
 }
 

@@ -2,7 +2,7 @@ use Rattle.std.proofs.Common.{ℕ, ◌+◌, ◌<◌, get_or}
 use Rattle.front_bound.specs.declared.labels.Label.{Label}
 use Rattle.front_bound.specs.inner.Placed.{RunJoined}
 use Rattle.front_bound.specs.inner.Pools.{Spreads}
-use Rattle.front_bound.proofs.placed_strips.join_runs.Given as goal
+use Rattle.front_bound.proofs.placed_bands.join_runs.Given as goal
 
 abbrev pub invariant-loop-cells : goal.invariant-loop-cells
 invariant-loop-cells l = record {

@@ -5,7 +5,7 @@ use Rattle.front_bound.proofs.Each.{up_to, contained_each}
 use Rattle.front_bound.proofs.KeyLists.{before_high}
 use Rattle.front_bound.proofs.PoolRows.{spreads_then}
 use Rattle.front_bound.proofs.PlacedRows.{entry_kept}
-use Rattle.front_bound.proofs.placed_strips.join_list.Goals as goal
+use Rattle.front_bound.proofs.placed_bands.join_list.Goals as goal
 
 pub returns-then-from-slack-clause-joined : goal.returns-then-from-slack-clause-joined
 returns-then-from-slack-clause-joined c =

@@ -2,7 +2,7 @@ use Rattle.std.proofs.Common.{arith}
 use Rattle.std.proofs.lemmas.Nat.{mul-le}
 use Rattle.front_bound.specs.inner.Placed.{BandJoined, RunJoined, IsSlack}
 use Rattle.front_bound.proofs.HeldLists.{least_first}
-use Rattle.front_bound.proofs.placed_strips.join_run.Goals as goal
+use Rattle.front_bound.proofs.placed_bands.join_run.Goals as goal
 
 pub returns-then-waste-slack-clause-joined : goal.returns-then-waste-slack-clause-joined
 unfolding RunJoined IsSlack

@@ -1,7 +1,7 @@
 use Rattle.std.proofs.Common.{ℕ, ◌<◌}
 use Rattle.front_bound.specs.inner.Placed.{RunsJoined}
 use Rattle.front_bound.specs.inner.Pools.{Spreads, row_at}
-use Rattle.front_bound.proofs.placed_strips.join_rows.Given as goal
+use Rattle.front_bound.proofs.placed_bands.join_rows.Given as goal
 
 abbrev pub invariant-loop-to : goal.invariant-loop-to
 invariant-loop-to l = record {

@@ -1,7 +1,7 @@
 use Rattle.std.proofs.Common.{arith}
 use Rattle.front_bound.specs.inner.Placed.{BandJoined, MoveJoined}
 use Rattle.front_bound.proofs.HeldLists.{least_first}
-use Rattle.front_bound.proofs.placed_strips.join_move.Goals as goal
+use Rattle.front_bound.proofs.placed_bands.join_move.Goals as goal
 
 pub returns-then-to-row-clause-joined : goal.returns-then-to-row-clause-joined
 unfolding MoveJoined

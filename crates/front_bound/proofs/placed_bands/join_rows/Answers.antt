@@ -4,7 +4,7 @@ use Rattle.front_bound.specs.inner.Pools.{row_at}
 use Rattle.front_bound.proofs.Each.{below_next}
 use Rattle.front_bound.proofs.PoolRows.{spreads_same, spreads_then, spreads_from}
 use Rattle.front_bound.proofs.PlacedRows.{runs_kept, runs_none}
-use Rattle.front_bound.proofs.placed_strips.join_rows.Goals as goal
+use Rattle.front_bound.proofs.placed_bands.join_rows.Goals as goal
 
 pub loop-to-init : goal.loop-to-init
 loop-to-init c = record {

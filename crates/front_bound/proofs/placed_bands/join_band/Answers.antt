@@ -3,7 +3,7 @@ use Rattle.front_bound.specs.inner.Ends.{Ended}
 use Rattle.front_bound.specs.inner.Placed.{BandJoined}
 use Rattle.front_bound.proofs.HeldLists.{least_first}
 use Rattle.front_bound.proofs.StripTries.{less_glass}
-use Rattle.front_bound.proofs.placed_strips.join_band.Goals as goal
+use Rattle.front_bound.proofs.placed_bands.join_band.Goals as goal
 
 pub returns-then-band-limits-clause-joined : goal.returns-then-band-limits-clause-joined
 unfolding BandJoined

@@ -4,7 +4,7 @@ use Rattle.front_bound.specs.inner.Placed.{RunJoined}
 use Rattle.front_bound.proofs.Each.{up_to}
 use Rattle.front_bound.proofs.PoolRows.{spreads_then}
 use Rattle.front_bound.proofs.PlacedRows.{run_kept, runs_joined}
-use Rattle.front_bound.proofs.placed_strips.join_runs.Goals as goal
+use Rattle.front_bound.proofs.placed_bands.join_runs.Goals as goal
 
 pub loop-cells-preserved : goal.loop-cells-preserved
 loop-cells-preserved c = record {

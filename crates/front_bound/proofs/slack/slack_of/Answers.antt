@@ -3,7 +3,7 @@ use Rattle.front_bound.specs.inner.Ends.{Ended, Falls}
 use Rattle.front_bound.specs.inner.Placed.{NoneGoesOn, IsSlack}
 use Rattle.front_bound.proofs.HeldLists.{least_first}
 use Rattle.front_bound.proofs.PlacedRows.{can_leave, can_hold}
-use Rattle.front_bound.proofs.placed_strips.slack_of.Goals as goal
+use Rattle.front_bound.proofs.slack.slack_of.Goals as goal
 
 pub near-requires : goal.near-requires
 near-requires c = subst Falls (sym c.ends_of.ensures) (c.requires.ground.falls c.args.row c.requires.row)

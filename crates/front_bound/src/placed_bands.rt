@@ -1,0 +1,224 @@
+//! Strips around defects, by one band more.
+
+ghost use Rattle.std.specs.Prelude.{ℕ, ◌+◌, ◌<◌, ◌≤◌, Contains, OnOk, length};
+ghost use Rattle.front_bound.specs.declared.keyed.Keyed.{Keyed as KeyedOf};
+ghost use Rattle.front_bound.specs.inner.Ends.{Falls};
+ghost use Rattle.front_bound.specs.inner.Levels.{ends_at};
+ghost use Rattle.front_bound.specs.inner.Lists.{Rises};
+ghost use Rattle.front_bound.specs.inner.Placed.{BandJoined, EntryJoined, IsSlack, MoveJoined, RunJoined, RunsJoined};
+ghost use Rattle.front_bound.specs.inner.Pools.{Spreads, row_at};
+
+use crate::bands::band_of;
+use crate::ends::{is_beyond, near};
+use crate::ground::Ground;
+use crate::halt::Halt;
+use crate::keyed::{Keyed, entry_at, key_at};
+use crate::labels::Label;
+use crate::levels::{band_at, ends_of};
+use crate::moves::Move;
+use crate::pools::Pool;
+use crate::rows::waste_left;
+use crate::strips::glass_above;
+
+/// Goes on from a label by a band, where the strip can still end near enough.
+fn join_band(
+    pool: &mut Pool,
+    ground: &Ground<'_>,
+    label: &Label,
+    to: usize,
+    band: &Label,
+) -> Result<(), Halt>
+    requires pool { to < length pool.old }
+    requires levels { to < length ground.now.levels.now }
+    requires falls { Falls (ends_at ground.now.levels.now to) }
+    ensures spreads { OnOk result (Spreads (to + 1) pool.old pool.new) }
+    ensures joined { OnOk result (BandJoined ground.now pool.new label.now to band.now) }
+{
+    let limits = ground.limits;
+    if band.up > limits.height {
+        return Ok(());
+    }
+    let Some(sum) = label.along.plus(&band.along, limits.height) else {
+        return Ok(());
+    };
+    let shared = label.across.meet(&band.across);
+    if shared.least > limits.bound {
+        return Ok(());
+    }
+    let wide = u64::from(shared.least);
+    if wide > limits.most {
+        return Ok(());
+    }
+    let right = label.right.max(band.right);
+    let end = u64::from(right);
+    if end > ground.reach {
+        return Ok(());
+    }
+    let free = glass_above(limits.bound, limits.height, band.up);
+    let within = (limits.most - wide).min(ground.reach - end);
+    if is_beyond(
+        ends_of(ground.levels, to),
+        ground.limits.shift,
+        free,
+        within,
+    ) {
+        return Ok(());
+    }
+    let joined = Label {
+        along: sum,
+        across: shared,
+        right,
+        up: band.up,
+    };
+    pool.offer(to, &joined)?;
+    Ok(())
+}
+
+/// Goes on from a label of a row by the band that a run of cells makes, where it leaves no more than this.
+fn join_run(
+    pool: &mut Pool,
+    ground: &Ground<'_>,
+    row: usize,
+    label: &Label,
+    slack: u64,
+    to: usize,
+    cells: &Label,
+) -> Result<(), Halt>
+    requires pool { to < length pool.old }
+    requires levels { to < length ground.now.levels.now }
+    requires falls { Falls (ends_at ground.now.levels.now to) }
+    requires slack { IsSlack ground.now row label.now slack }
+    ensures spreads { OnOk result (Spreads (to + 1) pool.old pool.new) }
+    ensures joined { OnOk result (RunJoined ground.now pool.new row label.now to cells.now) }
+{
+    let mut band = band_of(cells, ground.site.waste);
+    let waste = waste_left(ground.rows, row, to, ground.limits.top, band.along.least);
+    if waste > slack {
+        return Ok(());
+    }
+    band.up = band.up.max(label.up.saturating_add(band.along.least));
+    join_band(pool, ground, label, to, &band)?;
+    Ok(())
+}
+
+/// The same of each run of cells to a row.
+fn join_runs(
+    pool: &mut Pool,
+    ground: &Ground<'_>,
+    row: usize,
+    label: &Label,
+    slack: u64,
+    to: usize,
+    runs: &[Label],
+) -> Result<(), Halt>
+    requires pool { to < length pool.old }
+    requires levels { to < length ground.now.levels.now }
+    requires falls { Falls (ends_at ground.now.levels.now to) }
+    requires slack { IsSlack ground.now row label.now slack }
+    ensures spreads { OnOk result (Spreads (to + 1) pool.old pool.new) }
+    ensures joined { OnOk result (RunsJoined ground.now pool.new row label.now to runs.now) }
+{
+    for cells in runs {
+        join_run(pool, ground, row, label, slack, to, cells)?;
+    }
+    Ok(())
+}
+
+/// The same of each row that cells lead to.
+pub fn join_rows(
+    pool: &mut Pool,
+    ground: &Ground<'_>,
+    row: usize,
+    label: &Label,
+    slack: u64,
+    cells: &Pool,
+) -> Result<(), Halt>
+    requires pool { row < length pool.old }
+    requires cells { row < length cells.now }
+    requires levels { row < length ground.now.levels.now }
+    requires falls { (n : ℕ) → n ≤ row → Falls (ends_at ground.now.levels.now n) }
+    requires slack { IsSlack ground.now row label.now slack }
+    ensures spreads { OnOk result (Spreads row pool.old pool.new) }
+    ensures joined { OnOk result ((to : ℕ) → to < row → RunsJoined ground.now pool.new row label.now to (row_at cells.now to)) }
+{
+    let low = cells.low();
+    for to in low..row {
+        join_runs(pool, ground, row, label, slack, to, cells.labels(to))?;
+    }
+    Ok(())
+}
+
+/// Goes on from a label of a row by a band that no defect is in the way of.
+fn join_move(
+    pool: &mut Pool,
+    ground: &Ground<'_>,
+    row: usize,
+    label: &Label,
+    band: &Move,
+) -> Result<(), Halt>
+    requires pool { row < length pool.old }
+    requires levels { row < length ground.now.levels.now }
+    requires falls { (n : ℕ) → n ≤ row → Falls (ends_at ground.now.levels.now n) }
+    ensures spreads { OnOk result (Spreads row pool.old pool.new) }
+    ensures joined { OnOk result (MoveJoined ground.now pool.new row label.now band.now) }
+{
+    let to = band.to as usize;
+    if to >= row {
+        return Ok(());
+    }
+    let raised = Label {
+        along: band.label.along,
+        across: band.label.across,
+        right: 0,
+        up: label.up.saturating_add(band.label.along.least),
+    };
+    join_band(pool, ground, label, to, &raised)?;
+    Ok(())
+}
+
+/// The same of the band at a place.
+fn join_entry(
+    pool: &mut Pool,
+    ground: &Ground<'_>,
+    row: usize,
+    label: &Label,
+    place: u32,
+) -> Result<(), Halt>
+    requires pool { row < length pool.old }
+    requires levels { row < length ground.now.levels.now }
+    requires falls { (n : ℕ) → n ≤ row → Falls (ends_at ground.now.levels.now n) }
+    ensures spreads { OnOk result (Spreads row pool.old pool.new) }
+    ensures joined { OnOk result (EntryJoined ground.now pool.new row label.now place) }
+{
+    let Some(band) = band_at(ground.levels, row, place) else {
+        return Ok(());
+    };
+    join_move(pool, ground, row, label, &band)?;
+    Ok(())
+}
+
+/// The same of each band of a list that leaves no more than this.
+pub fn join_list(
+    pool: &mut Pool,
+    ground: &Ground<'_>,
+    row: usize,
+    label: &Label,
+    slack: u64,
+    list: &[Keyed],
+) -> Result<(), Halt>
+    requires pool { row < length pool.old }
+    requires levels { row < length ground.now.levels.now }
+    requires falls { (n : ℕ) → n ≤ row → Falls (ends_at ground.now.levels.now n) }
+    requires rises { Rises list.now }
+    ensures spreads { OnOk result (Spreads row pool.old pool.new) }
+    ensures joined { OnOk result ((e : KeyedOf) → Contains list.now e → e.key ≤ slack → EntryJoined ground.now pool.new row label.now e.place) }
+{
+    for at in 0..list.len() {
+        if u64::from(key_at(list, at)) > slack {
+            return Ok(());
+        }
+        let entry = entry_at(list, at);
+        join_entry(pool, ground, row, label, entry.place)?;
+    }
+    Ok(())
+}

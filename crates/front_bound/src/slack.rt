@@ -1,0 +1,65 @@
+//! How much a band may leave beside and over its cells, where a strip is to end near enough.
+
+ghost use Rattle.std.specs.Prelude.{◌<◌, ◌≤◌, IfNone, IfSome, length};
+ghost use Rattle.front_bound.specs.inner.Placed.{IsGround, IsSlack, NoneGoesOn};
+
+use crate::ends::near;
+use crate::ground::Ground;
+use crate::labels::Label;
+use crate::levels::ends_of;
+use crate::strips::glass_above;
+
+/// How much a band by which a label of a row goes on may leave beside and over its cells, in mm²; none where no strip can still end near enough.
+pub fn slack_of(ground: &Ground<'_>, row: usize, label: &Label) -> Option<u64>
+    requires row { row < length ground.now.levels.now }
+    requires ground { IsGround ground.now }
+    ensures none { IfNone result (NoneGoesOn ground.now row label.now) }
+    ensures slack { IfSome result (IsSlack ground.now row label.now) }
+{
+    let limits = ground.limits;
+    let wide = u64::from(label.across.least);
+    if wide > limits.most {
+        return None;
+    }
+    let end = u64::from(label.right);
+    if end > ground.reach {
+        return None;
+    }
+    let within = (limits.most - wide).min(ground.reach - end);
+    let Some(area) = near(ends_of(ground.levels, row), within) else {
+        return None;
+    };
+    let whole = glass_above(limits.top, limits.height, label.up);
+    if whole < area {
+        return None;
+    }
+    Some(whole - area)
+}
+
+/// The greater of a slack and of that of one of a row's labels, where this one reaches up to `up`.
+fn more_slack(ground: &Ground<'_>, row: usize, label: &Label, up: u32, slack: u64) -> u64
+    requires row { row < length ground.now.levels.now }
+    requires ground { IsGround ground.now }
+    ensures { slack ≤ result }
+{
+    if label.up != up {
+        return slack;
+    }
+    match slack_of(ground, row, label) {
+        Some(own) => slack.max(own),
+        None => slack,
+    }
+}
+
+/// The greatest of a slack and of those of a row's labels that reach up to `up`.
+pub fn most_slack(ground: &Ground<'_>, row: usize, labels: &[Label], up: u32, slack: u64) -> u64
+    requires row { row < length ground.now.levels.now }
+    requires ground { IsGround ground.now }
+    ensures { slack ≤ result }
+{
+    let mut most = slack;
+    for label in labels {
+        most = more_slack(ground, row, label, up, most);
+    }
+    most
+}
