@@ -1,9 +1,14 @@
 #!/usr/bin/env bash
 # Bounds by fronts on examples/realistic and on drawn instances (start, items, defects): the loss of which it is shown that no plan loses less, with processor seconds and memory.
 #
-#   bench/fronts.sh [PLAIN]      PLAIN: a program that answers `PLAIN gen START ITEMS DEFECTS --bound` and `PLAIN BATCH DEFECTS --bound` with a line `bound LOSS ..`, to compare with
+#   bench/fronts.sh [--plans] [PLAIN]      --plans: besides, what the plan loses that is found along the fronts, or `none`. PLAIN: a program that answers `PLAIN gen START ITEMS DEFECTS --bound` and `PLAIN BATCH DEFECTS --bound` with a line `bound LOSS ..`, to compare with
 set -eu
 top=$(cd "$(dirname "$0")/.." && pwd)
+asked=
+if [ "${1:-}" = --plans ]; then
+  asked='plan '
+  shift
+fi
 plain=${1:-}
 (cd "$top/crates/front_book" && rt run > /dev/null 2>&1 < stdin)
 program=$top/crates/front_book/out/front_book
@@ -26,7 +31,7 @@ line_of() {
 tell() {
   local name=$1 batch=$2 faults=$3
   shift 3
-  loss=$(line_of "$batch" "$faults" | /usr/bin/time -o "$work/figures" -f '%U %M' "$program" | sed 's/.*: //')
+  loss=$(line_of "$batch" "$faults" | sed "s/^/$asked/" | /usr/bin/time -o "$work/figures" -f '%U %M' "$program" | sed 's/.*: //')
   read -r seconds memory < "$work/figures"
   printf '%-12s %12s %8s %8s' "$name" "$loss" "$seconds" $((memory / 1024))
   if [ -n "$plain" ]; then

@@ -4,21 +4,31 @@
 //!     START ITEMS LENGTH
 //!     PLATES WIDTH HEIGHT MIN1 MAX1 MIN2 WASTE / ITEMS
 //!     PLATES WIDTH HEIGHT MIN1 MAX1 MIN2 WASTE / ITEMS / DEFECTS
+//!     plan LINE
 //!
 //! The first two draw an instance from the start, with so many items and no defects; the others give one: its parameters, for each item its length, its width and its stack, and for each
 //! defect its plate, its lower left corner, its width and its height. All sizes are in mm. The answer is the greatest loss in mm² of which it is shown that no lawful plan loses less; where a
-//! LENGTH is asked for, whether it is shown that no lawful plan is shorter.
+//! LENGTH is asked for, whether it is shown that no lawful plan is shorter. Behind the word `plan` a line is answered by that loss and by what the plan loses that is found along the fronts, or
+//! `none`.
 #![tactic(auto)]
 
 mod given;
 mod numbers;
 
+ghost use Rattle.glass_base.specs.Problem.{IsProblem};
+ghost use Rattle.plan_trace.specs.Claims.{IsComplete};
+
 use crate::given::given;
 use crate::numbers::numbers_of;
 use anyhow::{bail, ensure};
+use cut_model::Trace;
+use defect_map::DefectMap;
 use front_bound::bounds::{is_no_shorter, longest_shown};
+use front_bound::plans::longest_with_plan;
 use glass_base::Instance;
 use glass_gen::generate;
+use loss_area::length;
+use plan_trace::laws::traces_keep_their_kinds;
 use std::alloc::Global;
 
 /// No more labels than this are looked at in a search.
@@ -30,16 +40,57 @@ fn drawn(alloc: Global, start: u32, items: u32) -> anyhow::Result<Instance> {
     Ok(generate(alloc, start, items, 0)?)
 }
 
+/// No plan is longer, in mm.
+fn most_of(instance: &Instance) -> u64 {
+    let params = instance.params();
+    u64::from(params.plates) * u64::from(params.width)
+}
+
+/// The glass of a length that is no item, in mm².
+fn loss_at(instance: &Instance, length: u64) -> u64 {
+    length
+        .saturating_mul(u64::from(instance.params().height))
+        .saturating_sub(instance.area())
+}
+
 /// The loss of which it is shown that no lawful plan loses less, in mm².
 fn loss_of(alloc: Global, instance: &Instance) -> anyhow::Result<u64> {
-    let params = instance.params();
-    let most = u64::from(params.plates) * u64::from(params.width);
-    let length = longest_shown(alloc, instance, most, LIMIT)?;
-    Ok(
-        length
-            .saturating_mul(u64::from(params.height))
-            .saturating_sub(instance.area()),
-    )
+    let length = longest_shown(alloc, instance, most_of(instance), LIMIT)?;
+    Ok(loss_at(instance, length))
+}
+
+/// The length of a trace, in mm.
+fn length_of_plan(instance: &Instance, trace: &Trace) -> u64
+    requires problem { IsProblem instance.now }
+    requires complete { IsComplete instance.now trace.now.steps.items }
+{
+    traces_keep_their_kinds();
+    length(instance, trace)
+}
+
+/// The loss of which it is shown that no lawful plan loses less, and that of the plan along the fronts.
+fn losses_of(alloc: Global, instance: &Instance) -> anyhow::Result<String> {
+    let map = DefectMap::new(alloc, instance)?;
+    let shown = longest_with_plan(alloc, instance, &map, most_of(instance), LIMIT)?;
+    let least = loss_at(instance, shown.length);
+    let Some(plan) = shown.plan else {
+        return Ok(format!(in alloc; "{least} none")?);
+    };
+    let _rules = instance.items();
+    let loss = loss_at(instance, length_of_plan(instance, &plan));
+    Ok(format!(in alloc; "{least} {loss}")?)
+}
+
+/// The instance of a line.
+fn instance_of(alloc: Global, line: &str) -> anyhow::Result<Instance> {
+    if line.contains('/') {
+        return given(alloc, line);
+    }
+    let numbers = numbers_of(alloc, line)?;
+    match numbers.as_slice() {
+        [start, items] => drawn(alloc, *start, *items),
+        _ => bail!("a line that draws an instance for a plan has two numbers"),
+    }
 }
 
 /// The answer to the numbers of a line that asks for a drawn instance.
@@ -61,6 +112,10 @@ fn drawn_answer(alloc: Global, numbers: &[u32]) -> anyhow::Result<String> {
 
 /// The answer to a line.
 fn answer(alloc: Global, line: &str) -> anyhow::Result<String> {
+    if let Some(line) = line.strip_prefix("plan ") {
+        let instance = instance_of(alloc, line)?;
+        return losses_of(alloc, &instance);
+    }
     if line.contains('/') {
         let instance = given(alloc, line)?;
         let loss = loss_of(alloc, &instance)?;

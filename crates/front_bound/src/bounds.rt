@@ -31,7 +31,7 @@ fn base_of(table: &Table) -> u64 {
 }
 
 /// All fronts of an instance, where there are no more than `limit`, with what is known of them.
-fn table_of(alloc: Global, instance: &Instance, limit: u64) -> Result<Table, Halt>
+pub fn table_of(alloc: Global, instance: &Instance, limit: u64) -> Result<Table, Halt>
     ensures { IfOk result (IsTable instance.now) }
 {
     let shape = shape_of(alloc, instance, limit)?;
@@ -118,13 +118,19 @@ pub fn is_no_shorter(
 }
 
 /// The greatest length up to `most` of which it is shown that no course is shorter.
-fn longest(alloc: Global, instance: &Instance, most: u64, limit: u64) -> Result<u64, Halt>
+pub fn longest(
+    alloc: Global,
+    instance: &Instance,
+    table: &Table,
+    most: u64,
+    limit: u64,
+) -> Result<u64, Halt>
+    requires { IsTable instance.now table.now }
     ensures shown { IfOk result (NoCourseShorter instance.now) }
     ensures most { IfOk result (λ least. least ≤ most) }
 {
-    let table = table_of(alloc, instance, limit)?;
     let mut shown = 0;
-    let mut next = base_of(&table).min(most);
+    let mut next = base_of(table).min(most);
     let mut step = FIRST_STEP;
     for _ in 0..ROUNDS {
         let least = match least_reached(alloc, instance, &table.lend(), next, limit) {
@@ -142,6 +148,16 @@ fn longest(alloc: Global, instance: &Instance, most: u64, limit: u64) -> Result<
     Ok(shown)
 }
 
+/// The same, with the table of fronts made for it.
+fn longest_of_all(alloc: Global, instance: &Instance, most: u64, limit: u64) -> Result<u64, Halt>
+    ensures shown { IfOk result (NoCourseShorter instance.now) }
+    ensures most { IfOk result (λ least. least ≤ most) }
+{
+    let table = table_of(alloc, instance, limit)?;
+    let shown = longest(alloc, instance, &table, most, limit)?;
+    Ok(shown)
+}
+
 /// The greatest length up to `most`, in mm, of which it is shown that no lawful plan is shorter: searches within a growing length, the last of which comes to
 /// an end. Where more than `limit` labels would be looked at in one of them, it is what those before have shown; where there are more than `limit` fronts, it
 /// is 0, which says nothing.
@@ -156,7 +172,7 @@ pub fn longest_shown(
 {
     let _rules = instance.items();
     courses_bound_losses();
-    match longest(alloc, instance, most, limit) {
+    match longest_of_all(alloc, instance, most, limit) {
         Ok(shown) => Ok(shown),
         Err(Halt::Limit) => Ok(0),
         Err(Halt::Memory) => Err(Memory),

@@ -122,6 +122,19 @@ fn least_in_class(
     Ok(least)
 }
 
+/// The least width of a class of strips, where the narrowest of all are so wide.
+pub fn low_of(tops: &[u32], class: usize, min1: u32) -> u32
+    ensures { class ≡ 0 → result ≡ min1 }
+{
+    if class == 0 {
+        return min1;
+    }
+    match tops.get(class - 1) {
+        Some(top) => top.saturating_add(1),
+        None => min1,
+    }
+}
+
 /// What strips of one class leave to go from a row; any number where none is within the limit.
 fn least_hinted(
     instance: &Instance,
@@ -143,11 +156,7 @@ fn least_hinted(
     if class >= tops.len() {
         return Ok(FAR);
     }
-    let low = if class == 0 {
-        instance.params().min1
-    } else {
-        tops[class - 1].saturating_add(1)
-    };
+    let low = low_of(tops, class, instance.params().min1);
     let least = least_in_class(
         instance, rows, tops, levels, pool, start, class, low, limit, cover,
     )?;

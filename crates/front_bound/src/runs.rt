@@ -1,12 +1,12 @@
 //! Where strips can end within a length, from the first row down.
 
-ghost use Rattle.std.specs.Prelude.{◌≡◌, ℕ, suc, ◌+◌, ◌<◌, ◌≤◌, [], ◌∷◌, length, IfOk, OnOk};
+ghost use Rattle.std.specs.Prelude.{◌≡◌, ℕ, suc, ◌+◌, ◌-◌, ◌<◌, ◌≤◌, [], ◌∷◌, length, IfOk, OnOk};
 ghost use Rattle.glass_base.specs.Plates.{Before, Width};
 ghost use Rattle.plan_trace.specs.TraceRules.{Gap};
 ghost use Rattle.front_course.specs.Claims.{NoCourseShorter};
 ghost use Rattle.front_bound.specs.inner.Around.{IsClass, IsRoomy};
 ghost use Rattle.front_bound.specs.inner.Levels.{to_go_at};
-ghost use Rattle.front_bound.specs.inner.Pools.{Spreads};
+ghost use Rattle.front_bound.specs.inner.Pools.{HeldAt, Spreads};
 ghost use Rattle.front_bound.specs.inner.Ready.{AreFronts};
 ghost use Rattle.front_bound.specs.inner.Sets.{Fits, Held, Keeps};
 ghost use Rattle.front_bound.specs.inner.Sides.{ClassGoesOn, NextHeld, PlateGoesOn, SidesGoOn};
@@ -265,7 +265,7 @@ fn handle_row(
 }
 
 /// The lesser of a length and of where a plate can end at a side, with all plates before it in one line.
-fn end_by(instance: &Instance, side: &Label, least: u64) -> u64
+pub fn end_by(instance: &Instance, side: &Label, least: u64) -> u64
     ensures least { result ≤ least }
     ensures side { (right plate : ℕ) → Fits side.now right plate → plate < instance.now.params.plates → Gap instance.now.params.waste right (Width instance.now plate) → result ≤ Before instance.now plate + right }
 {
@@ -298,24 +298,24 @@ fn least_end(instance: &Instance, sides: &[Label], most: u64) -> u64
     least
 }
 
-/// A length that no course is below, as far as what is known of all fronts tells: the least one up to `most`, or more than that where none is so short.
-pub fn least_reached(
+/// The right sides at which strips can end, front by front, as far as they and what is to go are within `most`.
+pub fn sides_within(
     alloc: Global,
     instance: &Instance,
     fronts: &Fronts<'_>,
     most: u64,
     limit: u64,
-) -> Result<u64, Halt>
-    requires { AreFronts instance.now fronts.now }
-    ensures { IfOk result (NoCourseShorter instance.now) }
+) -> Result<Pool, Halt>
+    requires some { 1 < length fronts.now.rows.now }
+    requires fronts { AreFronts instance.now fronts.now }
+    ensures len { IfOk result (λ sides. length sides ≡ length fronts.now.rows.now) }
+    ensures start { IfOk result (λ sides. HeldAt sides (length fronts.now.rows.now - 1) 0 0) }
+    ensures goes_on { IfOk result (λ sides. (n : ℕ) → 0 < n → n < length fronts.now.rows.now → SidesGoOn instance.now fronts.now.rows.now (to_go_at fronts.now.levels.now) most sides n) }
 {
     let mut sides = Pool::new(alloc, fronts.rows.len(), limit)?;
     let mut space = new_space(alloc, fronts.rows, limit)?;
     let mut begins = Vec::new(alloc);
     let first = fronts.rows.len() - 1;
-    if first == 0 {
-        return Ok(0);
-    }
     let start = Label {
         along: SizeSet::only(0),
         across: SizeSet::only(0),
@@ -334,5 +334,23 @@ pub fn least_reached(
             most,
         )?;
     }
+    Ok(sides)
+}
+
+/// A length that no course is below, as far as what is known of all fronts tells: the least one up to `most`, or more than that where none is so short.
+pub fn least_reached(
+    alloc: Global,
+    instance: &Instance,
+    fronts: &Fronts<'_>,
+    most: u64,
+    limit: u64,
+) -> Result<u64, Halt>
+    requires { AreFronts instance.now fronts.now }
+    ensures { IfOk result (NoCourseShorter instance.now) }
+{
+    if fronts.rows.len() <= 1 {
+        return Ok(0);
+    }
+    let sides = sides_within(alloc, instance, fronts, most, limit)?;
     Ok(least_end(instance, sides.labels(0), most.saturating_add(1)))
 }

@@ -62,6 +62,21 @@ impl SizeSet {
         SizeSet::reaching(from.min(u64::from(u32::MAX)) as u32, from)
     }
 
+    /// A size of each that come to this sum, where there are such.
+    pub fn parts(&self, other: &SizeSet, sum: u32) -> Option<(u32, u32)>
+        ensures { IfSome result (λ p. Has self.now p.0 × Has other.now p.1 × (p.0 + p.1 ≡ sum)) }
+    {
+        let behind = sum.saturating_sub(self.least);
+        if self.least <= sum && other.has(behind) {
+            return Some((self.least, behind));
+        }
+        let before = sum.saturating_sub(other.least);
+        if other.least <= sum && self.has(before) {
+            return Some((before, other.least));
+        }
+        None
+    }
+
     /// The sizes that both have.
     pub fn meet(&self, other: &SizeSet) -> SizeSet
         ensures { (x : ℕ) → Has self.now x → Has other.now x → Has result x }

@@ -3,7 +3,7 @@ use Rattle.front_bound.specs.inner.Around.{IsRoomy}
 use Rattle.front_bound.specs.inner.Levels.{to_go_at}
 use Rattle.front_bound.specs.inner.Pools.{HeldAt}
 use Rattle.front_bound.specs.inner.Sides.{SidesGoOn}
-use Rattle.front_bound.proofs.runs.least_reached.Given as goal
+use Rattle.front_bound.proofs.runs.sides_within.Given as goal
 
 abbrev pub invariant-loop-done : goal.invariant-loop-done
 invariant-loop-done l = record {

@@ -1,0 +1,151 @@
+//! Strips that end at a right side: the right sides that a search within a length left say behind which of them a strip can begin.
+
+ghost use Rattle.std.specs.Prelude.{◌≡◌, ◌<◌, length, OnOk};
+ghost use Rattle.front_bound.specs.inner.Ready.{AreFronts};
+
+use crate::ends::shift_of;
+use crate::far::low_of;
+use crate::halt::Halt;
+use crate::labels::Label;
+use crate::levels::to_go;
+use crate::pools::Pool;
+use crate::runs::end_by;
+use crate::sets::SizeSet;
+use crate::strips::{Limits, strips_from};
+use crate::table::Fronts;
+use glass_base::Instance;
+use std::alloc::Global;
+
+/// A right side at which strips can end: its plate, and where it stands on it, in mm.
+#[derive(Clone, Copy)]
+pub struct Side {
+    pub plate: u32,
+    pub right: u32,
+}
+
+/// A strip of a course.
+#[derive(Clone, Copy)]
+pub struct Strip {
+    /// The rows between which it leads.
+    pub from: usize,
+    pub to: usize,
+    /// The class of its widths.
+    pub class: usize,
+    /// Its left side, and the plate and right side at which it ends, in mm.
+    pub left: u32,
+    pub end: Side,
+}
+
+/// Where strips can begin on a plate behind a side: right of it on its own plate, at the left side of the next one where its own can end there.
+pub fn begins_behind(instance: &Instance, side: &Label, plate: u32) -> Option<SizeSet> {
+    let own = side.across.least;
+    if own == plate {
+        return Some(side.along);
+    }
+    if own.saturating_add(1) != plate || !side.along.has(instance.width(own)) {
+        return None;
+    }
+    Some(SizeSet::only(0))
+}
+
+/// The right side of the strip that ends at a side, where something begins at `left` on this plate: there may be a gap between the two.
+pub fn side_before(instance: &Instance, side: &Label, plate: u32, left: u32) -> Side {
+    let own = side.across.least;
+    let end = if own == plate {
+        left
+    } else {
+        instance.width(own)
+    };
+    let least = side.along.least;
+    let is_gap = least.saturating_add(instance.params().waste) <= end;
+    Side {
+        plate: own,
+        right: if is_gap { least } else { end },
+    }
+}
+
+/// The side at which the last plate of a shortest course ends.
+pub fn last_side(instance: &Instance, sides: &[Label]) -> Option<Side> {
+    let mut found = None;
+    let mut least = u64::MAX;
+    for side in sides {
+        let length = end_by(instance, side, u64::MAX);
+        if length < least {
+            least = length;
+            found = Some(side_before(instance, side, u32::MAX, 0));
+        }
+    }
+    found
+}
+
+/// Searches for the strips of a class between two rows that end at a side and begin in a set of places.
+pub fn strips_between(
+    pool: &mut Pool,
+    instance: &Instance,
+    fronts: &Fronts<'_>,
+    from: usize,
+    to: usize,
+    begins: &SizeSet,
+    end: &Side,
+    class: usize,
+) -> Result<(), Halt>
+    requires from { from < length fronts.now.rows.now }
+    requires to { to < from }
+    requires class { class < length fronts.now.tops.now }
+    requires pool { length pool.old ≡ length fronts.now.rows.now }
+    requires fronts { AreFronts instance.now fronts.now }
+    ensures { OnOk result (length pool.new ≡ length pool.old) }
+{
+    let params = instance.params();
+    let room = end.right.saturating_sub(begins.least);
+    let top = fronts.tops[class];
+    let limits = Limits {
+        class,
+        top,
+        bound: top.min(params.max1).min(room),
+        height: params.height,
+        most: u64::from(room).saturating_add(to_go(fronts.levels, to)),
+        shift: shift_of(fronts.cover),
+    };
+    let low = low_of(fronts.tops, class, params.min1);
+    strips_from(
+        pool,
+        fronts.rows,
+        fronts.levels,
+        &limits,
+        from,
+        low,
+        params.waste,
+    )?;
+    Ok(())
+}
+
+/// Adds a place, unless it is there.
+fn add_place(places: &mut Vec<u32>, place: u32) -> Result<(), Halt> {
+    if places.as_slice().contains(&place) {
+        return Ok(());
+    }
+    match places.push(place) {
+        Ok(()) => Ok(()),
+        Err(_) => Err(Halt::Memory),
+    }
+}
+
+/// Where strips begin that these labels stand for, that fill the plate's height and end here.
+pub fn lefts_of(
+    alloc: Global,
+    labels: &[Label],
+    height: u32,
+    begins: &SizeSet,
+    right: u32,
+) -> Result<Vec<u32>, Halt> {
+    let mut lefts = Vec::new(alloc);
+    for label in labels {
+        if label.along.has(height) {
+            if let Some(parts) = begins.parts(&label.across, right) {
+                add_place(&mut lefts, parts.0)?;
+            }
+        }
+    }
+    Ok(lefts)
+}
