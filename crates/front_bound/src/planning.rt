@@ -239,6 +239,9 @@ fn strip_to(
     ensures { OnOk result (length pool.new ≡ length pool.old) }
 {
     for from in to.saturating_add(1)..task.fronts.rows.len() {
+        if *tries == 0 {
+            return Ok(None);
+        }
         let found = strip_from(alloc, pool, task, sides.labels(from), from, to, end, tries)?;
         if found.is_some() {
             return Ok(found);
