@@ -83,6 +83,7 @@ right_of b first best seen loss rs (Act.Split step v) rules low_seen low_loss to
 right_of b first best seen loss rs (Act.Closed (Cause.Reason r) threshold) rules low_seen low_loss top is = (is.1, (let t = is.0 in omega arith), (let t = is.0 in omega arith))
 right_of b first best seen loss rs (Act.Closed Cause.Bound threshold) rules low_seen low_loss top is =
     ((is.1, reaches threshold (bound b rs) is.2 (bound_small b rs rules is.1)), (let t = is.0 in omega arith), (let t = is.0 in omega arith))
+right_of b first best seen loss rs (Act.Closed Cause.Floor threshold) rules low_seen low_loss top is = absurd is
 right_of b first best seen loss rs (Act.Closed Cause.Unsaid threshold) rules low_seen low_loss top is = absurd is
 
 -- the threshold of a closed box is at most what was seen, and the bound of one that was split is below it
@@ -90,6 +91,7 @@ act_within : (b : Problem) (rs : List Ranges) (seen loss : ℕ) (a : Act) → Is
 act_within b rs seen loss (Act.Split step v) is = let l = is.1 in omega arith
 act_within b rs seen loss (Act.Closed (Cause.Reason r) threshold) is = let t = is.0 in omega arith
 act_within b rs seen loss (Act.Closed Cause.Bound threshold) is = let t = is.0 in omega arith
+act_within b rs seen loss (Act.Closed Cause.Floor threshold) is = absurd is
 act_within b rs seen loss (Act.Closed Cause.Unsaid threshold) is = absurd is
 
 -- what stands is right by each loss that is at most what was seen, and at most its worker's loss

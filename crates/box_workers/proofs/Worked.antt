@@ -53,6 +53,7 @@ exact b m loss probed seen rs (Act.Split step v) s low small p is = let l = is.1
 exact b m loss probed seen rs (Act.Closed (Cause.Reason r) threshold) s low small p is =
     elim p [ inl found ↦ absurd (found.0.not_refuted (_, is.1.applies)) | inr none ↦ (let t = is.0 in let n = none.1 in omega arith) ]
 exact b m loss probed seen rs (Act.Closed Cause.Bound threshold) s low small p is = let t = is.0 in omega arith
+exact b m loss probed seen rs (Act.Closed Cause.Floor threshold) s low small p is = absurd is
 exact b m loss probed seen rs (Act.Closed Cause.Unsaid threshold) s low small p is = absurd is
 
 -- what is announced at last

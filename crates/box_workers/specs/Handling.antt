@@ -61,6 +61,7 @@ IsPlanAfter b rs loss probed old new =
 abbrev pub IsAct : Problem → List Ranges → ℕ → ℕ → Act → Type 0
 IsAct b rs seen loss (Act.Closed (Cause.Reason r) threshold) = (threshold ≡ seen) × IsFirstReason b rs r
 IsAct b rs seen loss (Act.Closed Cause.Bound threshold) = (threshold ≡ min seen loss) × (¬ IsRefuted b rs) × (threshold ≤ bound b rs)
+IsAct b rs seen loss (Act.Closed Cause.Floor threshold) = ⊥
 IsAct b rs seen loss (Act.Closed Cause.Unsaid threshold) = ⊥
 IsAct b rs seen loss (Act.Split step v) = (¬ IsRefuted b rs) × (bound b rs < min seen loss) × IsTrue (is_free rs step v)
 

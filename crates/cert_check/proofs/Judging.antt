@@ -1,34 +1,37 @@
 -- A fault refutes a certificate, and a walk without one proves it right.
-use Rattle.std.proofs.Common.{◌≡◌, ℕ, inl, inr, List, [], ◌∷◌, ◌++◌, length, Option, sym, ap, ◌∙◌, subst, All}
+use Rattle.std.proofs.Common.{◌≡◌, ℕ, inl, inr, List, [], ◌∷◌, ◌++◌, length, Option, Some, None, refl, sym, ap, ◌∙◌, subst, All}
+use Rattle.std.specs.Prelude.{IfOk, Result, Ok, Err}
 use Rattle.std.proofs.lemmas.List.Elements.{All-head, All-tail}
 use Rattle.glass_base.specs.Problem.{Problem}
+use Rattle.glass_base.specs.declared.memory.Memory.{Memory}
 use Rattle.plan_box.specs.Ranges.{Ranges}
 use Rattle.cert_log.specs.declared.certificate.Certificate.{Certificate}
 use Rattle.cert_log.specs.declared.certificate.Node.{Node}
 use Rattle.cert_log.specs.declared.history.Cause.{Cause}
-use Rattle.cert_log.specs.Good.{IsGood, MayClose, least_of, open_bounds}
+use Rattle.cert_log.specs.Good.{IsFloor, IsGood, MayClose, least_of, open_bounds}
 use Rattle.cert_log.specs.Trees.{IsTree}
 use Rattle.cert_check.specs.declared.verdict.Why.{Why}
 use Rattle.cert_check.specs.declared.verdict.Verdict.{Verdict}
 use Rattle.cert_check.specs.declared.walk.Tally.{Tally}
 use Rattle.cert_check.specs.declared.walk.Walked.{Walked}
-use Rattle.cert_check.specs.Faults.{FailsToClose, NodeFails, FirstFails, Answers}
+use Rattle.cert_check.specs.Faults.{FailsToClose, NodeFails, FirstFails, SaysWrong, Answers}
 use Rattle.cert_check.specs.Visits.{Visit, visits, NodePasses, Passes, visit_bounds}
 use Rattle.cert_check.specs.inner.Walks.{visits_from}
-use Rattle.cert_check.specs.inner.Walks.{Finds, Closes}
+use Rattle.cert_check.specs.inner.Walks.{Finds, Closes, JudgesFloor}
 use Rattle.cert_check.proofs.Trees.{visits_whole, bounds_are, stands_from, stands_all}
 
-close_clash : (b : Problem) (loss : Option ℕ) (rs : List Ranges) (cause : Cause) (why : Why) → MayClose b loss rs cause → FailsToClose b loss rs cause why → ⊥
-close_clash b loss rs (Cause.Reason r) why may fails = fails.0 may
-close_clash b loss rs Cause.Bound why may fails = fails.0 may
-close_clash b loss rs Cause.Unsaid why (inl refuted) fails = fails.0 refuted
-close_clash b loss rs Cause.Unsaid why (inr reaches) fails = fails.1 reaches
+close_clash : (b : Problem) (floor : ℕ) (loss : Option ℕ) (rs : List Ranges) (cause : Cause) (why : Why) → MayClose b floor loss rs cause → FailsToClose b floor loss rs cause why → ⊥
+close_clash b floor loss rs (Cause.Reason r) why may fails = fails.0 may
+close_clash b floor loss rs Cause.Bound why may fails = fails.0 may
+close_clash b floor loss rs Cause.Floor why may fails = fails.0 may
+close_clash b floor loss rs Cause.Unsaid why (inl refuted) fails = fails.0 refuted
+close_clash b floor loss rs Cause.Unsaid why (inr reaches) fails = fails.1.0 reaches
 
 -- a node does not both pass and fail
-pub node_clash : (b : Problem) (loss : Option ℕ) (rs : List Ranges) (n : Node) (why : Why) → NodePasses b loss rs n → NodeFails b loss rs n why → ⊥
-node_clash b loss rs (Node.Split step v) why passes fails = fails.0 passes
-node_clash b loss rs (Node.Closed cause) why passes fails = close_clash b loss rs cause why passes fails
-node_clash b loss rs Node.Left why passes fails = fails
+pub node_clash : (b : Problem) (floor : ℕ) (loss : Option ℕ) (rs : List Ranges) (n : Node) (why : Why) → NodePasses b floor loss rs n → NodeFails b floor loss rs n why → ⊥
+node_clash b floor loss rs (Node.Split step v) why passes fails = fails.0 passes
+node_clash b floor loss rs (Node.Closed cause) why passes fails = close_clash b floor loss rs cause why passes fails
+node_clash b floor loss rs Node.Left why passes fails = fails
 
 -- what holds of all holds of one of them
 pub all_here : {X : Type 0} (p : X → Type 0) (xs : List X) (x : X) (ys : List X) → All p (xs ++ x ∷ ys) → p x
@@ -39,20 +42,31 @@ all_here p (z ∷ xs) x ys h = all_here p xs x ys (All-tail p z (xs ++ x ∷ ys)
 pub good_visits : (b : Problem) (rs : List Ranges) (loss : Option ℕ) (c : Certificate) (g : IsGood b rs loss c) → visits_from (rs ∷ []) c.nodes.items ≡ visits rs g.tree
 good_visits b rs loss c g = ap (λ (ns : List Node). visits_from (rs ∷ []) ns) g.nodes_are ∙ visits_whole g.tree rs
 
-pub good_passes : (b : Problem) (rs : List Ranges) (loss : Option ℕ) (c : Certificate) → IsGood b rs loss c → All (Passes b loss) (visits_from (rs ∷ []) c.nodes.items)
-good_passes b rs loss c g = subst (λ (xs : List Visit). All (Passes b loss) xs) (sym (good_visits b rs loss c g)) (stands_all b loss g.tree rs g.stands)
+pub good_passes : (b : Problem) (rs : List Ranges) (loss : Option ℕ) (c : Certificate) → IsGood b rs loss c → All (Passes b c.floor loss) (visits_from (rs ∷ []) c.nodes.items)
+good_passes b rs loss c g = subst (λ (xs : List Visit). All (Passes b c.floor loss) xs) (sym (good_visits b rs loss c g)) (stands_all b c.floor loss g.tree rs g.stands)
 
-good_bounds : (b : Problem) (rs : List Ranges) (loss : Option ℕ) (c : Certificate) (g : IsGood b rs loss c) → open_bounds b rs g.tree ≡ visit_bounds b (visits_from (rs ∷ []) c.nodes.items)
-good_bounds b rs loss c g = sym (ap (λ (xs : List Visit). visit_bounds b xs) (good_visits b rs loss c g) ∙ bounds_are b g.tree rs)
+good_bounds : (b : Problem) (rs : List Ranges) (loss : Option ℕ) (c : Certificate) (g : IsGood b rs loss c) → open_bounds b c.floor rs g.tree ≡ visit_bounds b c.floor (visits_from (rs ∷ []) c.nodes.items)
+good_bounds b rs loss c g = sym (ap (λ (xs : List Visit). visit_bounds b c.floor xs) (good_visits b rs loss c g) ∙ bounds_are b c.floor g.tree rs)
 
--- what fails is not right
-pub not_good : (b : Problem) (rs : List Ranges) (loss : Option ℕ) (c : Certificate) (line : ℕ) (why : Why) → FirstFails b loss c (visits_from (rs ∷ []) c.nodes.items) line why → ¬ IsGood b rs loss c
-not_good b rs loss c line why (inl f) = λ g. f.0 g.loss_is
-not_good b rs loss c line why (inr (inl f)) = λ g.
+-- what is not right is wrong, whichever check failed
+not_right : (b : Problem) (rs : List Ranges) (loss : Option ℕ) (c : Certificate) (why : Why) → ¬ IsGood b rs loss c → SaysWrong b rs loss c why
+not_right b rs loss c (Why.WrongLoss said found) none = none
+not_right b rs loss c (Why.Split step v) none = none
+not_right b rs loss c (Why.NotClosed bound to_beat) none = none
+not_right b rs loss c (Why.WrongCause said found) none = none
+not_right b rs loss c (Why.WrongOpen said found) none = none
+not_right b rs loss c (Why.WrongBound said found) none = none
+not_right b rs loss c (Why.WrongFloor said found) none = tt
+
+-- what fails is wrong
+says_wrong : (b : Problem) (rs : List Ranges) (loss : Option ℕ) (c : Certificate) (line : ℕ) (why : Why) → FirstFails b loss c (visits_from (rs ∷ []) c.nodes.items) line why → SaysWrong b rs loss c why
+says_wrong b rs loss c line why (inl f) = not_right b rs loss c why (λ g. f.0 g.loss_is)
+says_wrong b rs loss c line why (inr (inl f)) = not_right b rs loss c why (λ g.
     let x = f.1 in
-    node_clash b loss x.here.ranges x.here.node why (all_here (Passes b loss) x.before x.here x.later (subst (λ (xs : List Visit). All (Passes b loss) xs) x.visits_are (good_passes b rs loss c g))) x.fails
-not_good b rs loss c line why (inr (inr (inl f))) = λ g. f.2 (g.left_is ∙ ap (λ (ns : List ℕ). length ns) (good_bounds b rs loss c g))
-not_good b rs loss c line why (inr (inr (inr f))) = λ g. f.3 (g.bound_is ∙ ap (λ (ns : List ℕ). least_of loss ns) (good_bounds b rs loss c g))
+    node_clash b c.floor loss x.here.ranges x.here.node why (all_here (Passes b c.floor loss) x.before x.here x.later (subst (λ (xs : List Visit). All (Passes b c.floor loss) xs) x.visits_are (good_passes b rs loss c g))) x.fails)
+says_wrong b rs loss c line why (inr (inr (inl f))) = not_right b rs loss c why (λ g. f.2 (g.left_is ∙ ap (λ (ns : List ℕ). length ns) (good_bounds b rs loss c g)))
+says_wrong b rs loss c line why (inr (inr (inr (inl f)))) = not_right b rs loss c why (λ g. f.3 (g.bound_is ∙ ap (λ (ns : List ℕ). least_of loss ns) (good_bounds b rs loss c g)))
+says_wrong b rs loss c line why (inr (inr (inr (inr f)))) = subst (SaysWrong b rs loss c) (sym f.4.why_is) tt
 
 -- a fault among the nodes as they stand is one of the tree
 pub refuses : (b : Problem) (rs : List Ranges) (loss : Option ℕ) (c : Certificate) (line : ℕ) (why : Why) → IsTree c.nodes.items
@@ -63,32 +77,44 @@ refuses b rs loss c line why tree fails = (
     nodes_are = tree.1;
     fails = subst (λ (xs : List Visit). FirstFails b loss c xs line why) (ap (λ (ns : List Node). visits_from (rs ∷ []) ns) tree.1 ∙ visits_whole tree.0 rs) fails;
   },
-  not_good b rs loss c line why fails,
+  says_wrong b rs loss c line why fails,
 )
 
 -- where no check fails the certificate is right
-pub is_good : (b : Problem) (rs : List Ranges) (loss : Option ℕ) (c : Certificate) → IsTree c.nodes.items → c.loss ≡ loss → All (Passes b loss) (visits_from (rs ∷ []) c.nodes.items)
-    → c.left ≡ length (visit_bounds b (visits_from (rs ∷ []) c.nodes.items)) → c.bound ≡ least_of loss (visit_bounds b (visits_from (rs ∷ []) c.nodes.items)) → IsGood b rs loss c
-is_good b rs loss c tree same all left bound =
+pub is_good : (b : Problem) (rs : List Ranges) (loss : Option ℕ) (c : Certificate) → IsTree c.nodes.items → c.loss ≡ loss → IsFloor b c.floor → All (Passes b c.floor loss) (visits_from (rs ∷ []) c.nodes.items)
+    → c.left ≡ length (visit_bounds b c.floor (visits_from (rs ∷ []) c.nodes.items)) → c.bound ≡ least_of loss (visit_bounds b c.floor (visits_from (rs ∷ []) c.nodes.items)) → IsGood b rs loss c
+is_good b rs loss c tree same shown all left bound =
     let e : visits_from (rs ∷ []) c.nodes.items ≡ visits rs tree.0 = ap (λ (ns : List Node). visits_from (rs ∷ []) ns) tree.1 ∙ visits_whole tree.0 rs in
-    let f = ap (λ (xs : List Visit). visit_bounds b xs) e ∙ bounds_are b tree.0 rs in
+    let f = ap (λ (xs : List Visit). visit_bounds b c.floor xs) e ∙ bounds_are b c.floor tree.0 rs in
     record {
       tree = tree.0;
       nodes_are = tree.1;
       loss_is = same;
-      stands = stands_from b loss tree.0 rs (subst (λ (xs : List Visit). All (Passes b loss) xs) e all);
+      floor_is = shown;
+      stands = stands_from b c.floor loss tree.0 rs (subst (λ (xs : List Visit). All (Passes b c.floor loss) xs) e all);
       left_is = left ∙ ap (λ (ns : List ℕ). length ns) f;
       bound_is = bound ∙ ap (λ (ns : List ℕ). least_of loss ns) f;
     }
 
--- what is answered behind a whole walk
-pub closes : (b : Problem) (rs : List Ranges) (loss : Option ℕ) (c : Certificate) (tally : Tally) (v : Verdict) → IsTree c.nodes.items → c.loss ≡ loss
-    → Finds b rs loss c (Walked.Whole tally) → Closes c tally v → Answers b rs loss c v
-closes b rs loss c tally (Verdict.Accept bound left) tree same found h =
-    (is_good b rs loss c tree same found.0 (h.0 ∙ found.2) (h.1 ∙ found.1), h.2, h.3)
-closes b rs loss c tally (Verdict.Refuse line why) tree same found (inl h) =
-    refuses b rs loss c line why tree
-    (inr (inr (inl (same, found.0, (λ e. h.0 (e ∙ sym found.2)), h.1, h.2 ∙ ap (λ (m : ℕ). Why.WrongOpen c.left m) found.2))))
-closes b rs loss c tally (Verdict.Refuse line why) tree same found (inr h) =
-    refuses b rs loss c line why tree
-    (inr (inr (inr (same, found.0, h.0 ∙ found.2, (λ e. h.1 (e ∙ sym found.1)), h.2, h.3 ∙ ap (λ (m : Option ℕ). Why.WrongBound c.bound m) found.1))))
+-- what is answered behind a whole walk, where a count is wrong
+pub closes_wrong : (b : Problem) (rs : List Ranges) (loss : Option ℕ) (c : Certificate) (tally : Tally) (why : Why) → IsTree c.nodes.items → c.loss ≡ loss
+    → Finds b rs loss c (Walked.Whole tally) → Closes c tally (Some why) → Answers b rs loss c (Verdict.Refuse 1 why)
+closes_wrong b rs loss c tally why tree same found (inl h) =
+    refuses b rs loss c 1 why tree
+    (inr (inr (inl (same, found.0, (λ e. h.0 (e ∙ sym found.2)), refl, h.1 ∙ ap (λ (m : ℕ). Why.WrongOpen c.left m) found.2))))
+closes_wrong b rs loss c tally why tree same found (inr h) =
+    refuses b rs loss c 1 why tree
+    (inr (inr (inr (inl (same, found.0, h.0 ∙ found.2, (λ e. h.1 (e ∙ sym found.1)), refl, h.2 ∙ ap (λ (m : Option ℕ). Why.WrongBound c.bound m) found.1)))))
+
+-- and where they are right, so that the floor is judged
+closes_right : (b : Problem) (rs : List Ranges) (loss : Option ℕ) (c : Certificate) (tally : Tally) (v : Verdict) → IsTree c.nodes.items → c.loss ≡ loss
+    → Finds b rs loss c (Walked.Whole tally) → Closes c tally None → JudgesFloor b c v → Answers b rs loss c v
+closes_right b rs loss c tally (Verdict.Accept bound left) tree same found h f =
+    (is_good b rs loss c tree same f.0 found.0 (h.0 ∙ found.2) (h.1 ∙ found.1), f.1, f.2)
+closes_right b rs loss c tally (Verdict.Refuse line why) tree same found h f =
+    refuses b rs loss c line why tree (inr (inr (inr (inr (same, found.0, h.0 ∙ found.2, h.1 ∙ found.1, f)))))
+
+pub closes_all : (b : Problem) (rs : List Ranges) (loss : Option ℕ) (c : Certificate) (tally : Tally) (r : Result Verdict Memory) → IsTree c.nodes.items → c.loss ≡ loss
+    → Finds b rs loss c (Walked.Whole tally) → Closes c tally None → IfOk r (JudgesFloor b c) → IfOk r (Answers b rs loss c)
+closes_all b rs loss c tally (Ok v) tree same found h f = closes_right b rs loss c tally v tree same found h f
+closes_all b rs loss c tally (Err e) tree same found h f = tt

@@ -22,9 +22,9 @@ use Rattle.cert_check.proofs.Walking.{may_go}
 pub may_go_next : (b : Problem) (root : List Ranges) (loss : Option ℕ) (c : Certificate) (k : ℕ) (boxes : List (List Ranges)) (done : List Visit) (d n : Node) → IsGood b root loss c
     → HasCome root c.nodes.items k boxes done → k < length c.nodes.items → get_or c.nodes.items k d ≡ n → boxes ≢ [] → MayGo (top boxes) n
 may_go_next b root loss c k boxes done d n good come lt is some =
-    may_go b loss (top boxes) n
-    (all_here (Passes b loss) done (record { node = n; ranges = top boxes }) (visits_from (boxes_after n (top boxes) (below boxes)) (drop (k + 1) c.nodes.items))
-    (subst (λ (xs : List Visit). All (Passes b loss) xs) (next_visit root c.nodes.items k boxes done come d n lt is some) (good_passes b root loss c good)))
+    may_go b c.floor loss (top boxes) n
+    (all_here (Passes b c.floor loss) done (record { node = n; ranges = top boxes }) (visits_from (boxes_after n (top boxes) (below boxes)) (drop (k + 1) c.nodes.items))
+    (subst (λ (xs : List Visit). All (Passes b c.floor loss) xs) (next_visit root c.nodes.items k boxes done come d n lt is some) (good_passes b root loss c good)))
 
 -- one more node is named
 pub naming_goes_on : (b : Problem) (root : List Ranges) (nodes : List Node) (k : ℕ) (boxes after : List (List Ranges)) (named more : List Node) (d n m : Node) → IsNaming b root nodes k boxes named

@@ -21,10 +21,10 @@ use Rattle.cert_check.proofs.Lines.{line_more, no_lines, ends_push}
 use Rattle.cert_check.proofs.Trees.{bounds_append}
 use Rattle.cert_check.proofs.Visiting.{comes_first, comes_further, done_count, next_visit, one_taken}
 
-pub may_go : (b : Problem) (loss : Option ℕ) (rs : List Ranges) (n : Node) → NodePasses b loss rs n → MayGo rs n
-may_go b loss rs (Node.Split step v) h = h
-may_go b loss rs (Node.Closed cause) h = tt
-may_go b loss rs Node.Left h = tt
+pub may_go : (b : Problem) (floor : ℕ) (loss : Option ℕ) (rs : List Ranges) (n : Node) → NodePasses b floor loss rs n → MayGo rs n
+may_go b floor loss rs (Node.Split step v) h = h
+may_go b floor loss rs (Node.Closed cause) h = tt
+may_go b floor loss rs Node.Left h = tt
 
 -- nothing is walked yet
 pub starts : (b : Problem) (root : List Ranges) (loss : Option ℕ) (c : Certificate) (boxes : List (List Ranges)) → boxes ≡ root ∷ []
@@ -32,7 +32,7 @@ pub starts : (b : Problem) (root : List Ranges) (loss : Option ℕ) (c : Certifi
 starts b root loss c boxes e = record {
   done = [];
   come = comes_first root c.nodes.items boxes e;
-  passed = All-nil (Passes b loss);
+  passed = All-nil (Passes b c.floor loss);
   least = refl;
   left = refl;
   line = (let z = no_lines c.version in omega arith);
@@ -59,24 +59,24 @@ line_next b root loss c k boxes place next tally d n w lt is reads =
 -- one more node is walked
 pub walks : (b : Problem) (root : List Ranges) (loss : Option ℕ) (c : Certificate) (k : ℕ) (boxes after : List (List Ranges)) (place next : Place) (tally more : Tally) (d n : Node)
     → IsWalking b root loss c k boxes place tally → k < length c.nodes.items → get_or c.nodes.items k d ≡ n → boxes ≢ []
-    → NodePasses b loss (top boxes) n → Reads c.version n place next → Counts b n (top boxes) tally more → after ≡ boxes_after n (top boxes) (below boxes)
+    → NodePasses b c.floor loss (top boxes) n → Reads c.version n place next → Counts b c.floor n (top boxes) tally more → after ≡ boxes_after n (top boxes) (below boxes)
     → IsWalking b root loss c (k + 1) after next more
 walks b root loss c k boxes after place next tally more d n w lt is some passes reads counts then =
     let x : Visit = record { node = n; ranges = top boxes } in
     let t = one_taken c.nodes.items k d n lt is in
-    let bounds : visit_bounds b (w.done ++ x ∷ []) ≡ visit_bounds b w.done ++ node_bounds b (top boxes) n =
-    bounds_append b w.done (x ∷ []) ∙ ap (λ (ns : List ℕ). visit_bounds b w.done ++ ns) (append-nil (node_bounds b (top boxes) n)) in
+    let bounds : visit_bounds b c.floor (w.done ++ x ∷ []) ≡ visit_bounds b c.floor w.done ++ node_bounds b c.floor (top boxes) n =
+    bounds_append b c.floor w.done (x ∷ []) ∙ ap (λ (ns : List ℕ). visit_bounds b c.floor w.done ++ ns) (append-nil (node_bounds b c.floor (top boxes) n)) in
     record {
       done = w.done ++ x ∷ [];
       come = comes_further root c.nodes.items k boxes after w.done d n w.come lt is some then;
-      passed = All-append (Passes b loss) w.done (x ∷ []) w.passed (All-cons (Passes b loss) x [] passes (All-nil (Passes b loss)));
+      passed = All-append (Passes b c.floor loss) w.done (x ∷ []) w.passed (All-cons (Passes b c.floor loss) x [] passes (All-nil (Passes b c.floor loss)));
       least =
-          counts.least ∙ ap (λ (m : Option ℕ). fold lesser m (node_bounds b (top boxes) n)) w.least
-          ∙ sym (fold-append lesser loss (visit_bounds b w.done) (node_bounds b (top boxes) n))
+          counts.least ∙ ap (λ (m : Option ℕ). fold lesser m (node_bounds b c.floor (top boxes) n)) w.least
+          ∙ sym (fold-append lesser loss (visit_bounds b c.floor w.done) (node_bounds b c.floor (top boxes) n))
           ∙ ap (λ (ns : List ℕ). least_of loss ns) (sym bounds);
       left =
-          counts.left ∙ ap (λ (m : ℕ). m + length (node_bounds b (top boxes) n)) w.left
-          ∙ sym (length-append (visit_bounds b w.done) (node_bounds b (top boxes) n))
+          counts.left ∙ ap (λ (m : ℕ). m + length (node_bounds b c.floor (top boxes) n)) w.left
+          ∙ sym (length-append (visit_bounds b c.floor w.done) (node_bounds b c.floor (top boxes) n))
           ∙ ap (λ (ns : List ℕ). length ns) (sym bounds);
       line = line_next b root loss c k boxes place next tally d n w lt is reads;
       after_open = reads.after_open ∙ sym (ends_push (take k c.nodes.items) n) ∙ ap (λ (ns : List Node). ends_open ns) (sym t);
@@ -85,7 +85,7 @@ walks b root loss c k boxes after place next tally more d n w lt is some passes 
 -- a node may not stand at its box
 pub stops : (b : Problem) (root : List Ranges) (loss : Option ℕ) (c : Certificate) (k : ℕ) (boxes : List (List Ranges)) (place next : Place) (tally : Tally) (d n : Node) (why : Why)
     → IsWalking b root loss c k boxes place tally → k < length c.nodes.items → get_or c.nodes.items k d ≡ n → boxes ≢ []
-    → NodeFails b loss (top boxes) n why → Reads c.version n place next → IsNodeFault b loss c (visits_from (root ∷ []) c.nodes.items) next.line why
+    → NodeFails b c.floor loss (top boxes) n why → Reads c.version n place next → IsNodeFault b loss c (visits_from (root ∷ []) c.nodes.items) next.line why
 stops b root loss c k boxes place next tally d n why w lt is some fails reads = record {
   before = w.done;
   here = record { node = n; ranges = top boxes };

@@ -1,5 +1,5 @@
 -- The true causes of closed nodes, and the certificate that names them.
-use Rattle.std.specs.Prelude.{◌≡◌, ◌↔◌, ℕ, List, Option}
+use Rattle.std.specs.Prelude.{◌≡◌, ◌↔◌, ℕ, max, List, Option}
 use Rattle.glass_base.specs.Problem.{Problem}
 use Rattle.plan_box.specs.Ranges.{Ranges}
 use Rattle.plan_box.specs.Halves.{lower_half, upper_half, half_at}
@@ -15,11 +15,13 @@ use Rattle.cert_check.specs.Faults.{Answers}
 abbrev pub IsTrueCause : Problem → List Ranges → Cause → Type 0
 IsTrueCause b rs (Cause.Reason r) = IsFirstReason b rs r
 IsTrueCause b rs Cause.Bound = ¬ IsRefuted b rs
+IsTrueCause b rs Cause.Floor = ⊥
 IsTrueCause b rs Cause.Unsaid = ⊥
 
 -- a cause that was not said is named, by the true one; one that was said stays
 abbrev pub IsNamed : Problem → List Ranges → Cause → Cause → Type 0
 IsNamed b rs Cause.Unsaid named = IsTrueCause b rs named
+IsNamed b rs Cause.Floor named = named ≡ Cause.Floor
 IsNamed b rs Cause.Bound named = named ≡ Cause.Bound
 IsNamed b rs (Cause.Reason r) named = named ≡ Cause.Reason r
 
@@ -31,17 +33,18 @@ AreNamed b rs (closed cause) (closed named) = IsNamed b rs cause named
 AreNamed b rs waiting waiting = Unit {0}
 AreNamed b rs tree other = ⊥
 
--- the second certificate is of version 2, and says the same as the first one with its causes named, walking both from the box
+-- the second certificate is of version 2, or of the same later one, and says the same as the first one with its causes named, walking both from the box
 pub record IsReasoned (b : Problem) (rs : List Ranges) (c d : Certificate) : Type 0 where
   pub tree : Tree
   pub named : Tree
   pub nodes_are : c.nodes.items ≡ nodes_of tree
   pub named_are : d.nodes.items ≡ nodes_of named
   pub are_named : AreNamed b rs tree named
-  pub version : IsVersion 2 d
+  pub version : IsVersion (max 2 c.version) d
   pub loss : d.loss ≡ c.loss
   pub bound : d.bound ≡ c.bound
   pub left : d.left ≡ c.left
+  pub floor : d.floor ≡ c.floor
 
 -- a certificate, of version 1 say, is accepted exactly where the one is that names its causes, and with the same bound and number of open boxes
 abbrev pub SameVerdict : Type 0

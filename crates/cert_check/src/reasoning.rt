@@ -1,11 +1,11 @@
 //! The causes of closed nodes, where a certificate does not say them.
 
-ghost use Rattle.std.specs.Prelude.{◌≡◌, ◌≢◌, [], ◌∷◌, IfOk, length, map};
+ghost use Rattle.std.specs.Prelude.{◌≡◌, ◌≢◌, ◌≤◌, [], ◌∷◌, IfOk, length, map};
 ghost use Rattle.std.specs.List.{AllZip};
 ghost use Rattle.plan_box.specs.Frames.{frame_of};
 ghost use Rattle.plan_box.specs.Packed.{unpacked};
 ghost use Rattle.plan_box.specs.Ranges.{root_of};
-ghost use Rattle.cert_log.specs.Good.{IsGood};
+ghost use Rattle.cert_log.specs.Good.{HasVersion, IsGood};
 ghost use Rattle.cert_check.specs.Causes.{IsNamed, IsReasoned, IsTrueCause};
 ghost use Rattle.cert_check.specs.inner.Knowns.{HasRoom};
 ghost use Rattle.cert_check.specs.inner.Naming.{IsNamedAt, IsNamedNode};
@@ -66,6 +66,7 @@ fn name_cause(
     match cause {
         Cause::Unsaid => true_cause(instance, defects, ranges, scratch),
         Cause::Bound => Cause::Bound,
+        Cause::Floor => Cause::Floor,
         Cause::Reason(reason) => Cause::Reason(reason),
     }
 }
@@ -136,7 +137,7 @@ fn name_nodes(
     name_on(alloc, instance, defects, cert, &mut path, &mut scratch)
 }
 
-/// The certificate of version 2 that says the same as one that is right for the box of all plans. Where a closed node has no cause, it is the
+/// The certificate of version 2, or of the same later one, that says the same as one that is right for the box of all plans. Where a closed node has no cause, it is the
 /// first reason that applies to its box, or the bound where none does.
 ///
 /// Only want of memory is refused. It takes memory for the nodes, and some that depends on the instance and the depth of the tree.
@@ -148,15 +149,19 @@ pub fn reasoned(
 ) -> Result<Certificate, Memory>
     requires map { map.now ≡ instance.now.defects }
     requires good { IsGood instance.now (root_of (frame_of instance.now) 0).ranges cert.now.loss cert.now }
+    requires version { HasVersion cert.now }
     ensures good { IfOk result (λ d. IsGood instance.now (root_of (frame_of instance.now) 0).ranges cert.now.loss d) }
     ensures reasoned { IfOk result (λ d. IsReasoned instance.now (root_of (frame_of instance.now) 0).ranges cert.now d) }
+    ensures version { IfOk result HasVersion }
+    ensures later { IfOk result (λ d. 2 ≤ d.version) }
 {
     let nodes = name_nodes(alloc, instance, map, cert)?;
     Ok(Certificate {
-        version: 2,
+        version: cert.version.max(2),
         loss: cert.loss,
         bound: cert.bound,
         left: cert.left,
+        floor: cert.floor,
         nodes,
     })
 }

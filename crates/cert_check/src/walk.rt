@@ -6,14 +6,13 @@ ghost use Rattle.cert_check.specs.inner.Paths.{AreStored};
 ghost use Rattle.plan_box.specs.Frames.{frame_of};
 ghost use Rattle.plan_box.specs.Ranges.{root_of};
 ghost use Rattle.cert_log.specs.Good.{Reaches, MayClose, lesser};
-ghost use Rattle.cert_log.specs.declared.history.Cause.{Cause as CauseOf};
 ghost use Rattle.plan_box.specs.Bounds.{bound as bound_of};
 ghost use Rattle.plan_box.specs.Reasons.{IsFirstReason, IsRefuted};
 ghost use Rattle.cert_log.specs.Trees.{IsTree};
 ghost use Rattle.cert_check.specs.inner.Knowns.{HasRoom};
 ghost use Rattle.cert_check.specs.inner.Paths.{top};
 ghost use Rattle.cert_check.specs.Visits.{NodePasses};
-ghost use Rattle.cert_check.specs.Faults.{NodeFails, FailsToClose};
+ghost use Rattle.cert_check.specs.Faults.{FailsToClose, FallsShort, IsOtherReason, NodeFails};
 ghost use Rattle.cert_check.specs.inner.Walks.{Counts, Finds};
 
 use crate::bounding::bound;
@@ -97,7 +96,6 @@ fn with_bound(loss: Option<u64>, bound: u64) -> Option<u64>
 fn judge_reason(
     instance: &Instance,
     defects: &DefectMap,
-    loss: Option<u64>,
     reason: Reason,
     ranges: &[Packed],
     scratch: &mut Scratch,
@@ -106,10 +104,9 @@ fn judge_reason(
     requires stored { AreStored (frame_of instance.now) ranges.now }
     requires each_step { length ranges.now ≡ length instance.now.items }
     requires room { HasRoom (length instance.now.items) scratch.old }
-    ensures judged { MatchOption result (IsFirstReason instance.now (map unpacked ranges.now) reason) (FailsToClose instance.now loss (map unpacked ranges.now) (CauseOf.Reason reason)) }
+    ensures judged { MatchOption result (IsFirstReason instance.now (map unpacked ranges.now) reason) (IsOtherReason instance.now (map unpacked ranges.now) reason) }
     ensures room { HasRoom (length instance.now.items) scratch.new }
 {
-    let _loss = loss;
     let said = reason.number();
     match first_reason(
         instance,
@@ -131,6 +128,17 @@ fn judge_reason(
     }
 }
 
+/// Why a box may not be closed by this bound on the loss of its plans, if it may not.
+fn judge_number(loss: Option<u64>, number: u64) -> Option<Why>
+    ensures { MatchOption result (Reaches loss number) (FallsShort loss number) }
+{
+    if reaches(loss, number) {
+        None
+    } else {
+        Some(Why::NotClosed(number, loss))
+    }
+}
+
 /// Why a box may not be closed by its bound, if it may not.
 fn judge_bound(
     instance: &Instance,
@@ -141,15 +149,11 @@ fn judge_bound(
     requires stored { AreStored (frame_of instance.now) ranges.now }
     requires each_step { length ranges.now ≡ length instance.now.items }
     requires room { HasRoom (length instance.now.items) scratch.old }
-    ensures judged { MatchOption result (Reaches loss (bound_of instance.now (map unpacked ranges.now))) (FailsToClose instance.now loss (map unpacked ranges.now) CauseOf.Bound) }
+    ensures judged { MatchOption result (Reaches loss (bound_of instance.now (map unpacked ranges.now))) (FallsShort loss (bound_of instance.now (map unpacked ranges.now))) }
     ensures room { HasRoom (length instance.now.items) scratch.new }
 {
     let bound = bound(instance, ranges, &mut scratch.steps, &mut scratch.taken);
-    if reaches(loss, bound) {
-        None
-    } else {
-        Some(Why::NotClosed(bound, loss))
-    }
+    judge_number(loss, bound)
 }
 
 /// Whether some reason applies to a box.
@@ -177,11 +181,20 @@ fn is_refuted(
     first.is_some()
 }
 
+/// What a certificate is to show, in mm².
+#[derive(Clone, Copy)]
+pub struct Aim {
+    /// The loss to beat.
+    pub loss: Option<u64>,
+    /// What the certificate says that no lawful plan is below.
+    pub floor: u64,
+}
+
 /// Why a box may not be closed for this cause, if it may not.
 fn judge_cause(
     instance: &Instance,
     defects: &DefectMap,
-    loss: Option<u64>,
+    aim: Aim,
     cause: Cause,
     ranges: &[Packed],
     scratch: &mut Scratch,
@@ -190,17 +203,18 @@ fn judge_cause(
     requires stored { AreStored (frame_of instance.now) ranges.now }
     requires each_step { length ranges.now ≡ length instance.now.items }
     requires room { HasRoom (length instance.now.items) scratch.old }
-    ensures judged { MatchOption result (MayClose instance.now loss (map unpacked ranges.now) cause) (FailsToClose instance.now loss (map unpacked ranges.now) cause) }
+    ensures judged { MatchOption result (MayClose instance.now aim.floor aim.loss (map unpacked ranges.now) cause) (FailsToClose instance.now aim.floor aim.loss (map unpacked ranges.now) cause) }
     ensures room { HasRoom (length instance.now.items) scratch.new }
 {
     match cause {
-        Cause::Reason(reason) => judge_reason(instance, defects, loss, reason, ranges, scratch),
-        Cause::Bound => judge_bound(instance, loss, ranges, scratch),
+        Cause::Reason(reason) => judge_reason(instance, defects, reason, ranges, scratch),
+        Cause::Bound => judge_bound(instance, aim.loss, ranges, scratch),
+        Cause::Floor => judge_number(aim.loss, aim.floor),
         Cause::Unsaid => {
             if is_refuted(instance, defects, ranges, scratch) {
                 return None;
             }
-            judge_bound(instance, loss, ranges, scratch)
+            judge_bound(instance, aim.loss, ranges, scratch)
         }
     }
 }
@@ -209,7 +223,7 @@ fn judge_cause(
 fn judge(
     instance: &Instance,
     defects: &DefectMap,
-    loss: Option<u64>,
+    aim: Aim,
     node: Node,
     path: &Path,
     scratch: &mut Scratch,
@@ -218,7 +232,7 @@ fn judge(
     requires frame { path.now.frame ≡ frame_of instance.now }
     requires waits { path.now.boxes ≢ [] }
     requires room { HasRoom (length instance.now.items) scratch.old }
-    ensures judged { MatchOption result (NodePasses instance.now loss (top path.now.boxes) node) (NodeFails instance.now loss (top path.now.boxes) node) }
+    ensures judged { MatchOption result (NodePasses instance.now aim.floor aim.loss (top path.now.boxes) node) (NodeFails instance.now aim.floor aim.loss (top path.now.boxes) node) }
     ensures room { HasRoom (length instance.now.items) scratch.new }
 {
     let ranges = path.stored();
@@ -230,18 +244,25 @@ fn judge(
                 Some(Why::Split(step, var))
             }
         }
-        Node::Closed(cause) => judge_cause(instance, defects, loss, cause, ranges, scratch),
+        Node::Closed(cause) => judge_cause(instance, defects, aim, cause, ranges, scratch),
         Node::Left => None,
     }
 }
 
-/// Counts a node at the box at hand.
-fn count(instance: &Instance, node: Node, path: &Path, tally: &mut Tally, scratch: &mut Scratch)
+/// Counts a node at the box at hand; its bound is raised to the floor.
+fn count(
+    instance: &Instance,
+    floor: u64,
+    node: Node,
+    path: &Path,
+    tally: &mut Tally,
+    scratch: &mut Scratch,
+)
     requires frame { path.now.frame ≡ frame_of instance.now }
     requires waits { path.now.boxes ≢ [] }
     requires few { tally.old.left < 2 ^ 64 - 1 }
     requires room { HasRoom (length instance.now.items) scratch.old }
-    ensures counts { Counts instance.now node (top path.now.boxes) tally.old tally.new }
+    ensures counts { Counts instance.now floor node (top path.now.boxes) tally.old tally.new }
     ensures room { HasRoom (length instance.now.items) scratch.new }
 {
     match node {
@@ -252,7 +273,7 @@ fn count(instance: &Instance, node: Node, path: &Path, tally: &mut Tally, scratc
                 &mut scratch.steps,
                 &mut scratch.taken,
             );
-            tally.least = with_bound(tally.least, bound);
+            tally.least = with_bound(tally.least, floor.max(bound));
             tally.left += 1;
         }
         Node::Split { .. } | Node::Closed(_) => {}
@@ -285,10 +306,14 @@ fn walk_on(
     };
     for node in cert.nodes.as_slice() {
         place.read(cert.version, *node);
-        if let Some(why) = judge(instance, defects, loss, *node, path, scratch) {
+        let aim = Aim {
+            loss,
+            floor: cert.floor,
+        };
+        if let Some(why) = judge(instance, defects, aim, *node, path, scratch) {
             return Ok(Walked::Fault(place.line, why));
         }
-        count(instance, *node, path, &mut tally, scratch);
+        count(instance, cert.floor, *node, path, &mut tally, scratch);
         path.pass(*node)?;
     }
     Ok(Walked::Whole(tally))

@@ -1,5 +1,5 @@
 -- A certificate that is right for the box of all plans bounds the loss of each lawful plan.
-use Rattle.std.proofs.Common.{ℕ, ◌≤◌, inl, inr, ⊎_elim, List, [], ◌∷◌, fold, Option, Some, None, sym, subst, arith}
+use Rattle.std.proofs.Common.{ℕ, ◌≤◌, max, inl, inr, ⊎_elim, List, [], ◌∷◌, fold, Option, Some, None, sym, subst, arith}
 use Rattle.std.proofs.lemmas.List.Sums.{fold-append}
 use Rattle.glass_base.specs.Problem.{Problem, IsProblem}
 use Rattle.cut_model.specs.Lawful.{IsLawful}
@@ -14,7 +14,7 @@ use Rattle.plan_box.specs.Ranges.{Ranges, PlainBox, IsBox, root_of}
 use Rattle.plan_box.proofs.Plans.{root_holds_plan, refuted_holds_none, bound_of_plan}
 use Rattle.plan_box.proofs.Shared.{shared, lower_is_box, upper_is_box, root_is_box}
 use Rattle.cert_log.specs.declared.history.Cause.{Cause}
-use Rattle.cert_log.specs.Good.{Reaches, MayClose, Stands, open_bounds, lesser}
+use Rattle.cert_log.specs.Good.{IsFloor, Reaches, MayClose, Stands, open_bounds, lesser}
 use Rattle.cert_log.specs.Splits.{BoundsEachPlan}
 use Rattle.cert_log.specs.Trees.{Tree, halved, closed, waiting}
 
@@ -35,29 +35,30 @@ reach_fold : (least : Option ℕ) (ms : List ℕ) (n : ℕ) → Reaches least n 
 reach_fold least [] n h = h
 reach_fold least (m ∷ ms) n h = reach_fold (lesser least m) ms n (reach_lesser least m n h)
 
-module _ (b : Problem) (rules : IsProblem b) (plan : Forest) (lawful : IsLawful b plan) (loss : Option ℕ) where
+module _ (b : Problem) (rules : IsProblem b) (plan : Forest) (lawful : IsLawful b plan) (floor : ℕ) (least_is : IsFloor b floor) (loss : Option ℕ) where
   -- where a box that holds the plan may be closed, the plan's loss reaches the loss to beat
-  closed_reaches : (rs : List Ranges) (cause : Cause) → MayClose b loss rs cause → HoldsPlan b rs plan → Reaches loss (loss_of b plan)
+  closed_reaches : (rs : List Ranges) (cause : Cause) → MayClose b floor loss rs cause → HoldsPlan b rs plan → Reaches loss (loss_of b plan)
   closed_reaches rs (Cause.Reason r) may holds = absurd (refuted_holds_none b rules plan lawful rs (r, may.applies) holds)
+  closed_reaches rs Cause.Floor may holds = reach_more loss floor (loss_of b plan) may (least_is plan lawful)
   closed_reaches rs Cause.Bound may holds = reach_more loss (bound b rs) (loss_of b plan) may (bound_of_plan b rules plan lawful rs holds)
   closed_reaches rs Cause.Unsaid (inl refuted) holds = absurd (refuted_holds_none b rules plan lawful rs refuted holds)
   closed_reaches rs Cause.Unsaid (inr may) holds = reach_more loss (bound b rs) (loss_of b plan) may (bound_of_plan b rules plan lawful rs holds)
 
   -- the plan's loss reaches the least of the bounds under a box that holds it, and of what it reaches where a box is closed
-  covers : (t : Tree) (x : PlainBox) → IsBox x → Stands b loss x.ranges t → HoldsPlan b x.ranges plan → (least : Option ℕ) → (Reaches loss (loss_of b plan) → Reaches least (loss_of b plan))
-      → Reaches (fold lesser least (open_bounds b x.ranges t)) (loss_of b plan)
+  covers : (t : Tree) (x : PlainBox) → IsBox x → Stands b floor loss x.ranges t → HoldsPlan b x.ranges plan → (least : Option ℕ) → (Reaches loss (loss_of b plan) → Reaches least (loss_of b plan))
+      → Reaches (fold lesser least (open_bounds b floor x.ranges t)) (loss_of b plan)
   covers (halved step v lower upper) x box stands holds least keeps =
       let low = child_of lower_half x step v 0 in let high = child_of upper_half x step v 0 in
-      let first : Option ℕ = fold lesser least (open_bounds b low.ranges lower) in
-      subst (λ (m : Option ℕ). Reaches m (loss_of b plan)) (sym (fold-append lesser least (open_bounds b low.ranges lower) (open_bounds b high.ranges upper)))
+      let first : Option ℕ = fold lesser least (open_bounds b floor low.ranges lower) in
+      subst (λ (m : Option ℕ). Reaches m (loss_of b plan)) (sym (fold-append lesser least (open_bounds b floor low.ranges lower) (open_bounds b floor high.ranges upper)))
       (⊎_elim
-      (λ h. reach_fold first (open_bounds b high.ranges upper) (loss_of b plan) (covers lower low (lower_is_box x box step v 0 stands.0) stands.1 h least keeps))
-      (λ h. covers upper high (upper_is_box x box step v 0 stands.0) stands.2 h first (λ r. reach_fold least (open_bounds b low.ranges lower) (loss_of b plan) (keeps r)))
+      (λ h. reach_fold first (open_bounds b floor high.ranges upper) (loss_of b plan) (covers lower low (lower_is_box x box step v 0 stands.0) stands.1 h least keeps))
+      (λ h. covers upper high (upper_is_box x box step v 0 stands.0) stands.2 h first (λ r. reach_fold least (open_bounds b floor low.ranges lower) (loss_of b plan) (keeps r)))
       ((shared x box step v stands.0 (trace_of b plan)).in_one.0 holds))
   covers (closed cause) x box stands holds least keeps = keeps (closed_reaches x.ranges cause stands holds)
-  covers waiting x box stands holds least keeps = reach_new least (bound b x.ranges) (loss_of b plan) (bound_of_plan b rules plan lawful x.ranges holds)
+  covers waiting x box stands holds least keeps = reach_new least (max floor (bound b x.ranges)) (loss_of b plan) (omega (arith, least_is plan lawful, bound_of_plan b rules plan lawful x.ranges holds))
 
 pub bounds_each_plan : BoundsEachPlan
 bounds_each_plan b id loss c rules good plan lawful =
     subst (λ (m : Option ℕ). Reaches m (loss_of b plan)) (sym good.bound_is)
-    (covers b rules plan lawful loss good.tree (root_of (frame_of b) id) (root_is_box (frame_of b) id) good.stands (root_holds_plan b rules plan lawful id) loss (λ r. r))
+    (covers b rules plan lawful c.floor good.floor_is loss good.tree (root_of (frame_of b) id) (root_is_box (frame_of b) id) good.stands (root_holds_plan b rules plan lawful id) loss (λ r. r))

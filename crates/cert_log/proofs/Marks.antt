@@ -1,12 +1,12 @@
 -- What stands before the first mark.
-use Rattle.std.proofs.Common.{◌≡◌, ℕ, ◌+◌, ◌^◌, ◌<◌, inl, inr, Bool, true, false, IsTrue, List, [], ◌∷◌, ◌++◌, length, take, get_or, sym, ◌∙◌, subst, refl, arith, None}
+use Rattle.std.proofs.Common.{◌≡◌, ℕ, ◌+◌, ◌^◌, ◌<◌, ◌≤◌, Bool, true, false, IsTrue, List, [], ◌∷◌, ◌++◌, length, take, get_or, sym, ◌∙◌, subst, refl, arith, None}
 use Rattle.std.proofs.lemmas.List.{take_more}
 use Rattle.std.proofs.lemmas.Fmt.{decimal_injective}
 use Rattle.std.specs.Prelude.{◌==◌}
 use Rattle.std.specs.Fmt.{decimal}
 use Rattle.plan_box.specs.declared.reason.Reason.{Reason}
 use Rattle.plan_box.specs.Reasons.{reason_number}
-use Rattle.cert_log.specs.Values.{IsOneOrTwo}
+use Rattle.cert_log.specs.Values.{IsVersionNumber}
 use Rattle.cert_log.specs.inner.Fields.{IsAny, Lacks, Tells, reason_text}
 use Rattle.cert_log.proofs.Spelling.{ends_alike}
 
@@ -37,13 +37,13 @@ no_true b t e = grind (arith, t, e)
 pub not_empty : (text : List ℕ) → false ≡ (length text == 0) → text ≡ [] → ⊥
 not_empty text e is = let h : false ≡ (0 == 0) = subst (λ (t : List ℕ). false ≡ (length t == 0)) is e in let g : false ≡ true = h in cc
 
-pub one_or_two_small : (n : ℕ) → IsOneOrTwo n → n < 2 ^ 64
-one_or_two_small n is = elim is [ inl one ↦ omega arith | inr two ↦ omega arith ]
+pub version_small : (n : ℕ) → IsVersionNumber n → n < 2 ^ 64
+version_small n is = omega (arith, is.1)
 
--- a text that says another number says neither version
-pub other_than : (value a : ℕ) (text : List ℕ) → value < 2 ^ 64 → text ≡ decimal value → (value ≡ 1 → ⊥) → (value ≡ 2 → ⊥) → IsOneOrTwo a → text ≡ decimal a → ⊥
-other_than value a text small e one two is f =
-    let same = decimal_injective value a small (one_or_two_small a is) (sym e ∙ f) in elim is [ inl x ↦ one (same ∙ x) | inr y ↦ two (same ∙ y) ]
+-- a text that says another number says no version
+pub other_than : (value a : ℕ) (text : List ℕ) → value < 2 ^ 64 → text ≡ decimal value → (1 ≤ value → 3 < value) → IsVersionNumber a → text ≡ decimal a → ⊥
+other_than value a text small e out is f =
+    let same = decimal_injective value a small (version_small a is) (sym e ∙ f) in let from = is.0 in let upto = is.1 in let high = out (omega arith) in omega arith
 
 pub reason_range : (r : Reason) → (0 < reason_number r) × (reason_number r < 8)
 reason_range Reason.R1 = (omega arith, omega arith)

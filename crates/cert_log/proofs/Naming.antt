@@ -19,23 +19,24 @@ use Rattle.cert_log.specs.inner.Growth.{Twig, forks, ends, waits, bare, Grows}
 use Rattle.cert_log.proofs.Standing.{handled_as, lower_in, upper_in}
 
 -- each split of a tree that is right for a box is at a step of the box
-stands_below : (b : Problem) (loss : Option ℕ) (rs : List Ranges) (steps : ℕ) (t : Tree) → length rs ≡ steps → Stands b loss rs t → All (StepBelow steps) (nodes_of t)
-stands_below b loss rs steps (halved step v lower upper) len st =
+stands_below : (b : Problem) (floor : ℕ) (loss : Option ℕ) (rs : List Ranges) (steps : ℕ) (t : Tree) → length rs ≡ steps → Stands b floor loss rs t → All (StepBelow steps) (nodes_of t)
+stands_below b floor loss rs steps (halved step v lower upper) len st =
     let f = free_inside [] rs step v st.0 in
     All-cons (StepBelow steps) (Node.Split step v) (nodes_of lower ++ nodes_of upper) (omega arith)
     (All-append (StepBelow steps) (nodes_of lower) (nodes_of upper)
-    (stands_below b loss (half_at lower_half rs step v) steps lower (half_count lower_half rs step v ∙ len) st.1)
-    (stands_below b loss (half_at upper_half rs step v) steps upper (half_count upper_half rs step v ∙ len) st.2))
-stands_below b loss rs steps (closed cause) len st = All-cons (StepBelow steps) (Node.Closed cause) [] tt (All-nil (StepBelow steps))
-stands_below b loss rs steps waiting len st = All-cons (StepBelow steps) Node.Left [] tt (All-nil (StepBelow steps))
+    (stands_below b floor loss (half_at lower_half rs step v) steps lower (half_count lower_half rs step v ∙ len) st.1)
+    (stands_below b floor loss (half_at upper_half rs step v) steps upper (half_count upper_half rs step v ∙ len) st.2))
+stands_below b floor loss rs steps (closed cause) len st = All-cons (StepBelow steps) (Node.Closed cause) [] tt (All-nil (StepBelow steps))
+stands_below b floor loss rs steps waiting len st = All-cons (StepBelow steps) Node.Left [] tt (All-nil (StepBelow steps))
 
 pub good_steps : GoodSteps
-good_steps b rs loss c g = All-same (StepBelow (length rs)) c.nodes.items (nodes_of g.tree) g.nodes_are (stands_below b loss rs (length rs) g.tree refl g.stands)
+good_steps b rs loss c g = All-same (StepBelow (length rs)) c.nodes.items (nodes_of g.tree) g.nodes_are (stands_below b c.floor loss rs (length rs) g.tree refl g.stands)
 
 closed_fits : (b : Problem) (threshold : ℕ) (rs : List Ranges) (cause : Cause) → ClosedFor b threshold rs cause → FitsVersion 2 (Node.Closed cause)
 closed_fits b threshold rs Cause.Unsaid c = absurd c
-closed_fits b threshold rs (Cause.Reason r) c = refl
-closed_fits b threshold rs Cause.Bound c = refl
+closed_fits b threshold rs Cause.Floor c = absurd c
+closed_fits b threshold rs (Cause.Reason r) c = omega arith
+closed_fits b threshold rs Cause.Bound c = omega arith
 
 module _ (b : Problem) (s : Course) (h : History) (lawful : IsLawful b s h) where
   pub grown_fits : (n : ℕ) (x : PlainBox) (t : Twig) → Contains (level_of s h n) x → Grows h x.id t → All (FitsVersion 2) (nodes_of (bare t))

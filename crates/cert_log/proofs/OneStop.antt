@@ -94,7 +94,7 @@ pub whole_alike : (text : List ℕ) (c d : Certificate) (w : IsWhole text c) →
 whole_alike text c d w few u =
     let heads = heads_alike (head_of c) (head_of d) (lines_text w.lines ++ []) (lines_text u.lines ++ []) w.begins.head u.begins.head (sym w.begins.text_is ∙ u.begins.text_is) in
     let same = stop_alike text (head_of c) (head_of d) w.lines u.lines [] [] few (whole_stops text c w) (whole_stops text d u) in
-    record { version = heads.version; loss = heads.loss; bound = heads.bound; left = heads.left; nodes = w.nodes ∙ ap nodes_in_all same.lines ∙ sym u.nodes }
+    record { version = heads.version; loss = heads.loss; bound = heads.bound; left = heads.left; floor = heads.floor; nodes = w.nodes ∙ ap nodes_in_all same.lines ∙ sym u.nodes }
 
 -- and it is refused for want of memory alone
 pub whole_accepted : (text : List ℕ) (c : Certificate) (b : BadCert) (w : IsWhole text c) → length w.lines < 2 ^ 64 → IsReading text (Err b) → b ≡ bad.Memory

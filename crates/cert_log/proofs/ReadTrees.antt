@@ -1,7 +1,8 @@
 -- What is read is one whole tree, and has this text.
-use Rattle.std.proofs.Common.{◌≡◌, ℕ, zero, suc, ◌+◌, ◌-◌, ◌≤◌, ◌⊎◌, inl, inr, true, false, List, [], ◌∷◌, ◌++◌, length, map, replicate, refl, sym, ap, ◌∙◌, subst, arith}
+use Rattle.std.proofs.Common.{◌≡◌, ℕ, zero, suc, ◌+◌, ◌-◌, ◌≤◌, inl, inr, true, false, List, [], ◌∷◌, ◌++◌, length, map, replicate, refl, sym, ap, ◌∙◌, subst, arith}
 use Rattle.std.specs.Prelude.{◌<◌, ◌^◌, All, IfOk, Result, Ok, Err}
 use Rattle.std.specs.List.{flat_map}
+use Rattle.std.proofs.lemmas.Bool.{cases_lt}
 use Rattle.std.proofs.lemmas.List.{append_assoc, append-nil, length-append, length-replicate}
 use Rattle.std.proofs.lemmas.List.Elements.{All-nil, All-cons, All-append, All-replicate}
 use Rattle.plan_box.specs.declared.var.Var.{Var}
@@ -9,15 +10,16 @@ use Rattle.cert_log.specs.declared.history.Cause.{Cause}
 use Rattle.cert_log.specs.declared.bad_cert.BadCert.{BadCert}
 use Rattle.cert_log.specs.declared.certificate.Certificate.{Certificate}
 use Rattle.cert_log.specs.declared.certificate.Node.{Node}
-use Rattle.cert_log.specs.Good.{IsVersion}
+use Rattle.cert_log.specs.Good.{HasVersion}
 use Rattle.cert_log.specs.Outcomes.{IsReading}
+use Rattle.cert_log.specs.Values.{IsVersionNumber}
 use Rattle.cert_log.specs.Trees.{Tree, halved, closed, waiting, nodes_of, IsTree, FitsVersion, StepBelow}
 use Rattle.cert_log.specs.declared.place.Place.{Place}
 use Rattle.cert_log.specs.Texts.{Line, splits, closes, opens_one, opens, first_line, head_of, line_text, single_line, with_open, grouped, lines_of, lines_text}
 use Rattle.cert_log.specs.Follow.{MayCome, Follow, behind, behind_all, start, nodes_in, nodes_in_all}
 use Rattle.cert_log.specs.ReadAgain.{ReadIsText}
 use Rattle.cert_log.specs.inner.LineForms.{body}
-use Rattle.cert_log.proofs.Spelling.{line_ends}
+use Rattle.cert_log.proofs.Spelling.{line_ends, lines_later}
 
 -- the nodes are of so many trees
 record IsForest (k : ℕ) (ns : List Node) : Type 0 where
@@ -63,6 +65,7 @@ one_tree ns (t ∷ u ∷ ts) c e = absurd (let n : suc (suc (length ts)) ≡ 1 =
 fits_in : (version : ℕ) (at : Place) (l : Line) → MayCome version at l → All (FitsVersion version) (nodes_in l)
 fits_in version at (splits s v) m = All-cons (FitsVersion version) (Node.Split s v) [] tt (All-nil (FitsVersion version))
 fits_in version at (closes Cause.Unsaid) m = All-cons (FitsVersion version) (Node.Closed Cause.Unsaid) [] m (All-nil (FitsVersion version))
+fits_in version at (closes Cause.Floor) m = All-cons (FitsVersion version) (Node.Closed Cause.Floor) [] m (All-nil (FitsVersion version))
 fits_in version at (closes Cause.Bound) m = All-cons (FitsVersion version) (Node.Closed Cause.Bound) [] m (All-nil (FitsVersion version))
 fits_in version at (closes (Cause.Reason r)) m = All-cons (FitsVersion version) (Node.Closed (Cause.Reason r)) [] m (All-nil (FitsVersion version))
 fits_in version at opens_one m = All-cons (FitsVersion version) Node.Left [] tt (All-nil (FitsVersion version))
@@ -108,30 +111,33 @@ singles at (closes k ∷ ls) f = ap (λ (ms : List Line). closes k ∷ ms) (sing
 singles at (opens_one ∷ ls) f = ap (λ (ms : List Line). opens_one ∷ ms) (singles (behind at opens_one) ls f.2)
 singles at (opens n ∷ ls) f = absurd (let two = f.1.0 in omega arith)
 
-alone : (at : Place) (ls : List Line) → at.after_open ≡ true → Follow 2 at ls → with_open ls ≡ opens 1 ∷ ls
-alone at [] is f = refl
-alone at (splits s v ∷ ls) is f = refl
-alone at (closes k ∷ ls) is f = refl
-alone at (opens_one ∷ ls) is f = refl
-alone at (opens n ∷ ls) is f = absurd (let not = f.1.3 in let e : true ≡ false = sym is ∙ not in cc)
+alone : (version : ℕ) (at : Place) (ls : List Line) → at.after_open ≡ true → Follow version at ls → with_open ls ≡ opens 1 ∷ ls
+alone version at [] is f = refl
+alone version at (splits s v ∷ ls) is f = refl
+alone version at (closes k ∷ ls) is f = refl
+alone version at (opens_one ∷ ls) is f = refl
+alone version at (opens n ∷ ls) is f = absurd (let not = f.1.3 in let e : true ≡ false = sym is ∙ not in cc)
 
 together : (m : ℕ) (ns : List Node) (ls : List Line) → grouped ns ≡ ls → with_open ls ≡ opens 1 ∷ ls → grouped (replicate (suc m) Node.Left ++ ns) ≡ opens (suc m) ∷ ls
 together zero ns ls e f = ap with_open e ∙ f
 together (suc m) ns ls e f = ap with_open (together m ns ls e f)
 
-groups : (at : Place) (ls : List Line) → Follow 2 at ls → grouped (nodes_in_all ls) ≡ ls
-groups at [] f = refl
-groups at (splits s v ∷ ls) f = ap (λ (ms : List Line). splits s v ∷ ms) (groups (behind at (splits s v)) ls f.2)
-groups at (closes k ∷ ls) f = ap (λ (ms : List Line). closes k ∷ ms) (groups (behind at (closes k)) ls f.2)
-groups at (opens_one ∷ ls) f = absurd (let one = f.1 in omega arith)
-groups at (opens zero ∷ ls) f = absurd (let some = f.1.1 in omega arith)
-groups at (opens (suc m) ∷ ls) f = together m (nodes_in_all ls) ls (groups (behind at (opens (suc m))) ls f.2) (alone (behind at (opens (suc m))) ls refl f.2)
+groups : (version : ℕ) (at : Place) (ls : List Line) → 2 ≤ version → Follow version at ls → grouped (nodes_in_all ls) ≡ ls
+groups version at [] later f = refl
+groups version at (splits s v ∷ ls) later f = ap (λ (ms : List Line). splits s v ∷ ms) (groups version (behind at (splits s v)) ls later f.2)
+groups version at (closes k ∷ ls) later f = ap (λ (ms : List Line). closes k ∷ ms) (groups version (behind at (closes k)) ls later f.2)
+groups version at (opens_one ∷ ls) later f = absurd (let one = f.1 in omega arith)
+groups version at (opens zero ∷ ls) later f = absurd (let some = f.1.1 in omega arith)
+groups version at (opens (suc m) ∷ ls) later f =
+    together m (nodes_in_all ls) ls (groups version (behind at (opens (suc m))) ls later f.2) (alone version (behind at (opens (suc m))) ls refl f.2)
 
-lines_again : (version : ℕ) (ls : List Line) → (version ≡ 1) ⊎ (version ≡ 2) → Follow version start ls → lines_of version (nodes_in_all ls) ≡ ls
-lines_again version ls is f = elim is [
-  | inl one ↦ ap (λ (v : ℕ). lines_of v (nodes_in_all ls)) one ∙ singles start ls (subst (λ (v : ℕ). Follow v start ls) one f)
-  | inr two ↦ ap (λ (v : ℕ). lines_of v (nodes_in_all ls)) two ∙ groups start ls (subst (λ (v : ℕ). Follow v start ls) two f)
-]
+lines_again : (version : ℕ) (ls : List Line) → IsVersionNumber version → Follow version start ls → lines_of version (nodes_in_all ls) ≡ ls
+lines_again version ls is f =
+    elim (cases_lt version 2) [
+      | inl few ↦
+          (let one : version ≡ 1 = omega (arith, few, is.0) in ap (λ (v : ℕ). lines_of v (nodes_in_all ls)) one ∙ singles start ls (subst (λ (v : ℕ). Follow v start ls) one f))
+      | inr many ↦ lines_later version (nodes_in_all ls) many ∙ groups version start ls many f
+    ]
 
 pub read_is_text : ReadIsText
 read_is_text text c small w =
@@ -142,12 +148,9 @@ read_is_text text c small w =
     let fits : All (FitsVersion c.version) c.nodes.items = subst (All (FitsVersion c.version)) (sym w.nodes) (all_fit c.version start w.lines f) in
     record {
       tree = subst IsTree (sym w.nodes) (one_tree (nodes_in_all w.lines) t.trees t.count t.nodes);
-      version = elim w.begins.head.version [
-        | inl is ↦ inl (is, subst (λ (v : ℕ). All (FitsVersion v) c.nodes.items) is fits)
-        | inr is ↦ inr (is, subst (λ (v : ℕ). All (FitsVersion v) c.nodes.items) is fits)
-      ];
+      version = (w.begins.head.version, (refl, fits, w.begins.head.floor.1));
       steps = subst (All (StepBelow 800)) (sym w.nodes) (all_steps c.version start w.lines f);
-      numbers = record { loss = w.begins.head.loss; bound = w.begins.head.bound; left = w.begins.head.left; nodes = omega arith };
+      numbers = record { loss = w.begins.head.loss; bound = w.begins.head.bound; left = w.begins.head.left; floor = w.begins.head.floor.0; nodes = omega arith };
       text_is = w.begins.text_is
           ∙ ap (λ (s : List ℕ). first_line (head_of c) ++ s) (append-nil (lines_text w.lines))
           ∙ ap (λ (ls : List Line). first_line (head_of c) ++ lines_text ls) (sym (lines_again c.version w.lines w.begins.head.version f) ∙ ap (λ (ns : List Node). lines_of c.version ns) (sym w.nodes));
@@ -157,6 +160,6 @@ pub read_tree : (text : List ℕ) (r : Result Certificate BadCert) → length te
 read_tree text (Ok c) small is = let t = read_is_text text c small is in t.tree
 read_tree text (Err bad) small is = tt
 
-pub read_version : (text : List ℕ) (r : Result Certificate BadCert) → length text < 2 ^ 63 → IsReading text r → IfOk r (λ c. IsVersion 1 c ⊎ IsVersion 2 c)
+pub read_version : (text : List ℕ) (r : Result Certificate BadCert) → length text < 2 ^ 63 → IsReading text r → IfOk r HasVersion
 read_version text (Ok c) small is = let t = read_is_text text c small is in t.version
 read_version text (Err bad) small is = tt

@@ -1,5 +1,5 @@
 -- The text of a certificate that is right for the box of all plans is short: each node takes few bytes, and its tree has one leaf more than splits.
-use Rattle.std.proofs.Common.{◌≡◌, ◌<◌, ◌≤◌, ◌+◌, ◌*◌, ◌/◌, ◌%◌, ◌^◌, ◌==◌, ℕ, zero, suc, List, [], ◌∷◌, ◌++◌, length, length-append, Bool, true, false, if◌then◌else◌, Option, Some, None, refl, sym, ap, subst, arith, inl, inr}
+use Rattle.std.proofs.Common.{◌≡◌, ◌<◌, ◌≤◌, ◌+◌, ◌*◌, ◌/◌, ◌%◌, ◌^◌, ◌==◌, ℕ, zero, suc, List, [], ◌∷◌, ◌++◌, length, length-append, Bool, true, false, if◌then◌else◌, cond, ltb, Option, Some, None, refl, sym, ap, subst, arith, inl, inr}
 use Rattle.std.proofs.lemmas.Bool.{cases_lt}
 use Rattle.std.proofs.lemmas.Fmt.{length-decimal-le}
 use Rattle.std.proofs.lemmas.List.{length-replicate}
@@ -19,13 +19,13 @@ use Rattle.cert_log.specs.declared.head.Head.{Head}
 use Rattle.cert_log.specs.Good.{IsGood}
 use Rattle.cert_log.specs.Outcomes.{IsHead}
 use Rattle.cert_log.specs.Splits.{HaveShortTexts}
-use Rattle.cert_log.specs.Texts.{Line, splits, closes, opens_one, opens, cause_text, field_text, first_line, grouped, head_of, letter, line_text, lines_of, lines_text, loss_text, version_text, with_open}
+use Rattle.cert_log.specs.Texts.{Line, splits, closes, opens_one, opens, cause_text, field_text, first_line, floor_text, grouped, head_of, letter, line_text, lines_of, lines_text, loss_text, version_text, with_open}
 use Rattle.cert_log.specs.Trees.{Tree, halved, closed, waiting, nodes_of, StepBelow}
-use Rattle.cert_log.specs.Values.{IsLoss, IsOneOrTwo}
+use Rattle.cert_log.specs.Values.{IsLoss, IsVersionNumber}
 use Rattle.cert_log.proofs.GoodNodes.{one, shut}
 use Rattle.cert_log.proofs.Marks.{reason_range}
 use Rattle.cert_log.proofs.Naming.{good_steps}
-use Rattle.cert_log.proofs.Spelling.{letter_is}
+use Rattle.cert_log.proofs.Spelling.{letter_is, lines_later}
 
 -- so many digits are written before a text at the most
 onto_few : (k n : ℕ) (text : List ℕ) → length (digits_onto k 10 false n text) ≤ k + length text
@@ -61,6 +61,7 @@ line_size (opens (suc n)) = 4 * n + 4
 -- a cause has two bytes at the most
 cause_size : (cause : Cause) → length (cause_text cause) ≤ 2
 cause_size Cause.Unsaid = omega arith
+cause_size Cause.Floor = omega arith
 cause_size Cause.Bound = omega arith
 cause_size (Cause.Reason r) = let range = reason_range r in omega (arith, length-decimal-le 1 (reason_number r) (omega arith) (omega arith) (omega arith))
 
@@ -142,20 +143,25 @@ loss_short (Some n) h = let small : n < 2 ^ 64 = h in length-decimal-le 20 n (om
 field_short : (loss : Option ℕ) → IsLoss loss → length (field_text loss) ≤ 21
 field_short loss h = omega (arith, loss_short loss h, length-append (loss_text loss) (codes ";"))
 
--- a version has one digit
-version_digit : (version : ℕ) → IsOneOrTwo version → version < 10
-version_digit version is = elim is [ inl one ↦ omega arith | inr two ↦ omega arith ]
-
 -- what the first line begins with
-version_short : (version : ℕ) → IsOneOrTwo version → length (version_text version) ≤ 12
+version_short : (version : ℕ) → IsVersionNumber version → length (version_text version) ≤ 12
 version_short version is =
-    let small = version_digit version is in
+    let small = is.1 in
     omega (arith, length-decimal-le 1 version (omega arith) (omega arith) (omega arith), length-append (decimal version) (codes ";"))
 
+-- a floor, and what parts it from the field before
+floor_short : (version floor : ℕ) → floor < 2 ^ 64 → length (floor_text version floor) ≤ 21
+floor_short version floor small = by (ltb version 3)
+  where
+    by : (b : Bool) → length (cond b [] (codes ";" ++ decimal floor)) ≤ 21
+    by true = omega arith
+    by false = omega (arith, length-decimal-le 20 floor (omega arith) (omega arith) small)
+
 -- the first line
-first_short : (h : Head) → IsHead h → length (first_line h) ≤ 79
+first_short : (h : Head) → IsHead h → length (first_line h) ≤ 96
 first_short h is =
-    let ending : List ℕ = decimal h.left ++ codes "\n" in
+    let floor : List ℕ = floor_text h.version h.floor ++ codes "\n" in
+    let ending : List ℕ = decimal h.left ++ floor in
     let left : h.left < 2 ^ 64 = is.left in
     omega (
       arith,
@@ -166,10 +172,12 @@ first_short h is =
       length-append (version_text h.version) (field_text h.loss ++ (field_text h.bound ++ ending)),
       length-append (field_text h.loss) (field_text h.bound ++ ending),
       length-append (field_text h.bound) ending,
-      length-append (decimal h.left) (codes "\n"),
+      length-append (decimal h.left) floor,
+      floor_short h.version h.floor is.floor.0,
+      length-append (floor_text h.version h.floor) (codes "\n"),
     )
 
--- the lines of a certificate of version 2 that is right for the box of all plans
+-- the grouped lines of a certificate that is right for the box of all plans
 good_lines_short : (b : Problem) (loss : Option ℕ) (c : Certificate) → IsProblem b → IsGood b (root_of (frame_of b) 0).ranges loss c
     → lines_size (grouped c.nodes.items) ≤ 12 * shut c.nodes.items + 4
 good_lines_short b loss c rules good =
@@ -181,8 +189,8 @@ good_lines_short b loss c rules good =
 
 -- the first line and the lines of the nodes
 pub short_texts : HaveShortTexts
-short_texts b loss c rules good version head =
-    let lines : lines_text (lines_of c.version c.nodes.items) ≡ lines_text (grouped c.nodes.items) = ap (λ (n : ℕ). lines_text (lines_of n c.nodes.items)) version.0 in
+short_texts b loss c rules good later head =
+    let lines : lines_text (lines_of c.version c.nodes.items) ≡ lines_text (grouped c.nodes.items) = ap lines_text (lines_later c.version c.nodes.items later) in
     omega (
       arith,
       first_short (head_of c) head,

@@ -1,5 +1,5 @@
 -- What the notes of a lawful history grow into is right for its boxes.
-use Rattle.std.proofs.Common.{◌≡◌, ℕ, suc, ◌<◌, ◌≤◌, inl, inr, Bool, true, false, cond, eqb, ltb, List, [], ◌∷◌, refl, sym, ap, ◌∙◌, subst, arith, Some, None}
+use Rattle.std.proofs.Common.{◌≡◌, ℕ, suc, ◌<◌, ◌≤◌, max, inl, inr, Bool, true, false, cond, eqb, ltb, List, [], ◌∷◌, refl, sym, ap, ◌∙◌, subst, arith, Some, None}
 use Rattle.std.specs.List.{Contains}
 use Rattle.std.proofs.lemmas.List.Elements.{Contains-append_left, Contains-append_right}
 use Rattle.std.proofs.lemmas.Bool.{eq-eqb, ltb-true, lt-ltb}
@@ -45,8 +45,9 @@ reaches_lesser best threshold n less reaches = by_test (ltb threshold no_loss) r
         subst (λ (t : Bool). Reaches (cond t (Some best) None) n) (sym best_is) (omega arith)
     by_test false is = absurd (subst (λ (t : Bool). Reaches (cond t (Some threshold) None) n) is reaches)
 
-closed_stands : (b : Problem) (best threshold : ℕ) (rs : List Ranges) (cause : Cause) → best ≤ threshold → ClosedFor b threshold rs cause → MayClose b (loss_of best) rs cause
+closed_stands : (b : Problem) (best threshold : ℕ) (rs : List Ranges) (cause : Cause) → best ≤ threshold → ClosedFor b threshold rs cause → MayClose b 0 (loss_of best) rs cause
 closed_stands b best threshold rs Cause.Unsaid less c = absurd c
+closed_stands b best threshold rs Cause.Floor less c = absurd c
 closed_stands b best threshold rs (Cause.Reason r) less c = c
 closed_stands b best threshold rs Cause.Bound less c = reaches_lesser best threshold (bound b rs) less c.1
 
@@ -68,7 +69,7 @@ module _ (b : Problem) (s : Course) (h : History) (lawful : IsLawful b s h) wher
       half_in n x (child_of upper_half x step v (upper_id h.starts m.ticket)) m (Act.Split step v) at noted same is (is_later (child_of lower_half x step v (lower_id h.starts m.ticket)) (child_of upper_half x step v (upper_id h.starts m.ticket) ∷ []) (child_of upper_half x step v (upper_id h.starts m.ticket)) (is_first (child_of upper_half x step v (upper_id h.starts m.ticket)) []))
 
   -- each split is of a free variable, and each closed box may be closed
-  pub grown_stands : (n : ℕ) (x : PlainBox) (t : Twig) → Contains (level_of s h n) x → Grows h x.id t → Stands b (loss_of h.best) x.ranges (bare t)
+  pub grown_stands : (n : ℕ) (x : PlainBox) (t : Twig) → Contains (level_of s h n) x → Grows h x.id t → Stands b 0 (loss_of h.best) x.ranges (bare t)
   grown_stands n x (forks m step v lower upper) at g = (
     (handled_as n x m (Act.Split step v) at g.0 g.1 g.2).2,
     grown_stands (suc n) (child_of lower_half x step v (lower_id h.starts m.ticket)) lower (lower_in n x m step v at g.0 g.1 g.2) g.3,
@@ -91,7 +92,7 @@ module _ (b : Problem) (s : Course) (h : History) (lawful : IsLawful b s h) wher
   grown_splits n x (waits l) at g = tt
 
   -- the bounds that were kept are those of the boxes left open
-  pub grown_bounds : (n : ℕ) (x : PlainBox) (t : Twig) → Contains (level_of s h n) x → Grows h x.id t → open_bounds b x.ranges (bare t) ≡ kept_bounds t
+  pub grown_bounds : (n : ℕ) (x : PlainBox) (t : Twig) → Contains (level_of s h n) x → Grows h x.id t → open_bounds b 0 x.ranges (bare t) ≡ kept_bounds t
   grown_bounds n x (forks m step v lower upper) at g =
       let l = grown_bounds (suc n) (child_of lower_half x step v (lower_id h.starts m.ticket)) lower (lower_in n x m step v at g.0 g.1 g.2) g.3 in
       let u = grown_bounds (suc n) (child_of upper_half x step v (upper_id h.starts m.ticket)) upper (upper_in n x m step v at g.0 g.1 g.2) g.4 in
@@ -99,4 +100,5 @@ module _ (b : Problem) (s : Course) (h : History) (lawful : IsLawful b s h) wher
   grown_bounds n x (ends m threshold cause) at g = refl
   grown_bounds n x (waits l) at g =
       let same : bound b l.bx.ranges ≡ bound b x.ranges = ap (λ (y : PlainBox). bound b y.ranges) (lawful.left_is n x l at g.0 g.1) in
-      ap (λ (k : ℕ). k ∷ []) (sym same ∙ sym (lawful.bounds l g.0))
+      let raised : max 0 (bound b x.ranges) ≡ bound b x.ranges = omega arith in
+      ap (λ (k : ℕ). k ∷ []) (raised ∙ sym same ∙ sym (lawful.bounds l g.0))

@@ -11,7 +11,7 @@ use Rattle.cert_log.specs.declared.history.Note.{Note}
 use Rattle.cert_log.specs.declared.history.Left.{Left}
 use Rattle.cert_log.specs.declared.history.History.{History}
 use Rattle.cert_log.specs.declared.certificate.Certificate.{Certificate}
-use Rattle.cert_log.specs.Good.{least_of, IsGood, AreGood, IsVersion}
+use Rattle.cert_log.specs.Good.{least_of, open_bounds, IsFloor, IsGood, AreGood, IsVersion, Stands}
 use Rattle.cert_log.specs.Splits.{IsSearched, AreSearched}
 use Rattle.std.proofs.lemmas.List.Elements.{All-cons, All-nil, All-same}
 use Rattle.cert_log.specs.Trees.{nodes_of, FitsVersion}
@@ -93,6 +93,10 @@ left_total h once n (c ∷ cs) m =
     let a = sum_by-cons (λ (c : Certificate). c.left) c cs in let d = sum_by-cons (weigh (in_left h)) m.0.twig (twigs_of h (n + 1) cs m.1) in
     let e = m.0.left_is in let w = weigh_left h once n m.0.twig m.0.grows in let r = left_total h once (n + 1) cs m.1 in omega arith
 
+-- no plan loses less than nothing
+no_floor : (b : Problem) (floor : ℕ) → floor ≡ 0 → IsFloor b floor
+no_floor b floor is = λ plan lawful. omega (arith, is)
+
 module _ (b : Problem) (s : Course) (h : History) (lawful : IsLawful b s h) where
   -- a certificate is right for its box
   made_good : (x : PlainBox) (c : Certificate) → Contains s.boxes x → IsMade h x.id c → IsGood b x.ranges (loss_of h.best) c
@@ -102,9 +106,10 @@ module _ (b : Problem) (s : Course) (h : History) (lawful : IsLawful b s h) wher
         tree = bare m.twig;
         nodes_are = m.nodes_are;
         loss_is = m.loss_is;
-        stands = grown_stands b s h lawful zero x m.twig at m.grows;
-        left_is = m.left_is ∙ ap length (sym e);
-        bound_is = m.bound_is ∙ ap (least_of (loss_of h.best)) (sym e);
+        floor_is = no_floor b c.floor m.floor_is;
+        stands = subst (λ (floor : ℕ). Stands b floor (loss_of h.best) x.ranges (bare m.twig)) (sym m.floor_is) (grown_stands b s h lawful zero x m.twig at m.grows);
+        left_is = m.left_is ∙ ap length (sym e) ∙ ap (λ (floor : ℕ). length (open_bounds b floor x.ranges (bare m.twig))) (sym m.floor_is);
+        bound_is = m.bound_is ∙ ap (least_of (loss_of h.best)) (sym e) ∙ ap (λ (floor : ℕ). least_of (loss_of h.best) (open_bounds b floor x.ranges (bare m.twig))) (sym m.floor_is);
       }
 
   -- it splits no other boxes than those that had to be searched
@@ -123,7 +128,7 @@ module _ (b : Problem) (s : Course) (h : History) (lawful : IsLawful b s h) wher
   )
 
   made_version : (x : PlainBox) (c : Certificate) → Contains s.boxes x → IsMade h x.id c → IsVersion 2 c
-  made_version x c at m = (m.version_is, All-same (FitsVersion 2) c.nodes.items (nodes_of (bare m.twig)) m.nodes_are (grown_fits b s h lawful zero x m.twig at m.grows))
+  made_version x c at m = (m.version_is, All-same (FitsVersion 2) c.nodes.items (nodes_of (bare m.twig)) m.nodes_are (grown_fits b s h lawful zero x m.twig at m.grows), λ low. m.floor_is)
 
   version_from : (n : ℕ) (xs : List PlainBox) (cs : List Certificate) → AreMade h n cs → numbered n xs → length xs ≡ length cs → ((x : PlainBox) → Contains xs x → Contains s.boxes x) → All (IsVersion 2) cs
   version_from n xs [] m num same among = All-nil (IsVersion 2)

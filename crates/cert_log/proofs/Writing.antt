@@ -70,14 +70,15 @@ left_count (ends n threshold cause) = refl
 left_count (waits l) = refl
 
 -- where nothing waits, the certificate tells the tree
-pub made : (h : History) (id : ℕ) (c : Certificate) → IsGrowing h id [] c.nodes.items c.bound → c.version ≡ 2 → c.loss ≡ loss_of h.best → c.left ≡ count_by is_left c.nodes.items → IsMade h id c
-made h id c g version loss left =
+pub made : (h : History) (id : ℕ) (c : Certificate) → IsGrowing h id [] c.nodes.items c.bound → c.version ≡ 2 → c.loss ≡ loss_of h.best → c.floor ≡ 0 → c.left ≡ count_by is_left c.nodes.items → IsMade h id c
+made h id c g version loss floor left =
     let w = write_all h id c.nodes.items c.bound g in
     record {
       twig = g.root.twig;
       grows = g.root.grows;
       version_is = version;
       loss_is = loss;
+      floor_is = floor;
       nodes_are = w.0;
       left_is = left ∙ ap (λ (ns : List Node). count_by is_left ns) w.0 ∙ left_count g.root.twig;
       bound_is = w.1;

@@ -11,10 +11,11 @@ use Rattle.cert_log.specs.Texts.{Line, splits, closes, opens_one, opens, line_te
 abbrev pub MayCome : ℕ → Place → Line → Type 0
 MayCome version at (splits step v) = step < 800
 MayCome version at (closes Cause.Unsaid) = version ≡ 1
-MayCome version at (closes Cause.Bound) = version ≡ 2
-MayCome version at (closes (Cause.Reason r)) = version ≡ 2
+MayCome version at (closes Cause.Floor) = 3 ≤ version
+MayCome version at (closes Cause.Bound) = 2 ≤ version
+MayCome version at (closes (Cause.Reason r)) = 2 ≤ version
 MayCome version at opens_one = version ≡ 1
-MayCome version at (opens n) = (version ≡ 2) × (0 < n) × (n ≤ at.places) × (at.after_open ≡ false)
+MayCome version at (opens n) = (2 ≤ version) × (0 < n) × (n ≤ at.places) × (at.after_open ≡ false)
 
 -- a split takes one place and gives two, any other node takes one
 abbrev pub behind : Place → Line → Place

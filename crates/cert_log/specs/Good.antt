@@ -1,7 +1,10 @@
 -- When a certificate is right for a box.
-use Rattle.std.specs.Prelude.{◌≡◌, ℕ, ◌≤◌, ◌⊎◌, min, List, [], ◌∷◌, ◌++◌, length, fold, Option, Some, None, IsTrue, All}
+use Rattle.std.specs.Prelude.{◌≡◌, ℕ, ◌≤◌, ◌<◌, ◌⊎◌, max, min, List, [], ◌∷◌, ◌++◌, length, fold, Option, Some, None, IsTrue, All}
 use Rattle.std.specs.List.{AllZip}
 use Rattle.glass_base.specs.Problem.{Problem}
+use Rattle.cut_model.specs.Lawful.{IsLawful}
+use Rattle.cut_model.specs.Loss.{loss_of}
+use Rattle.cut_model.specs.Tree.{Forest}
 use Rattle.plan_box.specs.Ranges.{Ranges, PlainBox}
 use Rattle.plan_box.specs.Decisions.{is_free}
 use Rattle.plan_box.specs.Halves.{lower_half, upper_half, half_at}
@@ -9,6 +12,7 @@ use Rattle.plan_box.specs.Bounds.{bound}
 use Rattle.plan_box.specs.Reasons.{IsRefuted, IsFirstReason}
 use Rattle.cert_log.specs.declared.history.Cause.{Cause}
 use Rattle.cert_log.specs.declared.certificate.Certificate.{Certificate}
+use Rattle.cert_log.specs.Values.{IsVersionNumber}
 use Rattle.cert_log.specs.Trees.{Tree, halved, closed, waiting, nodes_of, FitsVersion, StepBelow}
 
 -- a number is at least the loss, and never where there is none
@@ -16,25 +20,30 @@ abbrev pub Reaches : Option ℕ → ℕ → Type 0
 Reaches None n = ⊥
 Reaches (Some loss) n = loss ≤ n
 
--- the box may be closed for this cause, where this loss is to be beaten
-abbrev pub MayClose : Problem → Option ℕ → List Ranges → Cause → Type 0
-MayClose b loss rs (Cause.Reason r) = IsFirstReason b rs r
-MayClose b loss rs Cause.Bound = Reaches loss (bound b rs)
-MayClose b loss rs Cause.Unsaid = IsRefuted b rs ⊎ Reaches loss (bound b rs)
+-- every lawful plan loses at least this
+abbrev pub IsFloor : Problem → ℕ → Type 0
+IsFloor b floor = (plan : Forest) → IsLawful b plan → floor ≤ loss_of b plan
+
+-- the box may be closed for this cause, where this loss is to be beaten, and no lawful plan loses less than the floor
+abbrev pub MayClose : Problem → ℕ → Option ℕ → List Ranges → Cause → Type 0
+MayClose b floor loss rs (Cause.Reason r) = IsFirstReason b rs r
+MayClose b floor loss rs Cause.Bound = Reaches loss (bound b rs)
+MayClose b floor loss rs Cause.Floor = Reaches loss floor
+MayClose b floor loss rs Cause.Unsaid = IsRefuted b rs ⊎ Reaches loss (bound b rs)
 
 -- walking the tree from the box, each split is of a free variable, and each closed box may be closed
-abbrev pub Stands : Problem → Option ℕ → List Ranges → Tree → Type 0
-Stands b loss rs (halved step v lower upper) =
-    IsTrue (is_free rs step v) × Stands b loss (half_at lower_half rs step v) lower × Stands b loss (half_at upper_half rs step v) upper
-Stands b loss rs (closed cause) = MayClose b loss rs cause
-Stands b loss rs waiting = Unit {0}
+abbrev pub Stands : Problem → ℕ → Option ℕ → List Ranges → Tree → Type 0
+Stands b floor loss rs (halved step v lower upper) =
+    IsTrue (is_free rs step v) × Stands b floor loss (half_at lower_half rs step v) lower × Stands b floor loss (half_at upper_half rs step v) upper
+Stands b floor loss rs (closed cause) = MayClose b floor loss rs cause
+Stands b floor loss rs waiting = Unit {0}
 
--- the bounds of the boxes that the tree leaves open, walking it from the box
-abbrev pub open_bounds : Problem → List Ranges → Tree → List ℕ
-open_bounds b rs (halved step v lower upper) =
-    open_bounds b (half_at lower_half rs step v) lower ++ open_bounds b (half_at upper_half rs step v) upper
-open_bounds b rs (closed cause) = []
-open_bounds b rs waiting = bound b rs ∷ []
+-- the bounds of the boxes that the tree leaves open, each raised to the floor, walking it from the box
+abbrev pub open_bounds : Problem → ℕ → List Ranges → Tree → List ℕ
+open_bounds b floor rs (halved step v lower upper) =
+    open_bounds b floor (half_at lower_half rs step v) lower ++ open_bounds b floor (half_at upper_half rs step v) upper
+open_bounds b floor rs (closed cause) = []
+open_bounds b floor rs waiting = max floor (bound b rs) ∷ []
 
 -- the lesser of a loss and a number
 abbrev pub lesser : Option ℕ → ℕ → Option ℕ
@@ -50,17 +59,22 @@ pub record IsGood (b : Problem) (rs : List Ranges) (loss : Option ℕ) (c : Cert
   pub tree : Tree
   pub nodes_are : c.nodes.items ≡ nodes_of tree
   pub loss_is : c.loss ≡ loss
-  pub stands : Stands b loss rs tree
-  pub left_is : c.left ≡ length (open_bounds b rs tree)
-  pub bound_is : c.bound ≡ least_of loss (open_bounds b rs tree)
+  pub floor_is : IsFloor b c.floor
+  pub stands : Stands b c.floor loss rs tree
+  pub left_is : c.left ≡ length (open_bounds b c.floor rs tree)
+  pub bound_is : c.bound ≡ least_of loss (open_bounds b c.floor rs tree)
 
 -- each certificate is right for its box
 abbrev pub AreGood : Problem → Option ℕ → List PlainBox → List Certificate → Type 0
 AreGood b loss xs cs = AllZip (λ x c. IsGood b x.ranges loss c) xs cs
 
--- the certificate has this version, and its closed nodes have what that asks
+-- the certificate has this version, its closed nodes have what that asks, and it has a floor from version 3 on
 abbrev pub IsVersion : ℕ → Certificate → Type 0
-IsVersion version c = (c.version ≡ version) × All (FitsVersion version) c.nodes.items
+IsVersion version c = (c.version ≡ version) × All (FitsVersion version) c.nodes.items × (version < 3 → c.floor ≡ 0)
+
+-- it has one of the versions
+abbrev pub HasVersion : Certificate → Type 0
+HasVersion c = IsVersionNumber c.version × IsVersion c.version c
 
 -- each split of the certificate is at a step below this number
 abbrev pub StepsBelow : ℕ → Certificate → Type 0

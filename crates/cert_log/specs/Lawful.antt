@@ -57,6 +57,7 @@ level_of s h n = level h.starts h.log.items s.boxes n
 -- a box was closed rightly: for the first reason that applies, or, where none does, by its bound
 abbrev pub ClosedFor : Problem → ℕ → List Ranges → Cause → Type 0
 ClosedFor b threshold rs Cause.Unsaid = ⊥
+ClosedFor b threshold rs Cause.Floor = ⊥
 ClosedFor b threshold rs (Cause.Reason r) = IsFirstReason b rs r
 ClosedFor b threshold rs Cause.Bound = ¬ IsRefuted b rs × Reaches (loss_of threshold) (bound b rs)
 

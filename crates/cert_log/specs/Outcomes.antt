@@ -5,15 +5,16 @@ use Rattle.cert_log.specs.declared.bad_cert.BadCert.{BadCert}
 use Rattle.cert_log.specs.declared.bad_cert.BadCert.TheVariants as bad
 use Rattle.cert_log.specs.declared.head.Head.{Head}
 use Rattle.cert_log.specs.Texts.{Line, first_line, head_of, lines_text}
-use Rattle.cert_log.specs.Values.{IsLoss, IsNumber, IsOneOrTwo}
+use Rattle.cert_log.specs.Values.{IsFloorOf, IsLoss, IsNumber, IsVersionNumber}
 use Rattle.cert_log.specs.Follow.{Follow, NoLine, behind_all, start, nodes_in_all}
 
--- the version is 1 or 2, and the numbers fit in 64 bits
+-- the version is 1, 2 or 3, and the numbers fit in 64 bits
 pub record IsHead (h : Head) : Type 0 where
-  pub version : IsOneOrTwo h.version
+  pub version : IsVersionNumber h.version
   pub loss : IsLoss h.loss
   pub bound : IsLoss h.bound
   pub left : IsNumber h.left
+  pub floor : IsFloorOf h.version h.floor
 
 -- the text begins with no first line
 abbrev pub NoHead : List ℕ → Type 0

@@ -11,7 +11,7 @@ use Rattle.plan_box.specs.Halves.{IsDepth, lower_half, upper_half, half_at}
 use Rattle.plan_box.specs.Ranges.{PlainBox, Ranges, root_of}
 use Rattle.plan_box.specs.Reasons.{IsRefuted}
 use Rattle.cert_log.specs.declared.certificate.Certificate.{Certificate}
-use Rattle.cert_log.specs.Good.{IsGood, IsVersion, Reaches}
+use Rattle.cert_log.specs.Good.{IsGood, Reaches}
 use Rattle.cert_log.specs.Outcomes.{IsHead}
 use Rattle.cert_log.specs.Texts.{cert_text, head_of}
 use Rattle.cert_log.specs.Trees.{Tree, halved, closed, waiting, nodes_of, is_left}
@@ -51,5 +51,5 @@ IsNoLargerThanFull =
 -- the text of a certificate that is right for the box of all plans has at most twelve bytes for each box that was closed or split, and 100
 abbrev pub HaveShortTexts : Type 0
 HaveShortTexts =
-    (b : Problem) (loss : Option ℕ) (c : Certificate) → IsProblem b → IsGood b (root_of (frame_of b) 0).ranges loss c → IsVersion 2 c → IsHead (head_of c)
+    (b : Problem) (loss : Option ℕ) (c : Certificate) → IsProblem b → IsGood b (root_of (frame_of b) 0).ranges loss c → 2 ≤ c.version → IsHead (head_of c)
     → length (cert_text c) ≤ 12 * count_by (λ node. not (is_left node)) c.nodes.items + 100

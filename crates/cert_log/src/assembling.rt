@@ -90,7 +90,7 @@ fn write_node(
 
 /// The certificate of version 2 of these nodes.
 fn with_nodes(loss: Option<u64>, bound: Option<u64>, nodes: Run<Node>) -> Certificate
-    ensures made { result ≡ record { version = 2; loss = loss; bound = bound; left = count_by is_left nodes.items; nodes = nodes } }
+    ensures made { result ≡ record { version = 2; loss = loss; bound = bound; left = count_by is_left nodes.items; floor = 0; nodes = nodes } }
     ensures head { IsHead (head_of result) }
 {
     let left = count_left(nodes.as_slice());
@@ -99,6 +99,7 @@ fn with_nodes(loss: Option<u64>, bound: Option<u64>, nodes: Run<Node>) -> Certif
         loss,
         bound,
         left,
+        floor: 0,
         nodes,
     }
 }

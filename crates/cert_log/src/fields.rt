@@ -3,7 +3,7 @@
 ghost use Rattle.std.specs.Prelude.{◌≡◌, ◌∷◌, ◌++◌, ◌<◌, ◌↔◌, ◌⊎◌, IsTrue, MatchOption};
 ghost use Rattle.std.specs.Fmt.{decimal};
 ghost use Rattle.cert_log.specs.Texts.{letter, loss_text};
-ghost use Rattle.cert_log.specs.Values.{IsLoss, IsNumber, IsOneOrTwo};
+ghost use Rattle.cert_log.specs.Values.{IsLoss, IsNumber, IsVersionNumber};
 ghost use Rattle.cert_log.specs.inner.Fields.{IsAny, Lacks, Takes, Tells, reason_text};
 
 use itoa::Buffer;
@@ -55,11 +55,12 @@ fn loss(text: &[u8]) -> Option<Option<u64>>
 
 /// The version that a text says.
 fn version(text: &[u8]) -> Option<u32>
-    ensures { Tells decimal IsOneOrTwo text.now result }
+    ensures { Tells decimal IsVersionNumber text.now result }
 {
     match number(text)? {
         1 => Some(1),
         2 => Some(2),
+        3 => Some(3),
         _ => None,
     }
 }
@@ -109,7 +110,7 @@ pub(crate) fn take_number(text: &[u8], mark: u8) -> Option<(u64, &[u8])>
 
 /// The version before a semicolon, and what stands behind it.
 pub(crate) fn take_version(text: &[u8]) -> Option<(u32, &[u8])>
-    ensures { Takes decimal IsOneOrTwo 59 text.now result }
+    ensures { Takes decimal IsVersionNumber 59 text.now result }
 {
     let (before, behind) = field(text, b';')?;
     Some((version(before)?, behind))

@@ -28,6 +28,9 @@ fn closed_in(text: &[u8]) -> Option<TextLine>
     if is_word(text, b"b") {
         return Some(TextLine::Closed(Cause::Bound));
     }
+    if is_word(text, b"f") {
+        return Some(TextLine::Closed(Cause::Floor));
+    }
     let reason = reason(text)?;
     Some(TextLine::Closed(Cause::Reason(reason)))
 }

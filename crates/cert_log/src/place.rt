@@ -35,9 +35,10 @@ pub(crate) fn may_come(version: u32, at: Place, line: TextLine) -> bool
     match line {
         TextLine::Split { step, .. } => step < STEP_LIMIT,
         TextLine::Closed(Cause::Unsaid) | TextLine::Open => version == 1,
-        TextLine::Closed(Cause::Bound | Cause::Reason(_)) => version == 2,
+        TextLine::Closed(Cause::Bound | Cause::Reason(_)) => version >= 2,
+        TextLine::Closed(Cause::Floor) => version >= 3,
         TextLine::Opens(count) => {
-            version == 2 && 0 < count && count <= at.places && !at.after_open
+            version >= 2 && 0 < count && count <= at.places && !at.after_open
         }
     }
 }

@@ -1,7 +1,7 @@
 //! Reading a certificate.
 
-ghost use Rattle.std.specs.Prelude.{◌++◌, ◌<◌, ◌^◌, ◌⊎◌, length, IfOk};
-ghost use Rattle.cert_log.specs.Good.{IsVersion};
+ghost use Rattle.std.specs.Prelude.{◌++◌, ◌<◌, ◌^◌, length, IfOk};
+ghost use Rattle.cert_log.specs.Good.{HasVersion};
 ghost use Rattle.cert_log.specs.Outcomes.{IsHead, IsReading};
 ghost use Rattle.cert_log.specs.Texts.{first_line};
 ghost use Rattle.cert_log.specs.Trees.{IsTree};
@@ -40,6 +40,7 @@ fn read_nodes(alloc: Global, head: Head, text: &[u8]) -> Result<Certificate, Bad
             loss: head.loss,
             bound: head.bound,
             left: head.left,
+            floor: head.floor,
             nodes,
         })
     } else {
@@ -47,15 +48,17 @@ fn read_nodes(alloc: Global, head: Head, text: &[u8]) -> Result<Certificate, Bad
     }
 }
 
-/// The certificate that a text stands for, of version 1 or 2, or the first refusal.
+/// The certificate that a text stands for, of version 1, 2 or 3, or the first refusal.
 ///
 /// Each line ends with a line feed, and its fields are parted by semicolons. Numbers have 64 bits and no leading zeros.
 /// - The first line is `glasscert`, the version, the loss, the bound and the number of open nodes; a loss or bound is a number or `none`.
+///   In version 3 the floor stands behind them, a number.
 /// - Then come the nodes in pre-order, up to the last one of the tree:
 ///   - `S`, a step below 800 and the letter of a variable stand for a split: `s`, `t`, `k`, `l` for stack, turn, kind and lift, `a` to `e`
 ///     for the cuts.
-///   - A closed node is `C` alone in version 1. In version 2 its cause stands behind it: `b` for the bound, or the number of the reason.
-///   - An open node is `O` alone in version 1. In version 2 a line `O` with a number stands for so many open nodes in a row, one at least,
+///   - A closed node is `C` alone in version 1. From version 2 on its cause stands behind it: `b` for the bound, or the number of the reason;
+///     in version 3 also `f` for the floor.
+///   - An open node is `O` alone in version 1. From version 2 on a line `O` with a number stands for so many open nodes in a row, one at least,
 ///     and no such line stands right behind another one.
 ///
 /// The refusals count lines from 1; the first line is line 1.
@@ -69,7 +72,7 @@ fn read_nodes(alloc: Global, head: Head, text: &[u8]) -> Result<Certificate, Bad
 pub fn read_cert(alloc: Global, bytes: &[u8]) -> Result<Certificate, BadCert>
     ensures reading { IsReading bytes.now result }
     ensures tree { IfOk result (λ c. IsTree c.nodes.items) }
-    ensures version { IfOk result (λ c. IsVersion 1 c ⊎ IsVersion 2 c) }
+    ensures version { IfOk result HasVersion }
 {
     let (head, rest) = read_head(bytes).ok_or(BadCert::Head)?;
     read_nodes(alloc, head, rest)

@@ -1,11 +1,12 @@
 -- Nodes with those of a part in the place of each open one.
-use Rattle.std.proofs.Common.{◌≡◌, ℕ, ◌+◌, List, [], ◌∷◌, length, refl, arith, All}
+use Rattle.std.proofs.Common.{◌≡◌, ℕ, ◌+◌, ◌≤◌, List, [], ◌∷◌, length, refl, arith, All}
 use Rattle.std.specs.Prelude.{cond, count_by, sum_by}
 use Rattle.std.proofs.lemmas.List.{length-append}
 use Rattle.std.proofs.lemmas.List.Elements.{All-append, All-cons, All-head, All-map, All-nil, All-tail, All-weaker}
 use Rattle.std.proofs.lemmas.List.Sums.{sum_by-cons}
 use Rattle.cert_log.specs.declared.certificate.Certificate.{Certificate}
 use Rattle.cert_log.specs.declared.certificate.Node.{Node}
+use Rattle.cert_log.specs.declared.history.Cause.{Cause}
 use Rattle.cert_log.specs.Good.{IsVersion}
 use Rattle.cert_log.specs.Trees.{FitsVersion, is_left}
 use Rattle.cert_resume.specs.Joins.{filled, nodes_in}
@@ -18,11 +19,26 @@ fills_all P (Node.Left ∷ nodes) [] h k = All-cons P Node.Left (filled nodes []
 fills_all P (Node.Left ∷ nodes) (part ∷ parts) h k =
     All-append P part (filled nodes parts) (All-head (All P) part parts k) (fills_all P nodes parts (All-tail P Node.Left nodes h) (All-tail (All P) part parts k))
 
--- the causes of the nodes stay those of version 2
-pub fills_version : (c : Certificate) (parts : List Certificate) → IsVersion 2 c → All (IsVersion 2) parts → All (FitsVersion 2) (filled c.nodes.items (nodes_in parts))
-fills_version c parts version versions =
-    fills_all (FitsVersion 2) c.nodes.items (nodes_in parts) version.1
-    (All-map (All (FitsVersion 2)) (λ (p : Certificate). p.nodes.items) parts (All-weaker (IsVersion 2) (λ (p : Certificate). All (FitsVersion 2) p.nodes.items) (λ p is. is.1) parts versions))
+-- a node of version 2 is one of each later version
+fits_later : (version : ℕ) (node : Node) → 2 ≤ version → FitsVersion 2 node → FitsVersion version node
+fits_later version (Node.Split step v) later fits = tt
+fits_later version (Node.Closed Cause.Unsaid) later fits = absurd (omega (arith, fits))
+fits_later version (Node.Closed Cause.Floor) later fits = absurd (omega (arith, fits))
+fits_later version (Node.Closed Cause.Bound) later fits = later
+fits_later version (Node.Closed (Cause.Reason r)) later fits = later
+fits_later version Node.Left later fits = tt
+
+-- the causes of the nodes stay those of the version
+pub fills_version : (c : Certificate) (parts : List Certificate) → 2 ≤ c.version → IsVersion c.version c → All (IsVersion 2) parts → All (FitsVersion c.version) (filled c.nodes.items (nodes_in parts))
+fills_version c parts later version versions =
+    fills_all (FitsVersion c.version) c.nodes.items (nodes_in parts) version.1
+    (All-map (All (FitsVersion c.version)) (λ (p : Certificate). p.nodes.items) parts
+    (All-weaker (IsVersion 2) (λ (p : Certificate). All (FitsVersion c.version) p.nodes.items)
+    (λ p is. All-weaker (FitsVersion 2) (FitsVersion c.version) (λ node fits. fits_later c.version node later fits) p.nodes.items is.1) parts versions))
+
+-- they have no floor
+pub no_floors : (floor : ℕ) (parts : List Certificate) → All (IsVersion 2) parts → All (λ (p : Certificate). p.floor ≤ floor) parts
+no_floors floor parts versions = All-weaker (IsVersion 2) (λ (p : Certificate). p.floor ≤ floor) (λ p is. omega (arith, is.2 (omega arith))) parts versions
 
 -- one for an open node
 abbrev one : Node → ℕ

@@ -50,24 +50,24 @@ by_ranges R f n (rs ∷ boxes) [] all = absurd all
 by_ranges R f n (rs ∷ boxes) (c ∷ cs) all = (all.0, by_ranges R f (n + 1) boxes cs all.1)
 
 -- and a bound for each box
-pub bound_for_each : (b : Problem) (rs : List Ranges) (tree : Tree) → length (open_bounds b rs tree) ≡ length (open_boxes rs tree)
-bound_for_each b rs (halved step v lower upper) =
+pub bound_for_each : (b : Problem) (floor : ℕ) (rs : List Ranges) (tree : Tree) → length (open_bounds b floor rs tree) ≡ length (open_boxes rs tree)
+bound_for_each b floor rs (halved step v lower upper) =
     let low = half_at lower_half rs step v in let high = half_at upper_half rs step v in
-    let l = bound_for_each b low lower in let u = bound_for_each b high upper in
-    let n = length-append (open_boxes low lower) (open_boxes high upper) in let m = length-append (open_bounds b low lower) (open_bounds b high upper) in omega arith
-bound_for_each b rs (closed cause) = refl
-bound_for_each b rs waiting = refl
+    let l = bound_for_each b floor low lower in let u = bound_for_each b floor high upper in
+    let n = length-append (open_boxes low lower) (open_boxes high upper) in let m = length-append (open_bounds b floor low lower) (open_bounds b floor high upper) in omega arith
+bound_for_each b floor rs (closed cause) = refl
+bound_for_each b floor rs waiting = refl
 
-stands_free : (b : Problem) (loss : Option ℕ) (rs : List Ranges) (tree : Tree) → Stands b loss rs tree → SplitsFree rs tree
-stands_free b loss rs (halved step v lower upper) st =
-    (st.0, stands_free b loss (half_at lower_half rs step v) lower st.1, stands_free b loss (half_at upper_half rs step v) upper st.2)
-stands_free b loss rs (closed cause) st = tt
-stands_free b loss rs waiting st = tt
+stands_free : (b : Problem) (floor : ℕ) (loss : Option ℕ) (rs : List Ranges) (tree : Tree) → Stands b floor loss rs tree → SplitsFree rs tree
+stands_free b floor loss rs (halved step v lower upper) st =
+    (st.0, stands_free b floor loss (half_at lower_half rs step v) lower st.1, stands_free b floor loss (half_at upper_half rs step v) upper st.2)
+stands_free b floor loss rs (closed cause) st = tt
+stands_free b floor loss rs waiting st = tt
 
 -- a right certificate can be walked
 pub can_be_walked : (b : Problem) (loss : Option ℕ) (rs : List Ranges) (c : Certificate) → IsGood b rs loss c → CanBeWalked rs c.nodes.items
-can_be_walked b loss rs c good = record { tree = good.tree; nodes_are = good.nodes_are; free = stands_free b loss rs good.tree good.stands }
+can_be_walked b loss rs c good = record { tree = good.tree; nodes_are = good.nodes_are; free = stands_free b c.floor loss rs good.tree good.stands }
 
 -- and has as many open nodes as it says
 pub left_counted : (b : Problem) (loss : Option ℕ) (rs : List Ranges) (c : Certificate) → IsGood b rs loss c → c.left ≡ count_by is_left c.nodes.items
-left_counted b loss rs c good = good.left_is ∙ bound_for_each b rs good.tree ∙ one_for_each rs good.tree ∙ ap (λ (ns : List Node). count_by is_left ns) (sym good.nodes_are)
+left_counted b loss rs c good = good.left_is ∙ bound_for_each b c.floor rs good.tree ∙ one_for_each rs good.tree ∙ ap (λ (ns : List Node). count_by is_left ns) (sym good.nodes_are)

@@ -1,5 +1,5 @@
 -- A certificate with the tree of a part in the place of each open node.
-use Rattle.std.specs.Prelude.{◌≡◌, ℕ, ◌≤◌, List, [], ◌∷◌, ◌++◌, fold, map, sum_by, Option, Some, None}
+use Rattle.std.specs.Prelude.{◌≡◌, ℕ, ◌≤◌, max, List, [], ◌∷◌, ◌++◌, fold, map, sum_by, Option, Some, None}
 use Rattle.std.specs.List.{AllZip}
 use Rattle.glass_base.specs.Problem.{Problem}
 use Rattle.plan_box.specs.Ranges.{Ranges}
@@ -27,14 +27,20 @@ abbrev pub lesser_of : Option ℕ → Option ℕ → Option ℕ
 lesser_of loss None = loss
 lesser_of loss (Some n) = lesser loss n
 
--- the certificate of version 2 with the nodes of a part in the place of each open one; the open nodes are those of the parts, and the bound is
--- the least of the loss and the bounds of the parts
+-- a bound, raised to a floor
+abbrev pub raised : ℕ → Option ℕ → Option ℕ
+raised floor None = None
+raised floor (Some n) = Some (max floor n)
+
+-- the certificate with the nodes of a part in the place of each open one; the open nodes are those of the parts, and the bound is
+-- the least of the loss and the bounds of the parts, each raised to the floor
 pub record IsJoined (c : Certificate) (parts : List Certificate) (loss : Option ℕ) (j : Certificate) : Type 0 where
-  pub version : IsVersion 2 j
+  pub version : IsVersion c.version j
   pub nodes_are : j.nodes.items ≡ filled c.nodes.items (nodes_in parts)
   pub loss_is : j.loss ≡ loss
   pub left_is : j.left ≡ sum_by (λ (p : Certificate). p.left) parts
-  pub bound_is : j.bound ≡ fold lesser_of loss (bounds_of parts)
+  pub floor_is : j.floor ≡ c.floor
+  pub bound_is : j.bound ≡ fold lesser_of loss (map (raised c.floor) (bounds_of parts))
 
 -- a loss is no greater than another one; none is greater than every number
 abbrev pub IsAtMost : Option ℕ → Option ℕ → Type 0

@@ -1,14 +1,14 @@
 //! A certificate with a tree in the place of each open node.
 
-ghost use Rattle.std.specs.Prelude.{◌≡◌, ◌+◌, ◌<◌, ◌^◌, ◌∷◌, ◌++◌, List, All, IfOk, count_by, fold, length, sum_by};
+ghost use Rattle.std.specs.Prelude.{◌≡◌, ◌+◌, ◌<◌, ◌≤◌, ◌^◌, ◌∷◌, ◌++◌, List, All, IfOk, count_by, fold, length, map, sum_by};
 ghost use Rattle.cert_log.specs.declared.certificate.Certificate.{Certificate as CertificateOf};
 ghost use Rattle.cert_log.specs.declared.certificate.Node.{Node as NodeOf};
-ghost use Rattle.cert_log.specs.Good.{IsVersion, lesser};
+ghost use Rattle.cert_log.specs.Good.{HasVersion, IsVersion, lesser};
 ghost use Rattle.cert_log.specs.Outcomes.{IsHead};
 ghost use Rattle.cert_log.specs.Texts.{head_of};
 ghost use Rattle.cert_log.specs.Trees.{is_left};
 ghost use Rattle.cert_log.specs.Values.{IsNumber};
-ghost use Rattle.cert_resume.specs.Joins.{IsJoined, KeepsRight, bounds_of, filled, lesser_of, nodes_in};
+ghost use Rattle.cert_resume.specs.Joins.{IsJoined, KeepsRight, bounds_of, filled, lesser_of, nodes_in, raised};
 
 use cert_log::{Certificate, Node};
 use glass_base::{Memory, Run, append};
@@ -25,13 +25,23 @@ fn with_bound(loss: Option<u64>, bound: Option<u64>) -> Option<u64>
     }
 }
 
-/// The least of a loss and the bounds of some certificates.
-fn least_bound(loss: Option<u64>, parts: &[Certificate]) -> Option<u64>
-    ensures { result ≡ fold lesser_of loss (bounds_of parts.now) }
+/// A bound, raised to a floor.
+fn raise(floor: u64, bound: Option<u64>) -> Option<u64>
+    ensures { result ≡ raised floor bound }
+{
+    match bound {
+        Some(bound) => Some(floor.max(bound)),
+        None => None,
+    }
+}
+
+/// The least of a loss and the bounds of some certificates, each raised to a floor.
+fn least_bound(floor: u64, loss: Option<u64>, parts: &[Certificate]) -> Option<u64>
+    ensures { result ≡ fold lesser_of loss (map (raised floor) (bounds_of parts.now)) }
 {
     let mut least = loss;
     for part in parts {
-        least = with_bound(least, part.bound);
+        least = with_bound(least, raise(floor, part.bound));
     }
     least
 }
@@ -99,14 +109,15 @@ fn fill_all(alloc: Global, nodes: &[Node], parts: &[Certificate]) -> Result<Run<
 /// The certificate with the tree of a part in the place of each open node, in their order, for this loss.
 ///
 /// Where the certificate is right for a box and a loss that is no less, and each part is right for its open box and this loss, what comes
-/// is right for the box and this loss. Only want of memory is refused. It takes time and memory linear in the nodes.
+/// is right for the box and this loss. Its version and its floor are kept. Only want of memory is refused. It takes time and memory linear in the nodes.
 pub fn join(
     alloc: Global,
     cert: &Certificate,
     parts: Run<Certificate>,
     loss: Option<u64>,
 ) -> Result<Certificate, Memory>
-    requires version { IsVersion 2 cert.now }
+    requires version { HasVersion cert.now }
+    requires later { 2 ≤ cert.now.version }
     requires versions { All (IsVersion 2) parts.items }
     requires parts { length parts.items ≡ count_by is_left cert.now.nodes.items }
     requires left { sum_by (λ (p : CertificateOf). p.left) parts.items < 2 ^ 64 }
@@ -119,10 +130,11 @@ pub fn join(
     let nodes = fill_all(alloc, cert.nodes.as_slice(), parts.as_slice())?;
     let _count = nodes.len();
     Ok(Certificate {
-        version: 2,
+        version: cert.version,
         loss,
-        bound: least_bound(loss, parts.as_slice()),
+        bound: least_bound(cert.floor, loss, parts.as_slice()),
         left: all_left(parts.as_slice()),
+        floor: cert.floor,
         nodes,
     })
 }

@@ -15,6 +15,9 @@ use front_course::laws::courses_bound_losses;
 use glass_base::{Instance, Memory};
 use std::alloc::Global;
 
+/// For how many labels a front counts: by the memory and the time that its row takes.
+const LABELS_A_FRONT: u64 = 10_000;
+
 /// By how much a length is first raised, in mm.
 const FIRST_STEP: u64 = 8;
 
@@ -30,11 +33,11 @@ fn base_of(table: &Table) -> u64 {
     to_go(levels, levels.len() - 1)
 }
 
-/// All fronts of an instance, where there are no more than `limit`, with what is known of them.
+/// All fronts of an instance, with what is known of them, where they count for no more than `limit` labels.
 pub fn table_of(alloc: Global, instance: &Instance, limit: u64) -> Result<Table, Halt>
     ensures { IfOk result (IsTable instance.now) }
 {
-    let shape = shape_of(alloc, instance, limit)?;
+    let shape = shape_of(alloc, instance, limit / LABELS_A_FRONT)?;
     let rows = rows_of(alloc, instance, &shape)?;
     if !is_lattice(instance, shape.weights.as_slice(), rows.as_slice()) {
         return Err(Halt::Limit);
@@ -98,8 +101,8 @@ fn is_shown_at_all(
 }
 
 /// Whether it is shown that no lawful plan is shorter than a length, in mm: a plan's length is where its last plate's residual begins, with all plates before
-/// that in one line. `false` says that it was not shown: a plan may be shorter, or there are more than `limit` fronts, or more than `limit` labels would be
-/// looked at in one of the searches. So `limit` bounds time and memory.
+/// that in one line. `false` says that it was not shown: a plan may be shorter, or more than `limit` labels would be looked at in one of the searches, or there are more fronts than one for each
+/// 10,000 of them. So `limit` bounds time and memory.
 pub fn is_no_shorter(
     alloc: Global,
     instance: &Instance,
@@ -159,8 +162,8 @@ fn longest_of_all(alloc: Global, instance: &Instance, most: u64, limit: u64) -> 
 }
 
 /// The greatest length up to `most`, in mm, of which it is shown that no lawful plan is shorter: searches within a growing length, the last of which comes to
-/// an end. Where more than `limit` labels would be looked at in one of them, it is what those before have shown; where there are more than `limit` fronts, it
-/// is 0, which says nothing.
+/// an end. Where more than `limit` labels would be looked at in one of them, it is what those before have shown; where there are more fronts than one for each 10,000 of
+/// them, it is 0, which says nothing.
 pub fn longest_shown(
     alloc: Global,
     instance: &Instance,

@@ -15,6 +15,7 @@ mod keyed;
 mod labels;
 mod lattice;
 mod levels;
+pub mod losses;
 mod moves;
 mod nearby;
 mod parts;

@@ -92,7 +92,7 @@ fn plan_within(
     }
 }
 
-/// What fronts show of an instance, where there are no more than `limit` of them.
+/// What fronts show of an instance, with no more than `limit` labels a search.
 fn shown_by_fronts(
     alloc: Global,
     instance: &Instance,

@@ -41,7 +41,7 @@ use Rattle.glass_run.proofs.SearchHeadline.{accepts, bound_exact, completes, lef
 use Rattle.run_frame.proofs.SmallTexts.{text_short}
 use Rattle.run_frame.proofs.Statuses.{IsRefused}
 use Rattle.run_plans.proofs.Statuses.{plan_refused}
-use Rattle.run_search.proofs.StoredTexts.{is_text}
+use Rattle.run_search.proofs.StoredTexts.{is_text, second_floor, second_version}
 
 -- the status of an answer
 abbrev status_of : Answer → Status
@@ -77,7 +77,8 @@ can_be_read line held texts b k budget plan out cert answer reads work said f =
       loss_is = f.found.loss_is;
       good = f.found.good;
       said = both.plan_is;
-      text = is_text f.rest f.certificate f.rest_is.rules f.found.good f.found.version (omega (arith, f.found.in_budget, most, work)) both.reading.begins.head;
+      text = is_text f.rest f.certificate f.rest_is.rules f.found.good (second_version f.certificate f.found.version) (omega (arith, f.found.in_budget, most, work)) both.reading.begins.head;
+      no_floor = second_floor f.certificate f.found.version;
     }
 
 -- what was found is stored and printed

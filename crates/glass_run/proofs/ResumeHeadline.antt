@@ -24,10 +24,10 @@ use Rattle.run_frame.specs.Runs.{Prints, RunsTo, Stands, World}
 use Rattle.run_frame.specs.Texts.{limit_of, text_for, text_or_empty}
 use Rattle.run_frame.specs.declared.status.Status.{Status}
 use Rattle.glass_run.proofs.Headlines.{Says, completed_says, rules_of}
-use Rattle.glass_run.proofs.SearchHeadline.{accepts, accepts_good, bound_exact, completes, left_stopped, stopped_left}
+use Rattle.glass_run.proofs.SearchHeadline.{accepts, accepts_or, bound_exact, completes, left_stopped, stopped_left}
 use Rattle.run_plans.proofs.Statuses.{plan_refused}
 use Rattle.run_checks.proofs.Statuses.{cert_refused}
-use Rattle.run_search.proofs.StoredTexts.{CanBeRead, is_text_of, verified}
+use Rattle.run_search.proofs.StoredTexts.{CanBeRead, is_text_of, verified_or}
 
 -- an answer to what is not accepted has none of the statuses of a search
 never_ended : (b : Problem) (plan_text : Option (List ℕ)) (text : List ℕ) (answer : Answer) → IsSearchEnd answer.status → NotAccepted b plan_text text answer → ⊥
@@ -41,7 +41,7 @@ can_be_read : (b : Problem) (budget : ℕ) (plan : Option Forest) (c j : Certifi
 can_be_read b budget plan c j best problem resumed = record {
   problem = problem;
   said = resumed.said.plan_is;
-  text = is_text_of b j problem resumed.good resumed.joined.version resumed.few resumed.said.reading.begins.head;
+  text = is_text_of b j problem resumed.good resumed.version resumed.few resumed.said.reading.begins.head;
   plan_is = resumed.plan_is;
   good = resumed.good;
 }
@@ -83,8 +83,8 @@ stores_more line held old new answer result s plan c right g end is stored print
       resumed = g.resumed;
       stored = subst (λ (a : Answer). Stands a.stores old.shelf.contents new.shelf.contents) kept.1 stored;
       prints = subst (λ (a : Answer). Prints a.lines old.paper new.paper) kept.1 prints;
-      accepted = accepts_good s.b (root_ranges s.b) j.loss j g.resumed.good;
-      verified = verified s.b g.best j (can_be_read s.b (count_in line count.Budget) plan c j g.best (rules_of line.verb line s.texts s.b s.reads.instance_is) g.resumed);
+      accepted = accepts_or s.b (root_ranges s.b) j.loss j g.resumed.good;
+      verified = verified_or s.b g.best j (can_be_read s.b (count_in line count.Budget) plan c j g.best (rules_of line.verb line s.texts s.b s.reads.instance_is) g.resumed);
       readable = kept.0;
       ends = ended;
       left_open = ((λ e. stopped_left j (sym ended ∙ e)), (λ some. ended ∙ left_stopped j some));

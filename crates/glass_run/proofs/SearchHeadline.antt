@@ -1,5 +1,5 @@
 -- What a user may conclude from how a search ended.
-use Rattle.std.proofs.Common.{◌≡◌, ℕ, zero, suc, ◌<◌, ◌≤◌, ◌+◌, ◌-◌, ◌*◌, ◌^◌, List, [], ◌∷◌, length, Bool, true, false, cond, arith, refl, sym, ap, subst, ◌∙◌, inl, inr, Option}
+use Rattle.std.proofs.Common.{◌≡◌, ◌⊎◌, ℕ, zero, suc, ◌<◌, ◌≤◌, ◌+◌, ◌-◌, ◌*◌, ◌^◌, List, [], ◌∷◌, length, Bool, true, false, cond, arith, refl, sym, ap, subst, ◌∙◌, inl, inr, Option}
 use Rattle.std.specs.Prelude.{◌==◌, is_some}
 use Rattle.std.proofs.Math.Nat.{mul-le-mul_right}
 use Rattle.glass_base.specs.Problem.{Problem, IsProblem}
@@ -14,12 +14,13 @@ use Rattle.cert_log.proofs.GoodNodes.{good_counts, no_larger_than_full}
 use Rattle.run_frame.specs.Answers.{Answer}
 use Rattle.glass_run.specs.Commands.{Answers, AnswersInstance, cert_name, plan_name}
 use Rattle.command_line.specs.Grammar.{Line, count_in, flag_in}
-use Rattle.glass_run.specs.Headlines.{Ended, IsSearch, IsSearchEnd, StoresSearch}
+use Rattle.glass_run.specs.Headlines.{Ended, IsSearch, IsSearchEnd, MissesFloor, StoresSearch}
 use Rattle.run_search.specs.Plans.{IsFound, PlansWithin, ending, handled, most_work, planned}
 use Rattle.run_checks.specs.Checks.{root_ranges}
 use Rattle.run_frame.specs.Texts.{Texts}
 use Rattle.cert_check.specs.declared.verdict.Verdict.{Verdict}
 use Rattle.cert_check.specs.Faults.{Answers as CheckAnswers}
+use Rattle.cert_check.proofs.Accepting.{only_floor}
 use Rattle.run_frame.specs.Runs.{Completes, LineRun, Prints, RunsTo, Stands, World}
 use Rattle.command_line.specs.declared.grammar.Count.TheVariants as count
 use Rattle.command_line.specs.declared.grammar.Flag.TheVariants as flag
@@ -28,7 +29,7 @@ use Rattle.command_line.specs.declared.grammar.Verb.TheVariants as verb
 use Rattle.run_frame.specs.declared.status.Status.{Status}
 use Rattle.run_frame.specs.declared.status.Status.TheVariants as status
 use Rattle.glass_run.proofs.Headlines.{Says, completed_says, rules_of}
-use Rattle.run_search.proofs.StoredTexts.{CanBeRead, is_text, verified}
+use Rattle.run_search.proofs.StoredTexts.{CanBeRead, is_text, second_floor, second_version, verified}
 use Rattle.run_frame.proofs.Statuses.{IsRefused}
 
 -- a run that ended as a search did what its answer says
@@ -90,7 +91,7 @@ no_bounds (x ∷ xs) e = absurd (omega (arith, e))
 -- where no box is left open, the bound is the loss
 pub bound_exact : (b : Problem) (rs : List Ranges) (loss : Option ℕ) (c : Certificate) → IsGood b rs loss c → (0 < c.left → ⊥) → c.bound ≡ c.loss
 bound_exact b rs loss c good none =
-    let empty = no_bounds (open_bounds b rs good.tree) (sym good.left_is ∙ nothing c.left none) in
+    let empty = no_bounds (open_bounds b c.floor rs good.tree) (sym good.left_is ∙ nothing c.left none) in
     good.bound_is ∙ ap (λ (xs : List ℕ). least_of loss xs) empty ∙ sym good.loss_is
   where
     nothing : (n : ℕ) → (0 < n → ⊥) → n ≡ 0
@@ -124,10 +125,19 @@ plans_by verb.Sheet is line texts b answer h = absurd is
 plans_by verb.Replay is line texts b answer h = absurd is
 plans_by verb.Picture is line texts b answer h = absurd is
 
--- a check accepts a certificate that is right
-pub accepts_good : (b : Problem) (rs : List Ranges) (loss : Option ℕ) (c : Certificate) → IsGood b rs loss c → (verdict : Verdict) → CheckAnswers b rs loss c verdict → verdict ≡ Verdict.Accept c.bound c.left
-accepts_good b rs loss c good (Verdict.Accept bound left) h = (ap (λ (n : Option ℕ). Verdict.Accept n left) h.1) ∙ ap (λ (n : ℕ). Verdict.Accept c.bound n) h.2
-accepts_good b rs loss c good (Verdict.Refuse at why) h = absurd (h.1 good)
+-- a check accepts a certificate that is right, or does not show its floor
+pub accepts_or : (b : Problem) (rs : List Ranges) (loss : Option ℕ) (c : Certificate) → IsGood b rs loss c → (verdict : Verdict) → CheckAnswers b rs loss c verdict → (verdict ≡ Verdict.Accept c.bound c.left) ⊎ MissesFloor c verdict
+accepts_or b rs loss c good (Verdict.Accept bound left) h = inl (ap (λ (n : Option ℕ). Verdict.Accept n left) h.1 ∙ ap (λ (n : ℕ). Verdict.Accept c.bound n) h.2)
+accepts_or b rs loss c good (Verdict.Refuse at why) h =
+    let fault = only_floor b rs loss c at why good h.0 h.1 in
+    inr (fault.found, fault.less, ap (λ (n : ℕ). Verdict.Refuse n why) fault.line_is ∙ ap (Verdict.Refuse 1) fault.why_is)
+
+-- where there is no floor, it accepts it
+accepts_good : (b : Problem) (rs : List Ranges) (loss : Option ℕ) (c : Certificate) → IsGood b rs loss c → c.floor ≡ 0 → (verdict : Verdict) → CheckAnswers b rs loss c verdict → verdict ≡ Verdict.Accept c.bound c.left
+accepts_good b rs loss c good none verdict h = elim (accepts_or b rs loss c good verdict h) [
+  | inl is ↦ is
+  | inr missed ↦ absurd (omega (arith, none, missed.1))
+]
 
 -- what was found can be read again
 can_be_read : (b : Problem) (budget : ℕ) (c : Certificate) (plan : Option Forest) → IsProblem b → length b.items * budget ≤ most_work → IsFound b budget c plan → CanBeRead b plan c
@@ -136,7 +146,7 @@ can_be_read b budget c plan problem work found =
     record {
       problem = problem;
       said = found.said.plan_is;
-      text = is_text b c problem found.good found.version (omega (arith, found.in_budget, most, work)) found.said.reading.begins.head;
+      text = is_text b c problem found.good (second_version c found.version) (omega (arith, found.in_budget, most, work)) found.said.reading.begins.head;
       plan_is = found.plan_is;
       good = found.good;
     }
@@ -162,8 +172,8 @@ stores_search line held old new answer result search searches of end is s stored
             prints = subst (λ (a : Answer). Prints a.lines old.paper new.paper) p.1.answer_is prints;
             improvements = p.1.improvements;
             good = found.good;
-            accepted = accepts_good s.b (root_ranges s.b) c.loss c found.good;
-            verified = verified s.b p.1.plan c (can_be_read s.b budget c p.1.plan (rules_of line.verb line s.texts s.b s.reads.instance_is) p.0 found);
+            accepted = accepts_good s.b (root_ranges s.b) c.loss c found.good (second_floor c found.version);
+            verified = verified s.b p.1.plan c (can_be_read s.b budget c p.1.plan (rules_of line.verb line s.texts s.b s.reads.instance_is) p.0 found) (second_floor c found.version);
             readable = found.readable;
             plan_is = found.plan_is;
             to_beat = found.to_beat;

@@ -20,7 +20,7 @@ use Rattle.command_line.specs.declared.grammar.Verb.TheVariants as verb
 use Rattle.cert_log.specs.Texts.{cert_text}
 use Rattle.plan_csv.specs.Solutions.{solution_text}
 use Rattle.cert_check.specs.declared.verdict.Why.{Why}
-use Rattle.cert_check.specs.Faults.{IsFirstFault}
+use Rattle.cert_check.specs.Faults.{IsFirstFault, SaysWrong}
 use Rattle.glass_io.specs.Told.{SameContents}
 use Rattle.run_frame.specs.Answers.{Answer}
 use Rattle.run_checks.specs.Checks.{accepted as accepted_answer, bound_line, refused_line, root_ranges}
@@ -107,7 +107,7 @@ AcceptsFrom zero line held old new = Accepts line held old new
 AcceptsFrom (suc k) line held old new = AcceptsBehind (suc k) line held old new
 
 -- the plan that PLAN says is lawful and has more than these first plates, and the certificate that CERT says is not right for the instance that is
--- left behind them, and for what the plan loses there; the first check that it fails is printed
+-- left behind them, and for what the plan loses there, or its floor is not shown; the first check that it fails is printed
 pub record FindsWrongBehind (k : ℕ) (line : Line) (held : Contents) (old new : World) : Type 0 where
   pub texts : Texts
   pub b : Problem
@@ -121,7 +121,7 @@ pub record FindsWrongBehind (k : ℕ) (line : Line) (held : Contents) (old new :
   pub lawful : IsLawful b plan
   pub fewer : k < neighbour_count plan
   pub rest_is : IsRest b plan k rest
-  pub wrong : ¬ IsGood rest (root_ranges rest) (loss_behind rest k plan) certificate
+  pub wrong : SaysWrong rest (root_ranges rest) (loss_behind rest k plan) certificate why
   pub first : IsFirstFault rest (root_ranges rest) (loss_behind rest k plan) certificate at why
   pub unchanged : SameContents old.shelf.contents new.shelf.contents
   pub prints : Prints (refused_line at why) old.paper new.paper

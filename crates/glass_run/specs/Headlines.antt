@@ -1,5 +1,5 @@
 -- What a user may conclude from how a run ended.
-use Rattle.std.specs.Prelude.{◌≡◌, ◌≢◌, ◌↔◌, ◌+◌, ◌-◌, ◌^◌, ◌<◌, ◌≤◌, ℕ, List, length, Option, Some, None, Ok, option_map, codes}
+use Rattle.std.specs.Prelude.{◌≡◌, ◌≢◌, ◌↔◌, ◌⊎◌, ◌+◌, ◌-◌, ◌^◌, ◌<◌, ◌≤◌, ℕ, List, length, Option, Some, None, Ok, option_map, codes}
 use Rattle.glass_base.specs.Problem.{Problem}
 use Rattle.glass_base.specs.declared.role.Role.TheVariants as role
 use Rattle.glass_io.specs.Told.{Contents, SameContents, Stored}
@@ -16,12 +16,12 @@ use Rattle.cert_log.specs.Splits.{IsSearched}
 use Rattle.cert_log.specs.Texts.{cert_text}
 use Rattle.cert_check.specs.declared.verdict.Verdict.{Verdict}
 use Rattle.cert_check.specs.declared.verdict.Why.{Why}
-use Rattle.cert_check.specs.Faults.{Answers as CheckAnswers, IsFirstFault}
+use Rattle.cert_check.specs.Faults.{Answers as CheckAnswers, IsFirstFault, SaysWrong}
 use Rattle.plan_draft.specs.Drafts.{HasNoDraft, IsDraftPlan}
 use Rattle.plan_csv.specs.PlanTexts.{plan_said}
 use Rattle.plan_csv.specs.Solutions.{solution_text}
 use Rattle.run_frame.specs.Answers.{Answer}
-use Rattle.run_checks.specs.Checks.{IsConverted, IsLawfulToo, Verifies, accepted as accepted_answer, bound_line, loss_in, refused_line, root_ranges}
+use Rattle.run_checks.specs.Checks.{IsConverted, IsLawfulToo, NotShown, Verifies, accepted as accepted_answer, bound_line, loss_in, refused_line, root_ranges}
 use Rattle.glass_run.specs.Commands.{Answers, HasInstance, cert_name, plan_name}
 use Rattle.run_plans.specs.Drafts.{no_draft_line, summary}
 use Rattle.command_line.specs.Grammar.{Line, count_in, files_of, flag_in, line_of}
@@ -124,6 +124,10 @@ IsSearchEnd status.Stopped = Unit {0}
 IsSearchEnd status.Infeasible = Unit {0}
 IsSearchEnd _ = ⊥
 
+-- a check of the certificate does not show its floor, but a lesser one
+abbrev pub MissesFloor : Certificate → Verdict → Type 0
+MissesFloor c verdict = (found : ℕ) × (found < c.floor) × (verdict ≡ Verdict.Refuse 1 (Why.WrongFloor c.floor found))
+
 -- what a search found is stored and printed
 pub record StoresSearch (line : Line) (held : Contents) (old new : World) (result : Status) : Type 0 where
   pub texts : Texts
@@ -214,9 +218,10 @@ pub record StoresResumed (line : Line) (held : Contents) (old new : World) (resu
   -- OUT holds the text of the plan, if there is one; NEW that of the certificate; the six lines on them are printed
   pub stored : Stands (planned b (plan_name line) (cert_name line) joined plan None).stores old.shelf.contents new.shelf.contents
   pub prints : Prints (search_summary joined (option_map neighbour_count plan)) old.paper new.paper
-  -- a check of it accepts it, and `verify` of the two texts, or of the certificate alone, accepts them with this bound and this number of open boxes
-  pub accepted : (verdict : Verdict) → CheckAnswers b (root_ranges b) joined.loss joined verdict → verdict ≡ Verdict.Accept joined.bound joined.left
-  pub verified : (answer : Answer) → Verifies b (option_map (solution_text b) plan) (cert_text joined) answer → answer ≡ accepted_answer joined
+  -- a check of it accepts it, and `verify` of the two texts, or of the certificate alone, accepts them with this bound and this number of open boxes;
+  -- or they do not show the floor of CERT again: never where that is 0, as before version 3
+  pub accepted : (verdict : Verdict) → CheckAnswers b (root_ranges b) joined.loss joined verdict → (verdict ≡ Verdict.Accept joined.bound joined.left) ⊎ MissesFloor joined verdict
+  pub verified : (answer : Answer) → Verifies b (option_map (solution_text b) plan) (cert_text joined) answer → (answer ≡ accepted_answer joined) ⊎ NotShown joined answer
   -- the text of NEW is no longer than one that is read
   pub readable : length (cert_text joined) ≤ limit_of role.Cert
   -- the status says whether a box is left open, and else whether there is a plan
@@ -227,7 +232,7 @@ pub record StoresResumed (line : Line) (held : Contents) (old new : World) (resu
   pub exact : result ≢ status.Stopped → joined.bound ≡ joined.loss
 
 -- the plan that PLAN says is lawful, if there is one, and the certificate that CERT says is not right for the box of all plans and for this
--- plan's loss; the first check that it fails is printed
+-- plan's loss, or its floor is not shown; the first check that it fails is printed
 pub record FindsWrong (line : Line) (held : Contents) (old new : World) : Type 0 where
   pub texts : Texts
   pub b : Problem
@@ -238,7 +243,7 @@ pub record FindsWrong (line : Line) (held : Contents) (old new : World) : Type 0
   pub reads : SaidBy line held texts b
   pub said : SayBoth b (text_for texts role.Plan) (text_or_empty texts role.Cert) plan certificate
   pub lawful : IsLawfulToo b plan
-  pub wrong : ¬ IsGood b (root_ranges b) (loss_in b plan) certificate
+  pub wrong : SaysWrong b (root_ranges b) (loss_in b plan) certificate why
   pub first : IsFirstFault b (root_ranges b) (loss_in b plan) certificate at why
   pub unchanged : SameContents old.shelf.contents new.shelf.contents
   pub prints : Prints (refused_line at why) old.paper new.paper

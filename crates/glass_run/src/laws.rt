@@ -64,7 +64,7 @@ pub fn done_checks_are_right()
     ensures { (words : List (List ℕ)) → (line : Line) → (held : Contents) → (old new : World) → Ended words verb.Verify line held old new status.Done → AcceptsFrom (cut_already verb.Verify line) line held old new }
 {}
 
-/// Where `convert` is done, all that holds of `verify` holds, and NEW holds the text of the certificate of version 2 that says the same and
+/// Where `convert` is done, all that holds of `verify` holds, and NEW holds the text of the certificate of version 2, or of the same later one, that says the same and
 /// names the cause of each closed box.
 pub fn done_conversions_are_right()
     ensures { (words : List (List ℕ)) → (line : Line) → (held : Contents) → (old new : World) → Ended words verb.Convert line held old new status.Done → StoresConverted line held old new }
@@ -73,14 +73,14 @@ pub fn done_conversions_are_right()
 /// Where `resume` ends with `optimal`, `stopped` or `infeasible`, all that holds of `verify` holds of PLAN and CERT, and a search went on in the
 /// boxes that CERT leaves open: a printed plan is lawful, has the printed loss and loses no more than that of PLAN, and OUT holds its text; NEW
 /// holds the text of a certificate that is right for the box of all plans and this loss, which is that of CERT with its causes named and with a
-/// tree in the place of each open node, and `verify` of the two stored texts accepts them; `stopped` is printed exactly where a box is left open,
+/// tree in the place of each open node, and `verify` of the two stored texts accepts them, or does not show the floor of CERT again, where that has one; `stopped` is printed exactly where a box is left open,
 /// and then as many boxes were closed or split as CERT tells of and the budget says.
 pub fn resumptions_are_right()
     ensures { (words : List (List ℕ)) → (line : Line) → (held : Contents) → (old new : World) → (result : Status) → IsSearchEnd result → Ended words verb.Resume line held old new result → StoresResumed line held old new result }
 {}
 
 /// Where `verify`, `convert` or `resume` says refused, the plan that PLAN says is lawful, or there is none, but the certificate that CERT says is not
-/// right for it (of `verify` with `--frozen=K`: for the instance that is left behind its first K plates), and what is printed is the first check that
+/// right for it (of `verify` with `--frozen=K`: for the instance that is left behind its first K plates), or its floor was not shown, and what is printed is the first check that
 /// it fails.
 pub fn refused_checks_are_true()
     ensures { (words : List (List ℕ)) → (line : Line) → (held : Contents) → (old new : World) → (check : Verb) → IsCheck check → Ended words check line held old new status.Refused → FindsWrongFrom (cut_already check line) line held old new }

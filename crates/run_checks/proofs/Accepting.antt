@@ -7,10 +7,9 @@ use Rattle.plan_csv.specs.declared.bad_plan.BadPlan.{BadPlan}
 use Rattle.plan_csv.specs.declared.bad_plan.BadPlan.TheVariants as bad
 use Rattle.cert_log.specs.declared.bad_cert.BadCert.{BadCert}
 use Rattle.cert_log.specs.declared.certificate.Certificate.{Certificate}
-use Rattle.cert_log.specs.Good.{IsGood}
 use Rattle.cert_log.specs.Outcomes.{IsReading}
 use Rattle.cert_check.specs.declared.verdict.Why.{Why}
-use Rattle.cert_check.specs.Faults.{IsFirstFault}
+use Rattle.cert_check.specs.Faults.{IsFirstFault, SaysWrong}
 use Rattle.run_frame.specs.Answers.{Answer}
 use Rattle.run_checks.specs.Checks.{CertRefused, Converts, IsConverted, IsLawfulToo, NotAccepted, Verifies, converted, loss_in, refused, root_ranges}
 use Rattle.run_checks.specs.Checks.NotAccepted.{bad_cert as bad_certificate, bad_plan, bad_tree, broken_plan}
@@ -63,7 +62,7 @@ wrong_not_accepted b plan_text text plan c s said lawful told =
     told_more (IsWrong b (loss_in b plan) c) (NotAccepted b plan_text text) s (λ answer h. bad_tree plan c h.0 h.1 said lawful h.2 h.3 h.4) told
 
 -- a certificate that fails a check is told of
-pub wrong_told : (b : Problem) (loss : Option ℕ) (c : Certificate) (line : ℕ) (why : Why) (s : Stop) → ¬ IsGood b (root_ranges b) loss c → IsFirstFault b (root_ranges b) loss c line why →
+pub wrong_told : (b : Problem) (loss : Option ℕ) (c : Certificate) (line : ℕ) (why : Why) (s : Stop) → SaysWrong b (root_ranges b) loss c why → IsFirstFault b (root_ranges b) loss c line why →
     OnTold (λ answer. answer ≡ refused line why) s → OnTold (IsWrong b loss c) s
 wrong_told b loss c line why s wrong first told = told_more (λ answer. answer ≡ refused line why) (IsWrong b loss c) s (λ answer h. (line, why, wrong, first, h)) told
 

@@ -1,5 +1,5 @@
 -- What `verify` and `convert` answer to an instance and the texts of a plan and of a certificate.
-use Rattle.std.specs.Prelude.{◌≡◌, ◌⊎◌, ◌++◌, ℕ, List, [], ◌∷◌, Option, Some, None, Err, codes}
+use Rattle.std.specs.Prelude.{◌≡◌, ◌<◌, ◌⊎◌, ◌++◌, ℕ, List, [], ◌∷◌, Option, Some, None, Err, codes}
 use Rattle.std.specs.Fmt.{decimal}
 use Rattle.glass_base.specs.Problem.{Problem}
 use Rattle.glass_base.specs.declared.role.Role.TheVariants as role
@@ -22,7 +22,7 @@ use Rattle.cert_log.specs.Outcomes.{IsReading}
 use Rattle.cert_log.specs.Texts.{cert_text, loss_text}
 use Rattle.cert_check.specs.declared.verdict.Why.{Why}
 use Rattle.cert_check.specs.Causes.{IsReasoned}
-use Rattle.cert_check.specs.Faults.{IsFirstFault}
+use Rattle.cert_check.specs.Faults.{IsFirstFault, SaysWrong}
 use Rattle.run_frame.specs.Answers.{Answer, Refused, only_lines, refusal}
 use Rattle.run_frame.specs.declared.refusals.Refusal.{Refusal}
 use Rattle.run_plans.specs.Judgements.{IsFirstBroken, PlanRefused, unlawful}
@@ -45,6 +45,7 @@ why_text (Why.NotClosed bound loss) = word_with (codes "notclosed") (decimal bou
 why_text (Why.WrongCause said found) = word_with (codes "wrongcause") (decimal said) (decimal found)
 why_text (Why.WrongOpen said found) = word_with (codes "wrongopen") (decimal said) (decimal found)
 why_text (Why.WrongBound said found) = word_with (codes "wrongbound") (loss_text said) (loss_text found)
+why_text (Why.WrongFloor said found) = word_with (codes "wrongfloor") (decimal said) (decimal found)
 
 abbrev pub refused_line : ℕ → Why → List ℕ
 refused_line line why = codes "refused line " ++ decimal line ++ codes " " ++ why_text why ++ codes "\n"
@@ -52,6 +53,10 @@ refused_line line why = codes "refused line " ++ decimal line ++ codes " " ++ wh
 -- the first check that a certificate fails, and the line of its text
 abbrev pub refused : ℕ → Why → Answer
 refused line why = only_lines status.Refused (refused_line line why)
+
+-- the floor of a certificate was not shown, but a lesser one
+abbrev pub NotShown : Certificate → Answer → Type 0
+NotShown c answer = (found : ℕ) × (found < c.floor) × (answer ≡ refused 1 (Why.WrongFloor c.floor found))
 
 -- the bound of a certificate and its number of open boxes, behind a word
 abbrev pub bound_line : List ℕ → Certificate → List ℕ
@@ -114,7 +119,7 @@ pub data NotAccepted (b : Problem) (plan_text : Option (List ℕ)) (cert_text : 
   broken_plan : (plan : Forest) (c : Certificate) (broken : Broken) → SayBoth b plan_text cert_text (Some plan) c → ¬ IsLawful b plan → IsFirstBroken b plan broken →
       answer ≡ unlawful broken → NotAccepted b plan_text cert_text answer
   bad_tree : (plan : Option Forest) (c : Certificate) (line : ℕ) (why : Why) → SayBoth b plan_text cert_text plan c → IsLawfulToo b plan →
-      ¬ IsGood b (root_ranges b) (loss_in b plan) c → IsFirstFault b (root_ranges b) (loss_in b plan) c line why → answer ≡ refused line why →
+      SaysWrong b (root_ranges b) (loss_in b plan) c why → IsFirstFault b (root_ranges b) (loss_in b plan) c line why → answer ≡ refused line why →
       NotAccepted b plan_text cert_text answer
 
 -- the answer of `verify`
@@ -122,7 +127,7 @@ abbrev pub Verifies : Problem → Option (List ℕ) → List ℕ → Answer → 
 Verifies b plan_text cert_text answer =
     ((plan : Option Forest) × (c : Certificate) × IsAccepted b plan_text cert_text plan c × (answer ≡ accepted c)) ⊎ NotAccepted b plan_text cert_text answer
 
--- the certificate of version 2 that names the causes of another one, and is right as that is
+-- the certificate of version 2, or of the same later one, that names the causes of another one, and is right as that is
 pub record IsConverted (b : Problem) (c d : Certificate) : Type 0 where
   pub reasoned : IsReasoned b (root_ranges b) c d
   pub good : IsGood b (root_ranges b) c.loss d

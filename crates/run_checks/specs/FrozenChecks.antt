@@ -14,7 +14,7 @@ use Rattle.cert_log.specs.declared.certificate.Certificate.{Certificate}
 use Rattle.cert_log.specs.Good.{IsGood}
 use Rattle.cert_log.specs.Outcomes.{IsReading}
 use Rattle.cert_check.specs.declared.verdict.Why.{Why}
-use Rattle.cert_check.specs.Faults.{IsFirstFault}
+use Rattle.cert_check.specs.Faults.{IsFirstFault, SaysWrong}
 use Rattle.run_frame.specs.Answers.{Answer, bad_input}
 use Rattle.run_checks.specs.Checks.{CertRefused, RefusesPlan, Verifies, accepted, refused, root_ranges}
 use Rattle.run_plans.specs.Judgements.{IsFirstBroken, PlanRefused, unlawful}
@@ -51,7 +51,7 @@ pub data NotAcceptedBehind (b : Problem) (k : ℕ) (plan_text cert_text : List �
   none_left : (plan : Forest) (c : Certificate) → SayBoth b (Some plan_text) cert_text (Some plan) c → IsLawful b plan → neighbour_count plan ≤ k →
       answer ≡ all_frozen k plan → NotAcceptedBehind b k plan_text cert_text answer
   bad_tree : (plan : Forest) (rest : Problem) (c : Certificate) (line : ℕ) (why : Why) → SayBoth b (Some plan_text) cert_text (Some plan) c → IsLawful b plan →
-      k < neighbour_count plan → IsRest b plan k rest → ¬ IsGood rest (root_ranges rest) (loss_behind rest k plan) c →
+      k < neighbour_count plan → IsRest b plan k rest → SaysWrong rest (root_ranges rest) (loss_behind rest k plan) c why →
       IsFirstFault rest (root_ranges rest) (loss_behind rest k plan) c line why → answer ≡ refused line why → NotAcceptedBehind b k plan_text cert_text answer
 
 -- the answer where the first plates are cut already: the bound has what these plates lose added to it

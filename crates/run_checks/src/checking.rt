@@ -3,7 +3,7 @@
 ghost use Rattle.std.specs.Prelude.{◌≡◌, ◌⊎◌, ℕ, List, [], Ok, IfOk, MatchResult, option_map};
 ghost use Rattle.cut_model.specs.Tree.{tree};
 ghost use Rattle.cert_log.specs.declared.certificate.Certificate.{Certificate as CertificateOf};
-ghost use Rattle.cert_log.specs.Good.{IsGood, IsVersion};
+ghost use Rattle.cert_log.specs.Good.{HasVersion, IsGood};
 ghost use Rattle.cert_log.specs.Outcomes.{IsReading};
 ghost use Rattle.cert_log.specs.Trees.{IsTree};
 ghost use Rattle.run_checks.specs.Checks.{Converts, IsAccepted, IsConverted, IsLawfulToo, NotAccepted, Verifies, accepted as accepted_of, cert_refusal as cert_refusal_of, converted as converted_of, loss_in, refused as refused_of, root_ranges};
@@ -103,7 +103,7 @@ fn read_plan_in(
 pub(crate) fn read_cert_in(alloc: Global, text: &[u8]) -> Result<Certificate, Stop>
     ensures reading { MatchResult result (λ c. IsReading text.now (Ok c)) (OnTold (RefusesCertText text.now)) }
     ensures tree { IfOk result (λ c. IsTree c.nodes.items) }
-    ensures version { IfOk result (λ c. IsVersion 1 c ⊎ IsVersion 2 c) }
+    ensures version { IfOk result HasVersion }
 {
     match read_cert(alloc, text) {
         Ok(certificate) => Ok(certificate),
@@ -152,7 +152,7 @@ pub(crate) fn check_cert_in(
 ) -> Result<(), Stop>
     requires map { map.now ≡ instance.now.defects }
     requires tree { IsTree certificate.now.nodes.items }
-    requires version { IsVersion 1 certificate.now ⊎ IsVersion 2 certificate.now }
+    requires version { HasVersion certificate.now }
     ensures { MatchResult result (λ _. IsGood instance.now (root_ranges instance.now) loss certificate.now) (OnTold (IsWrong instance.now loss certificate.now)) }
 {
     match check_cert(alloc, instance, map, loss, certificate)? {
@@ -180,6 +180,7 @@ pub fn accepted_texts(
     requires { map.now ≡ instance.now.defects }
     ensures accepted { MatchResult result (λ a. IsAccepted instance.now (option_map (λ bytes. bytes.now) plan_text.entry) cert_text.now (option_map tree a.plan) a.certificate) (OnTold (NotAccepted instance.now (option_map (λ bytes. bytes.now) plan_text.entry) cert_text.now)) }
     ensures fits { IfOk result (λ a. FitsToo a.plan) }
+    ensures version { IfOk result (λ a. HasVersion a.certificate) }
 {
     let plan = read_plan_in(alloc, instance, plan_text)?;
     let certificate = read_cert_in(alloc, cert_text)?;
@@ -205,9 +206,9 @@ pub(crate) fn verify_texts(
     }
 }
 
-/// The reply that stores a certificate of version 2.
+/// The reply that stores a certificate.
 fn reply_with_cert(alloc: Global, certificate: &Certificate) -> Result<Reply, Memory>
-    requires { IsVersion 2 certificate.now }
+    requires { HasVersion certificate.now }
     ensures { IfOk result (λ r. (name : Product → List ℕ) → answer_in name r ≡ converted_of (name Product.Certificate) certificate.now) }
 {
     let lines = bound_line(alloc, "converted", certificate)?;
@@ -228,6 +229,7 @@ fn convert(
 ) -> Result<Reply, Memory>
     requires map { map.now ≡ instance.now.defects }
     requires good { IsGood instance.now (root_ranges instance.now) certificate.now.loss certificate.now }
+    requires version { HasVersion certificate.now }
     ensures { IfOk result (λ r. (d : CertificateOf) × IsConverted instance.now certificate.now d × ((name : Product → List ℕ) → answer_in name r ≡ converted_of (name Product.Certificate) d)) }
 {
     let named = reasoned(alloc, instance, map, certificate)?;

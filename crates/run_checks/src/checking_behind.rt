@@ -4,7 +4,7 @@ ghost use Rattle.std.specs.Prelude.{◌≡◌, ◌⊎◌, ◌+◌, ◌<◌, ◌�
 ghost use Rattle.cut_model.specs.Fits.{Fits};
 ghost use Rattle.cut_model.specs.Lawful.{IsLawful};
 ghost use Rattle.cut_model.specs.Tree.{neighbour_count, tree};
-ghost use Rattle.cert_log.specs.Good.{IsVersion};
+ghost use Rattle.cert_log.specs.Good.{HasVersion};
 ghost use Rattle.cert_log.specs.Trees.{IsTree};
 ghost use Rattle.plan_csv.specs.PlanTexts.{plan_said};
 ghost use Rattle.run_checks.specs.Checks.{accepted as accepted_of};
@@ -82,7 +82,7 @@ fn check_behind(
     requires lawful { IsLawful instance.now (tree plan.now) }
     requires fewer { k < neighbour_count (tree plan.now) }
     requires tree { IsTree certificate.now.nodes.items }
-    requires version { IsVersion 1 certificate.now ⊎ IsVersion 2 certificate.now }
+    requires version { HasVersion certificate.now }
     ensures { MatchResult result (λ _. IsRightBehind instance.now (tree plan.now) k certificate.now) (OnTold (IsWrongBehind instance.now (tree plan.now) k certificate.now)) }
 {
     let (left, tail) = rest(alloc, instance, plan, k)?;

@@ -52,6 +52,7 @@ fn why_text(alloc: Global, why: Why) -> Result<String, Memory>
         }
         Why::WrongOpen(said, found) => word_with(alloc, "wrongopen", Some(said), Some(found)),
         Why::WrongBound(said, found) => word_with(alloc, "wrongbound", said, found),
+        Why::WrongFloor(said, found) => word_with(alloc, "wrongfloor", Some(said), Some(found)),
     }
 }
 

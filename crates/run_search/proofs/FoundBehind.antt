@@ -45,7 +45,7 @@ use Rattle.cut_model.specs.declared.broken.Broken.{Broken}
 use Rattle.run_search.specs.inner.Searches.{Certifies, IsFoundBehind, IsHistoryFrom}
 use Rattle.run_checks.proofs.RaisedBounds.{loss_small, raises_some}
 use Rattle.run_search.proofs.Searched.{known}
-use Rattle.run_search.proofs.StoredTexts.{both_said, cert_short, is_text}
+use Rattle.run_search.proofs.StoredTexts.{both_said, cert_short, is_text, second_version}
 
 -- its best loss is known
 best_known : (b : Problem) (plan : Forest) (budget : ℕ) (h : History) → IsHistoryFrom b plan budget h → loss_of h.best ≡ Some h.best
@@ -119,7 +119,7 @@ whole_said b plan k budget c best whole rules lawful fewer small is fits glued f
     let keeps : IsLawfulPlan b (tree whole) = subst (IsLawfulPlan b) (sym glued) joined_lawful in
     let adds_up = All-weaker (KeepsCutRules b) (λ f. AddsUp f f.sort) (λ f keeps. keeps.l1) (families_of b (tree whole)) keeps.cuts in
     let said = read_again b whole rules (record { fits = fits; within = plan_within b whole fits adds_up; few = few }) in
-    both_said b (Some (tree whole)) c said (is_text is.left c is.rest_is.rules is.found.good is.found.version (omega (arith, is.found.in_budget, small)) is.head)
+    both_said b (Some (tree whole)) c said (is_text is.left c is.rest_is.rules is.found.good (second_version c is.found.version) (omega (arith, is.found.in_budget, small)) is.head)
 
 -- it is stored and told
 pub freezes : (b : Problem) (plan : Forest) (k budget more : ℕ) (c : Certificate) (best : Forest) (whole : Plan) (out cert : List ℕ) (answer : Answer) → IsProblem b → IsLawfulPlan b plan → k < neighbour_count plan → budget ≤ 10000000 →

@@ -22,6 +22,7 @@ use Rattle.cert_log.specs.Outcomes.{IsReading}
 use Rattle.cert_log.specs.Readings.{IsTextOf, SaySame}
 use Rattle.cert_log.specs.Texts.{cert_text}
 use Rattle.cert_log.proofs.RoundTrip.{round_trip}
+use Rattle.cert_check.proofs.Accepting.{only_floor}
 use Rattle.run_frame.specs.Answers.{Answer, only_lines}
 use Rattle.run_checks.specs.Checks.{CertRefused, accepted, root_ranges}
 use Rattle.run_checks.specs.FrozenChecks.{NotAcceptedBehind, VerifiesBehind, loss_behind, raised}
@@ -38,6 +39,7 @@ pub record CanBeReadBehind (b : Problem) (plan : Forest) (k : ℕ) (rest : Probl
   pub good : IsGood rest (root_ranges rest) c.loss c
   pub said : plan_said b (solution_text b (joined (first_plates k plan) tail)) ≡ Ok (joined (first_plates k plan) tail)
   pub text : IsTextOf (cert_text c) c
+  pub no_floor : c.floor ≡ 0
 
 -- a lawful plan has a plate
 some_plate : (rest : Problem) (tail : Forest) → IsProblem rest → IsLawful rest tail → 1 ≤ neighbour_count tail
@@ -93,7 +95,9 @@ module _ (b : Problem) (plan : Forest) (k : ℕ) (rest : Problem) (tail : Forest
   not_refused answer (broken_plan other d broken said unlawful first is) = unlawful (subst (IsLawful b) (sym (one_plan other said.plan_is)) whole_lawful)
   not_refused answer (none_left other d said lawful few is) = omega (arith, few, more_plates, ap neighbour_count (one_plan other said.plan_is))
   not_refused answer (bad_tree other left d line why said lawful fewer rest_is wrong first is) =
-      wrong (right other left d (one_plan other said.plan_is) rest_is (same d said.reading))
+      let says = same d said.reading in
+      let fault = only_floor left (root_ranges left) (loss_behind left k other) d line why (right other left d (one_plan other said.plan_is) rest_is says) first wrong in
+      omega (arith, can.no_floor, says.floor, fault.less)
 
   -- `verify` of the texts accepts them
   pub verified_behind : (answer : Answer) → VerifiesBehind b k (solution_text b whole) (cert_text c) answer → answer ≡ accepted (raised (frozen_loss b plan k) c)

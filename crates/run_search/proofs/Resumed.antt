@@ -14,7 +14,7 @@ use Rattle.plan_box.specs.Ranges.{PlainBox, Ranges}
 use Rattle.cert_log.specs.declared.certificate.Certificate.{Certificate}
 use Rattle.cert_log.specs.declared.history.History.{History}
 use Rattle.cert_log.specs.declared.history.Left.{Left}
-use Rattle.cert_log.specs.Good.{AreGood, IsGood}
+use Rattle.cert_log.specs.Good.{AreGood, HasVersion, IsGood, IsVersion}
 use Rattle.cert_log.specs.Lawful.{IsLawful, loss_of, no_loss}
 use Rattle.cert_log.specs.Outcomes.{IsHead}
 use Rattle.cert_log.specs.Splits.{AreSearched}
@@ -77,9 +77,15 @@ left_some : (xs : List Left) → 0 < length xs → xs ≢ []
 left_some [] some e = omega (arith, some)
 left_some (x ∷ xs) some e = cc e
 
+-- what is joined has the version of what it was joined to
+joined_version : {parts : List Certificate} {loss : Option ℕ} (named j : Certificate) → HasVersion named → IsJoined named parts loss j → HasVersion j
+joined_version named j has joined =
+    let same = joined.version.0 in (omega (arith, same, has.0), subst (λ (version : ℕ). IsVersion version j) (sym same) joined.version)
+
 -- a search of the open boxes of a certificate whose causes are named, and what came of it
 pub record HasSearched (b : Problem) (budget to_beat : ℕ) (c named : Certificate) (h : History) (parts : List Certificate) (j : Certificate) : Type 0 where
   pub names : IsConverted b c named
+  pub named_version : HasVersion named
   pub lawful : IsLawful b (course_from (left_boxes_of b names.good.tree) to_beat budget) h
   pub right : AreGood b (loss_of h.best) (left_boxes_of b names.good.tree) parts
   pub searched : AreSearched b to_beat (left_boxes_of b names.good.tree) parts
@@ -92,13 +98,14 @@ pub record HasSearched (b : Problem) (budget to_beat : ℕ) (c named : Certifica
   pub few : IsNumber (length j.nodes.items)
 
 -- the parts of such a search, put together
-pub searched_on : (b : Problem) (budget to_beat : ℕ) (c named : Certificate) (h : History) (boxes : List PlainBox) (parts : List Certificate) (loss : Option ℕ) (j : Certificate) → (names : IsConverted b c named)
+pub searched_on : (b : Problem) (budget to_beat : ℕ) (c named : Certificate) (h : History) (boxes : List PlainBox) (parts : List Certificate) (loss : Option ℕ) (j : Certificate) → (names : IsConverted b c named) → HasVersion named
     → boxes ≡ left_boxes_of b names.good.tree → loss ≡ loss_of h.best → IsLawful b (course_from boxes to_beat budget) h → AreGood b (loss_of h.best) boxes parts → AreSearched b to_beat boxes parts
     → sum_by (λ (x : Certificate). length x.nodes.items) parts ≡ length h.log.items + length h.left.items → sum_by (λ (x : Certificate). x.left) parts ≡ length h.left.items
     → IsJoined named parts loss j → KeepsRight named parts loss j → length j.nodes.items + length parts ≡ length named.nodes.items + sum_by (λ (x : Certificate). length x.nodes.items) parts
     → IsHead (head_of j) → IsNumber (length j.nodes.items) → HasSearched b budget to_beat c named h parts j
-searched_on b budget to_beat c named h boxes parts loss j names are is lawful right searched nodes left joined keeps count head few = record {
+searched_on b budget to_beat c named h boxes parts loss j names has are is lawful right searched nodes left joined keeps count head few = record {
   names = names;
+  named_version = has;
   lawful = subst (λ (xs : List PlainBox). IsLawful b (course_from xs to_beat budget) h) are lawful;
   right = subst (λ (xs : List PlainBox). AreGood b (loss_of h.best) xs parts) are right;
   searched = subst (λ (xs : List PlainBox). AreSearched b to_beat xs parts) are searched;
@@ -132,7 +139,7 @@ module _ (b : Problem) (budget to_beat : ℕ) (plan : Option Forest) (c named : 
   all_handled =
       let boxes = open_boxes (root_ranges b) s.names.good.tree in
       let many : named.left ≡ length parts =
-      s.names.good.left_is ∙ bound_for_each b (root_ranges b) s.names.good.tree ∙ sym (as_many (frame_of b) 0 boxes)
+      s.names.good.left_is ∙ bound_for_each b named.floor (root_ranges b) s.names.good.tree ∙ sym (as_many (frame_of b) 0 boxes)
       ∙ zip_length (λ (x : PlainBox) (p : Certificate). IsGood b x.ranges (loss_of h.best) p) (left_boxes_of b s.names.good.tree) parts s.right in
       omega (
         arith,
@@ -156,11 +163,12 @@ module _ (b : Problem) (budget to_beat : ℕ) (plan : Option Forest) (c named : 
         parts = parts;
         joined = subst (λ (o : Option ℕ). IsJoined named parts o j) (sym loss) s.joined;
         good = good;
+        version = joined_version named j s.named_version s.joined;
         plan_is = subst (λ (o : Option ℕ). HasLoss b o best) (sym loss) has;
         no_worse = subst (λ (o : Option ℕ). IsAtMost o (loss_in b plan)) (sym loss) no_worse;
         bounds = bounds_each_plan b 0 (loss_of h.best) j problem joined_good;
         few = s.few;
-        said = both_said b best j said (is_text_of b j problem good s.joined.version s.few s.head);
+        said = both_said b best j said (is_text_of b j problem good (joined_version named j s.named_version s.joined) s.few s.head);
         to_beat = to_beat;
         searched = s.searched;
         no_greater = at_most;

@@ -36,7 +36,7 @@ use Rattle.box_workers.specs.Runs.{first_loss}
 use Rattle.run_search.specs.Plans.{AreTold, HasLoss, course, handled}
 use Rattle.run_checks.specs.Checks.{root_ranges}
 use Rattle.run_search.specs.inner.Searches.{AreWatched, Certifies, IsHistory, IsNoGreater, IsSaidByItsText, IsShortToo, IsToldFound, IsWatchedHistory}
-use Rattle.run_search.proofs.StoredTexts.{both_said, cert_short, is_text}
+use Rattle.run_search.proofs.StoredTexts.{both_said, cert_short, is_text, second_version}
 
 -- a number that is a loss
 pub known : (n : ℕ) → n < no_loss → loss_of n ≡ Some n
@@ -138,7 +138,7 @@ found b budget watch h c plan told problem most is certifies has said short head
         good = good;
         version = certifies.version;
         plan_is = subst (λ (o : Option ℕ). HasLoss b o plan) (sym loss) has;
-        said = both_said b plan c said (is_text b c problem good certifies.version (omega (arith, certifies.in_budget, most)) head);
+        said = both_said b plan c said (is_text b c problem good (second_version c certifies.version) (omega (arith, certifies.in_budget, most)) head);
         readable = record { plan_short = short; cert_short = cert_short b c budget problem good certifies.version head certifies.in_budget most };
         bounds = bounds_each_plan b 0 (loss_of h.best) c problem certifies.good;
         in_budget = certifies.in_budget;

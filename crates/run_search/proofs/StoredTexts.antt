@@ -1,5 +1,5 @@
 -- What a search stores is read again, and accepted.
-use Rattle.std.proofs.Common.{◌≡◌, ℕ, ◌≤◌, List, length, inl, inr, arith, refl, sym, ap, ◌∙◌, subst, Option, Some, None, Ok, Err}
+use Rattle.std.proofs.Common.{◌≡◌, ℕ, ◌<◌, ◌≤◌, ◌⊎◌, List, length, inl, inr, arith, refl, sym, ap, ◌∙◌, subst, Option, Some, None, Ok, Err}
 use Rattle.std.specs.Prelude.{option_map}
 use Rattle.std.proofs.lemmas.List.Elements.{All-weaker}
 use Rattle.glass_base.specs.Problem.{Problem, IsProblem}
@@ -21,7 +21,7 @@ use Rattle.plan_csv.proofs.ShortTexts.{short_text}
 use Rattle.cert_log.specs.declared.bad_cert.BadCert.{BadCert}
 use Rattle.cert_log.specs.declared.certificate.Certificate.{Certificate}
 use Rattle.cert_log.specs.declared.certificate.Node.{Node}
-use Rattle.cert_log.specs.Good.{IsGood, IsVersion, StepsBelow}
+use Rattle.cert_log.specs.Good.{HasVersion, IsFloor, IsGood, IsVersion, Stands, StepsBelow, least_of, open_bounds}
 use Rattle.cert_log.specs.Outcomes.{IsHead, IsReading}
 use Rattle.cert_log.specs.Readings.{IsTextOf, SaySame}
 use Rattle.cert_log.specs.Texts.{cert_text, head_of}
@@ -32,8 +32,11 @@ use Rattle.cert_log.proofs.Naming.{good_steps}
 use Rattle.cert_log.proofs.RoundTrip.{round_trip}
 use Rattle.cert_log.proofs.ShortTexts.{short_texts}
 use Rattle.cert_log.proofs.Whole.{written_is_read}
+use Rattle.cert_check.specs.declared.verdict.Why.{Why}
+use Rattle.cert_check.specs.Faults.{IsFloorFault}
+use Rattle.cert_check.proofs.Accepting.{only_floor}
 use Rattle.run_frame.specs.Answers.{Answer}
-use Rattle.run_checks.specs.Checks.{CertRefused, IsLawfulToo, NotAccepted, RefusesPlan, Verifies, accepted, loss_in, root_ranges}
+use Rattle.run_checks.specs.Checks.{CertRefused, IsLawfulToo, NotAccepted, NotShown, RefusesPlan, Verifies, accepted, loss_in, refused, root_ranges}
 use Rattle.run_checks.specs.Checks.NotAccepted.{bad_cert as bad_certificate, bad_plan, bad_tree, broken_plan}
 use Rattle.run_search.specs.Plans.{HasLoss, handled, most_work}
 use Rattle.run_checks.specs.Said.{IsPlanIn, SayBoth}
@@ -58,7 +61,7 @@ plan_short b plan problem good =
 pub cert_short : (b : Problem) (c : Certificate) (budget : ℕ) → IsProblem b → IsGood b (root_ranges b) c.loss c → IsVersion 2 c → IsHead (head_of c) → handled c ≤ budget → budget ≤ 10000000
     → length (cert_text c) ≤ limit_of role.Cert
 cert_short b c budget problem good version head in_budget most =
-    let short = short_texts b c.loss c problem good version head in omega (arith, short, in_budget, most)
+    let short = short_texts b c.loss c problem good (omega (arith, version.0)) head in omega (arith, short, in_budget, most)
 
 few_steps : (steps : ℕ) → steps ≤ 800 → (node : Node) → StepBelow steps node → StepBelow 800 node
 few_steps steps few (Node.Split step v) below = omega arith
@@ -72,18 +75,26 @@ steps_below b loss c problem good =
     let few : steps ≤ 800 = omega (arith, (root_is_box (frame_of b) 0).each_step, problem.few_items) in
     All-weaker (StepBelow steps) (StepBelow 800) (few_steps steps few) c.nodes.items (good_steps b (root_ranges b) loss c good)
 
+-- a certificate of version 2 has a version
+pub second_version : (c : Certificate) → IsVersion 2 c → HasVersion c
+second_version c is = (omega (arith, is.0), subst (λ (version : ℕ). IsVersion version c) (sym is.0) is)
+
+-- and no floor
+pub second_floor : (c : Certificate) → IsVersion 2 c → c.floor ≡ 0
+second_floor c is = is.2 (omega arith)
+
 -- the text of a certificate whose numbers fit in 64 bits is one that can be read again
-pub is_text_of : (b : Problem) (c : Certificate) → IsProblem b → IsGood b (root_ranges b) c.loss c → IsVersion 2 c → IsNumber (length c.nodes.items) → IsHead (head_of c) → IsTextOf (cert_text c) c
+pub is_text_of : (b : Problem) (c : Certificate) → IsProblem b → IsGood b (root_ranges b) c.loss c → HasVersion c → IsNumber (length c.nodes.items) → IsHead (head_of c) → IsTextOf (cert_text c) c
 is_text_of b c problem good version few head = record {
   tree = (good.tree, good.nodes_are);
-  version = inr version;
+  version = version;
   steps = steps_below b c.loss c problem good;
-  numbers = record { loss = head.loss; bound = head.bound; left = head.left; nodes = few };
+  numbers = record { loss = head.loss; bound = head.bound; left = head.left; floor = head.floor.0; nodes = few };
   text_is = refl;
 }
 
 -- so is that of one that tells of few boxes
-pub is_text : (b : Problem) (c : Certificate) → IsProblem b → IsGood b (root_ranges b) c.loss c → IsVersion 2 c → handled c ≤ most_work → IsHead (head_of c) → IsTextOf (cert_text c) c
+pub is_text : (b : Problem) (c : Certificate) → IsProblem b → IsGood b (root_ranges b) c.loss c → HasVersion c → handled c ≤ most_work → IsHead (head_of c) → IsTextOf (cert_text c) c
 is_text b c problem good version few head =
     let counts = good_counts b (root_ranges b) c.loss c good in let left = good_left b (root_ranges b) c.loss c good in
     is_text_of b c problem good version (omega arith) head
@@ -124,10 +135,19 @@ good_same b loss c d same good = record {
   tree = good.tree;
   nodes_are = sym same.nodes ∙ good.nodes_are;
   loss_is = sym same.loss ∙ good.loss_is;
-  stands = good.stands;
-  left_is = sym same.left ∙ good.left_is;
-  bound_is = sym same.bound ∙ good.bound_is;
+  floor_is = subst (IsFloor b) same.floor good.floor_is;
+  stands = subst (λ (floor : ℕ). Stands b floor loss (root_ranges b) good.tree) same.floor good.stands;
+  left_is = sym same.left ∙ good.left_is ∙ ap (λ (floor : ℕ). length (open_bounds b floor (root_ranges b) good.tree)) same.floor;
+  bound_is = sym same.bound ∙ good.bound_is ∙ ap (λ (floor : ℕ). least_of loss (open_bounds b floor (root_ranges b) good.tree)) same.floor;
 }
+
+-- a floor that was not shown, of a certificate that says the same
+pub not_shown : {b : Problem} (c d : Certificate) (line : ℕ) (why : Why) (answer : Answer) → SaySame c d → IsFloorFault b d line why → answer ≡ refused line why → NotShown c answer
+not_shown c d line why answer same fault is = (
+  fault.found,
+  omega (arith, fault.less, same.floor),
+  is ∙ ap (λ (n : ℕ). refused n why) fault.line_is ∙ ap (refused 1) (fault.why_is ∙ ap (λ (floor : ℕ). Why.WrongFloor floor fault.found) (sym same.floor)),
+)
 
 -- a plan and a right certificate for its loss, where the texts of both can be read again
 pub record CanBeRead (b : Problem) (plan : Option Forest) (c : Certificate) : Type 0 where
@@ -152,15 +172,23 @@ module _ (b : Problem) (plan : Option Forest) (c : Certificate) (can : CanBeRead
   lawful : (other : Forest) → IsPlanIn b (option_map (solution_text b) plan) (Some other) → IsLawful b other
   lawful other said = subst (IsLawfulToo b) (one_plan b (option_map (solution_text b) plan) plan (Some other) can.said said) (lawful_too b c.loss plan can.plan_is)
 
-  not_refused : (answer : Answer) → NotAccepted b (option_map (solution_text b) plan) (cert_text c) answer → ⊥
-  not_refused answer (bad_plan reason refuses told) = plan_not_refused b (option_map (solution_text b) plan) plan reason can.said refuses
-  not_refused answer (bad_certificate other reason said reading told) = no_refusal reason answer reading told
-  not_refused answer (broken_plan other d broken said unlawful first is) = unlawful (lawful other said.plan_is)
-  not_refused answer (bad_tree other d line why said keeps wrong first is) = wrong (right other d said)
+  only_not_shown : (answer : Answer) → NotAccepted b (option_map (solution_text b) plan) (cert_text c) answer → NotShown c answer
+  only_not_shown answer (bad_plan reason refuses told) = absurd (plan_not_refused b (option_map (solution_text b) plan) plan reason can.said refuses)
+  only_not_shown answer (bad_certificate other reason said reading told) = absurd (no_refusal reason answer reading told)
+  only_not_shown answer (broken_plan other d broken said unlawful first is) = absurd (unlawful (lawful other said.plan_is))
+  only_not_shown answer (bad_tree other d line why said keeps wrong first is) =
+      not_shown c d line why answer (same d said.reading) (only_floor b (root_ranges b) (loss_in b other) d line why (right other d said) first wrong) is
 
-  -- `verify` of the texts accepts them
-  pub verified : (answer : Answer) → Verifies b (option_map (solution_text b) plan) (cert_text c) answer → answer ≡ accepted c
-  verified answer h = elim h [
-    | inl v ↦ let says = same v.1 v.2.said.reading in v.3 ∙ cc (says.bound, says.left)
-    | inr refused ↦ absurd (not_refused answer refused)
+  -- `verify` of the texts accepts them, or does not show the floor
+  pub verified_or : (answer : Answer) → Verifies b (option_map (solution_text b) plan) (cert_text c) answer → (answer ≡ accepted c) ⊎ NotShown c answer
+  verified_or answer h = elim h [
+    | inl v ↦ inl (let says = same v.1 v.2.said.reading in v.3 ∙ cc (says.bound, says.left))
+    | inr refused ↦ inr (only_not_shown answer refused)
+  ]
+
+  -- where there is no floor, it accepts them
+  pub verified : c.floor ≡ 0 → (answer : Answer) → Verifies b (option_map (solution_text b) plan) (cert_text c) answer → answer ≡ accepted c
+  verified none answer h = elim (verified_or answer h) [
+    | inl is ↦ is
+    | inr missed ↦ absurd (omega (arith, none, missed.1))
   ]

@@ -7,7 +7,7 @@ use Rattle.cut_model.specs.Loss.{loss_of}
 use Rattle.cut_model.specs.Tree.{Forest}
 use Rattle.cert_log.specs.declared.certificate.Certificate.{Certificate}
 use Rattle.cert_log.specs.declared.history.History.{History}
-use Rattle.cert_log.specs.Good.{IsGood, Reaches}
+use Rattle.cert_log.specs.Good.{HasVersion, IsGood, Reaches}
 use Rattle.cert_log.specs.Lawful.{IsLawful as IsLawfulHistory}
 use Rattle.cert_log.specs.Splits.{AreSearched}
 use Rattle.cert_log.specs.Texts.{cert_text}
@@ -31,6 +31,7 @@ pub record IsResumed (b : Problem) (budget : ℕ) (plan : Option Forest) (c j : 
   pub joined : IsJoined named parts j.loss j
   -- it is right for the box of all plans and for the loss of the best plan, which is no greater than that of the plan
   pub good : IsGood b (root_ranges b) j.loss j
+  pub version : HasVersion j
   pub plan_is : HasLoss b j.loss best
   pub no_worse : IsAtMost j.loss (loss_in b plan)
   -- every lawful plan loses at least its bound; where there is no bound, there is no lawful plan

@@ -4,7 +4,7 @@ ghost use Rattle.std.specs.Prelude.{◌≡◌, ◌+◌, ◌*◌, ◌<◌, ◌≤
 ghost use Rattle.cut_model.specs.Fits.{Fits};
 ghost use Rattle.cut_model.specs.Lawful.{IsLawful};
 ghost use Rattle.cut_model.specs.Tree.{count, neighbour_count, tree};
-ghost use Rattle.cert_log.specs.Good.{IsVersion};
+ghost use Rattle.cert_log.specs.Good.{HasVersion};
 ghost use Rattle.cert_log.specs.Outcomes.{IsHead};
 ghost use Rattle.cert_log.specs.Texts.{head_of};
 ghost use Rattle.plan_csv.specs.PlanTexts.{plan_said};
@@ -98,7 +98,7 @@ fn outputs_of(
     certificate: &Certificate,
     whole: &Plan,
 ) -> Result<Run<Output>, Memory>
-    requires version { IsVersion 2 certificate.now }
+    requires version { HasVersion certificate.now }
     requires fits { Fits (tree whole.now) }
     ensures { IfOk result (λ outputs. (name : Product → List ℕ) → map (store_in name) outputs.items ≡ (frozen_planned instance.now (name Product.Plan) (name Product.Certificate) 0 certificate.now (tree whole.now)).stores) }
 {
@@ -130,7 +130,7 @@ fn reply_with_whole(
     whole: &Plan,
     more: u64,
 ) -> Result<Reply, Memory>
-    requires version { IsVersion 2 certificate.now }
+    requires version { HasVersion certificate.now }
     requires fits { Fits (tree whole.now) }
     requires loss { IfSome certificate.now.loss (λ n. more + n < 2 ^ 64) }
     requires bound { IfSome certificate.now.bound (λ n. more + n < 2 ^ 64) }

@@ -4,7 +4,7 @@ ghost use Rattle.std.specs.Prelude.{◌≡◌, ◌≤◌, ◌*◌, ◌++◌, ◌
 ghost use Rattle.cut_model.specs.Tree.{count, neighbour_count, tree};
 ghost use Rattle.plan_box.specs.Frames.{frame_of};
 ghost use Rattle.plan_box.specs.Ranges.{PlainBox};
-ghost use Rattle.cert_log.specs.Good.{IsVersion};
+ghost use Rattle.cert_log.specs.Good.{HasVersion};
 ghost use Rattle.cert_log.specs.Lawful.{IsBest, IsLawful, loss_of as known_loss, numbered};
 ghost use Rattle.cert_log.specs.Outcomes.{IsHead};
 ghost use Rattle.cert_log.specs.Texts.{cert_text, head_of};
@@ -412,7 +412,7 @@ pub(crate) fn reply_with_text(
 
 /// The reply that stores and tells what a search found.
 fn reply_with_found(alloc: Global, instance: &Instance, found: &Found) -> Result<Reply, Memory>
-    requires version { IsVersion 2 found.now.certificate }
+    requires version { HasVersion found.now.certificate }
     requires fits { FitsToo found.now.plan }
     ensures { IfOk result (λ r. (name : Product → List ℕ) → answer_in name r ≡ planned instance.now (name Product.Plan) (name Product.Certificate) found.now.certificate (option_map tree found.now.plan) (losses_in found.now.improvements)) }
 {

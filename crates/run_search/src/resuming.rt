@@ -5,7 +5,7 @@ ghost use Rattle.glass_base.specs.declared.role.Role.TheVariants as role;
 ghost use Rattle.cut_model.specs.Tree.{tree};
 ghost use Rattle.plan_box.specs.Frames.{frame_of};
 ghost use Rattle.plan_box.specs.Ranges.{PlainBox};
-ghost use Rattle.cert_log.specs.Good.{IsGood, IsVersion};
+ghost use Rattle.cert_log.specs.Good.{HasVersion, IsGood};
 ghost use Rattle.cert_log.specs.Lawful.{IsLawful, numbered};
 ghost use Rattle.cert_log.specs.Texts.{cert_text};
 ghost use Rattle.cert_resume.specs.Joins.{IsAtMost};
@@ -113,11 +113,12 @@ fn go_on<R: Threads + Wait + Sync, G: Gate + Sync>(
     requires fits { FitsToo checked.now.plan }
     requires lawful { IsLawfulToo instance.now (option_map tree checked.now.plan) }
     requires good { IsGood instance.now (root_ranges instance.now) (loss_in instance.now (option_map tree checked.now.plan)) checked.now.certificate }
+    requires version { HasVersion checked.now.certificate }
     requires few { checked.now.certificate.left ≤ 160000000 }
     requires workers { (1 ≤ workers) × (workers ≤ 8) }
     requires budget { (1 ≤ budget) × (budget ≤ 10000000) }
     ensures resumed { IfOk result (λ found. IsResumed instance.now budget (option_map tree checked.now.plan) checked.now.certificate found.certificate (option_map tree found.plan)) }
-    ensures version { IfOk result (λ found. IsVersion 2 found.certificate) }
+    ensures version { IfOk result (λ found. HasVersion found.certificate) }
     ensures fits { IfOk result (λ found. FitsToo found.plan) }
     ensures unwatched { IfOk result (λ found. found.improvements ≡ None) }
 {
@@ -143,7 +144,7 @@ fn go_on<R: Threads + Wait + Sync, G: Gate + Sync>(
 
 /// The reply that stores and tells what a search found, or a refusal where the text of the certificate is longer than one that is read.
 fn reply_if_readable(alloc: Global, instance: &Instance, found: &Found) -> Result<Reply, Memory>
-    requires version { IsVersion 2 found.now.certificate }
+    requires version { HasVersion found.now.certificate }
     requires fits { FitsToo found.now.plan }
     requires unwatched { found.now.improvements ≡ None }
     ensures { IfOk result (λ r. (name : Product → List ℕ) → answer_in name r ≡ (if nat_le (length (cert_text found.now.certificate)) (limit_of role.Cert) then planned instance.now (name Product.Plan) (name Product.Certificate) found.now.certificate (option_map tree found.now.plan) None else too_long_to_read found.now.certificate)) }
@@ -174,6 +175,7 @@ fn resume_within<R: Threads + Wait + Sync, G: Gate + Sync>(
     requires fits { FitsToo checked.now.plan }
     requires lawful { IsLawfulToo instance.now (option_map tree checked.now.plan) }
     requires good { IsGood instance.now (root_ranges instance.now) (loss_in instance.now (option_map tree checked.now.plan)) checked.now.certificate }
+    requires version { HasVersion checked.now.certificate }
     requires workers { (1 ≤ workers) × (workers ≤ 8) }
     requires budget { (1 ≤ budget) × (budget ≤ 10000000) }
     ensures { IfOk result (λ r. (name : Product → List ℕ) → GoesOnWithin instance.now budget (option_map tree checked.now.plan) checked.now.certificate (name Product.Plan) (name Product.Certificate) (answer_in name r)) }

@@ -40,7 +40,7 @@ fn answer(
 }
 
 /// The texts, each with the answer that is right.
-const TEXTS: [(&str, Result<Verdict, BadCert>); 15] = [
+const TEXTS: [(&str, Result<Verdict, BadCert>); 20] = [
     (
         "glasscert;1;813000;870;2\nS;0;t\nO\nO\n",
         Ok(Verdict::Accept {
@@ -122,6 +122,35 @@ const TEXTS: [(&str, Result<Verdict, BadCert>); 15] = [
     ),
     ("glasscert;2;813000;813000;0\nC;8\n", Err(BadCert::Line(2))),
     ("glasscert;3;813000;813000;0\nC;b\n", Err(BadCert::Head)),
+    (
+        "glasscert;3;813000;813000;0;813000\nC;f\n",
+        Ok(Verdict::Accept {
+            bound: Some(813_000),
+            left: 0,
+        }),
+    ),
+    (
+        "glasscert;3;813000;813000;0;813001\nC;f\n",
+        Ok(Verdict::Refuse {
+            line: 1,
+            why: Why::WrongFloor(813_001, 813_000),
+        }),
+    ),
+    (
+        "glasscert;3;813000;813000;0;812999\nC;f\n",
+        Ok(Verdict::Refuse {
+            line: 2,
+            why: Why::NotClosed(812_999, Some(813_000)),
+        }),
+    ),
+    (
+        "glasscert;3;813000;870;2;5000\nS;0;t\nO;2\n",
+        Ok(Verdict::Refuse {
+            line: 1,
+            why: Why::WrongBound(Some(870), Some(5_000)),
+        }),
+    ),
+    ("glasscert;2;813000;813000;0\nC;f\n", Err(BadCert::Line(2))),
 ];
 
 /// The number of texts that are answered as they should be.
@@ -139,6 +168,6 @@ fn right_answers(alloc: Global, instance: &Instance) -> Result<usize, Memory> {
 #[test]
 fn certificates_are_read_and_checked(rt: HostRuntime) -> Result<(), Fail> {
     let instance = instance(rt.alloc())?;
-    assert_eq!(rt; right_answers(rt.alloc(), &instance)?, 15, "certificates");
+    assert_eq!(rt; right_answers(rt.alloc(), &instance)?, 20, "certificates");
     Ok(())
 }

@@ -1,11 +1,11 @@
 -- A walk over the nodes of a certificate.
-use Rattle.std.specs.Prelude.{◌≡◌, ℕ, ◌+◌, List, [], ◌∷◌, ◌++◌, length, map, take, drop, fold, cond, Bool, false, ◌&&◌, not, ◌==◌, Option, All, IsTrue, ◌≤◌, ◌≢◌, ◌⊎◌}
+use Rattle.std.specs.Prelude.{◌≡◌, ℕ, ◌+◌, List, [], ◌∷◌, ◌++◌, length, map, take, drop, fold, cond, Bool, false, ◌&&◌, not, ◌==◌, Option, Some, None, All, IsTrue, ◌≤◌, ◌≢◌, ◌⊎◌}
 use Rattle.glass_base.specs.Problem.{Problem}
 use Rattle.plan_box.specs.Ranges.{Ranges}
 use Rattle.plan_box.specs.Decisions.{is_free}
 use Rattle.cert_log.specs.declared.certificate.Certificate.{Certificate}
 use Rattle.cert_log.specs.declared.certificate.Node.{Node}
-use Rattle.cert_log.specs.Good.{lesser, least_of}
+use Rattle.cert_log.specs.Good.{lesser, least_of, IsFloor}
 use Rattle.cert_log.specs.Texts.{lines_of}
 use Rattle.cert_log.specs.Trees.{is_left}
 use Rattle.cert_check.specs.declared.verdict.Verdict.{Verdict}
@@ -15,7 +15,7 @@ use Rattle.cert_check.specs.declared.walk.Walked.{Walked}
 use Rattle.cert_check.specs.declared.walk.Place.{Place}
 use Rattle.plan_box.specs.Halves.{lower_half, upper_half, half_at}
 use Rattle.cert_check.specs.Visits.{Visit, Passes, visit_bounds, node_bounds}
-use Rattle.cert_check.specs.Faults.{IsNodeFault}
+use Rattle.cert_check.specs.Faults.{IsFloorFault, IsNodeFault}
 
 -- the boxes that wait behind a node: its halves come first
 abbrev pub boxes_after : Node → List Ranges → List (List Ranges) → List (List Ranges)
@@ -52,9 +52,9 @@ pub record Reads (version : ℕ) (n : Node) (old new : Place) : Type 0 where
   pub few : new.line ≤ old.line + 1
 
 -- what is counted behind one more node at its box
-pub record Counts (b : Problem) (n : Node) (rs : List Ranges) (old new : Tally) : Type 0 where
-  pub least : new.least ≡ fold lesser old.least (node_bounds b rs n)
-  pub left : new.left ≡ old.left + length (node_bounds b rs n)
+pub record Counts (b : Problem) (floor : ℕ) (n : Node) (rs : List Ranges) (old new : Tally) : Type 0 where
+  pub least : new.least ≡ fold lesser old.least (node_bounds b floor rs n)
+  pub left : new.left ≡ old.left + length (node_bounds b floor rs n)
   pub few : new.left ≤ old.left + 1
 
 -- the first nodes are walked, each at the box of its visit, and these boxes wait
@@ -66,23 +66,28 @@ pub record HasCome (root : List Ranges) (nodes : List Node) (k : ℕ) (boxes : L
 pub record IsWalking (b : Problem) (root : List Ranges) (loss : Option ℕ) (c : Certificate) (k : ℕ) (boxes : List (List Ranges)) (place : Place) (tally : Tally) : Type 0 where
   pub done : List Visit
   pub come : HasCome root c.nodes.items k boxes done
-  pub passed : All (Passes b loss) done
-  pub least : tally.least ≡ least_of loss (visit_bounds b done)
-  pub left : tally.left ≡ length (visit_bounds b done)
+  pub passed : All (Passes b c.floor loss) done
+  pub least : tally.least ≡ least_of loss (visit_bounds b c.floor done)
+  pub left : tally.left ≡ length (visit_bounds b c.floor done)
   pub line : place.line ≡ 1 + length (lines_of c.version (take k c.nodes.items))
   pub after_open : place.after_open ≡ ends_open (take k c.nodes.items)
 
 -- what a walk from this box finds
 abbrev pub Finds : Problem → List Ranges → Option ℕ → Certificate → Walked → Type 0
 Finds b root loss c (Walked.Whole tally) =
-    All (Passes b loss) (visits_from (root ∷ []) c.nodes.items)
-    × (tally.least ≡ least_of loss (visit_bounds b (visits_from (root ∷ []) c.nodes.items)))
-    × (tally.left ≡ length (visit_bounds b (visits_from (root ∷ []) c.nodes.items)))
+    All (Passes b c.floor loss) (visits_from (root ∷ []) c.nodes.items)
+    × (tally.least ≡ least_of loss (visit_bounds b c.floor (visits_from (root ∷ []) c.nodes.items)))
+    × (tally.left ≡ length (visit_bounds b c.floor (visits_from (root ∷ []) c.nodes.items)))
 Finds b root loss c (Walked.Fault line why) = IsNodeFault b loss c (visits_from (root ∷ []) c.nodes.items) line why
 
--- what is answered by what was counted
-abbrev pub Closes : Certificate → Tally → Verdict → Type 0
-Closes c tally (Verdict.Accept bound left) = (c.left ≡ tally.left) × (c.bound ≡ tally.least) × (bound ≡ c.bound) × (left ≡ c.left)
-Closes c tally (Verdict.Refuse line why) =
-    ((c.left ≢ tally.left) × (line ≡ 1) × (why ≡ Why.WrongOpen c.left tally.left))
-    ⊎ ((c.left ≡ tally.left) × (c.bound ≢ tally.least) × (line ≡ 1) × (why ≡ Why.WrongBound c.bound tally.least))
+-- what is said of what was counted
+abbrev pub Closes : Certificate → Tally → Option Why → Type 0
+Closes c tally None = (c.left ≡ tally.left) × (c.bound ≡ tally.least)
+Closes c tally (Some why) =
+    ((c.left ≢ tally.left) × (why ≡ Why.WrongOpen c.left tally.left))
+    ⊎ ((c.left ≡ tally.left) × (c.bound ≢ tally.least) × (why ≡ Why.WrongBound c.bound tally.least))
+
+-- what is answered to a floor, where all else is right
+abbrev pub JudgesFloor : Problem → Certificate → Verdict → Type 0
+JudgesFloor b c (Verdict.Accept bound left) = IsFloor b c.floor × (bound ≡ c.bound) × (left ≡ c.left)
+JudgesFloor b c (Verdict.Refuse line why) = IsFloorFault b c line why

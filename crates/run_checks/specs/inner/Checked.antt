@@ -13,7 +13,7 @@ use Rattle.cert_log.specs.Good.{IsGood}
 use Rattle.cert_log.specs.Outcomes.{IsReading}
 use Rattle.cert_log.specs.Texts.{loss_text}
 use Rattle.cert_check.specs.declared.verdict.Why.{Why}
-use Rattle.cert_check.specs.Faults.{IsFirstFault}
+use Rattle.cert_check.specs.Faults.{IsFirstFault, SaysWrong}
 use Rattle.run_frame.specs.Answers.{Answer}
 use Rattle.run_checks.specs.Checks.{CertRefused, IsAccepted, RefusesPlan, refused, root_ranges}
 use Rattle.run_checks.specs.FrozenChecks.{IsAcceptedBehind, all_frozen, loss_behind}
@@ -34,7 +34,7 @@ IsUnlawful b (Some plan) answer = (broken : Broken) × ¬ IsLawful b plan × IsF
 
 -- the answer to a certificate that is not right
 abbrev pub IsWrong : Problem → Option ℕ → Certificate → Answer → Type 0
-IsWrong b loss c answer = (line : ℕ) × (why : Why) × ¬ IsGood b (root_ranges b) loss c × IsFirstFault b (root_ranges b) loss c line why × (answer ≡ refused line why)
+IsWrong b loss c answer = (line : ℕ) × (why : Why) × SaysWrong b (root_ranges b) loss c why × IsFirstFault b (root_ranges b) loss c line why × (answer ≡ refused line why)
 
 -- the certificate is accepted with the plan that the text says, or without one
 abbrev pub IsAcceptedFor : Problem → Option (List ℕ) → List ℕ → Certificate → Type 0

@@ -53,7 +53,7 @@ pub loop-node-preserved : goal.loop-node-preserved
 loop-node-preserved c =
     let k = (goal.at.loop-node-preserved c).In-loop-node in
     let n : Node = get_or c.as_slice-node-items.result.now c.loop-node.node-index no_node in
-    let passes : NodePasses c.args.instance.now c.args.loss (top c.loop-node.path.boxes) n = search rules in
+    let passes : NodePasses c.args.instance.now c.args.cert.now.floor c.args.loss (top c.loop-node.path.boxes) n = search rules in
     record {
       walking = walks c.args.instance.now _ c.args.loss c.args.cert.now c.loop-node.node-index _ _ _ _ _ _ no_node n c.loop-node.invariant.walking (within k) (node_is k) (waits_next k)
           passes c.read.ensures c.count.ensures.counts c.in_ok-pass.ensures.boxes;
@@ -68,7 +68,7 @@ returns c =
     let w = c.loop-node.invariant.walking in
     let e = all_done _ c.args.cert.now.nodes.items c.loop-node.node-index _ w.done w.come
     (let e = ap (λ (ns : List Node). length ns) c.as_slice-node-items.ensures in let t = c.loop-node-test.false in omega arith) in (
-      subst (λ (xs : List Visit). All (Passes c.args.instance.now c.args.loss) xs) (sym e) w.passed,
-      w.least ∙ ap (λ (xs : List Visit). least_of c.args.loss (visit_bounds c.args.instance.now xs)) (sym e),
-      w.left ∙ ap (λ (xs : List Visit). length (visit_bounds c.args.instance.now xs)) (sym e),
+      subst (λ (xs : List Visit). All (Passes c.args.instance.now c.args.cert.now.floor c.args.loss) xs) (sym e) w.passed,
+      w.least ∙ ap (λ (xs : List Visit). least_of c.args.loss (visit_bounds c.args.instance.now c.args.cert.now.floor xs)) (sym e),
+      w.left ∙ ap (λ (xs : List Visit). length (visit_bounds c.args.instance.now c.args.cert.now.floor xs)) (sym e),
     )

@@ -17,4 +17,4 @@ loop-next-smaller c =
 pub returns-clause-made : goal.returns-clause-made
 returns-clause-made c =
     let g = subst (λ (ws : List ℕ). IsGrowing c.args.history.now c.args.id ws c.loop-next.growth.nodes.items c.loop-next.growth.bound) (c.in_default.ensures.empty.0 refl) c.loop-next.invariant in
-    subst (IsMade c.args.history.now c.args.id) (sym c.with_nodes.ensures.made) (made c.args.history.now c.args.id _ g refl c.best_loss-loss.ensures refl)
+    subst (IsMade c.args.history.now c.args.id) (sym c.with_nodes.ensures.made) (made c.args.history.now c.args.id _ g refl c.best_loss-loss.ensures refl refl)

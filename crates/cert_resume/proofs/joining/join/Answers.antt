@@ -1,19 +1,20 @@
-use Rattle.std.proofs.Common.{◌≡◌, ◌+◌, List, ℕ, Option, refl, ap, ◌∙◌, sym, subst, fold, length}
+use Rattle.std.proofs.Common.{◌≡◌, ◌+◌, ◌≤◌, List, ℕ, Option, map, refl, ap, ◌∙◌, sym, subst, fold, length}
 use Rattle.std.specs.Prelude.{All, sum_by}
 use Rattle.cert_log.specs.declared.certificate.Certificate.{Certificate}
 use Rattle.cert_log.specs.declared.certificate.Node.{Node}
 use Rattle.cert_log.specs.Good.{IsVersion}
 use Rattle.cert_log.specs.Trees.{FitsVersion}
-use Rattle.cert_resume.specs.Joins.{IsJoined, bounds_of, filled, lesser_of, nodes_in}
-use Rattle.cert_resume.proofs.Filling.{fills_count, fills_version}
+use Rattle.cert_resume.specs.Joins.{IsJoined, bounds_of, filled, lesser_of, nodes_in, raised}
+use Rattle.cert_resume.proofs.Filling.{fills_count, fills_version, no_floors}
 use Rattle.cert_resume.proofs.Grown.{keeps_right}
 use Rattle.cert_resume.proofs.joining.join.Goals as goal
 
 -- what is made of these nodes is what the certificate and the parts are joined to
-joined : (c : Certificate) (parts : List Certificate) (loss : Option ℕ) (j : Certificate) → IsVersion 2 c → All (IsVersion 2) parts → j.version ≡ 2 → j.nodes.items ≡ filled c.nodes.items (nodes_in parts)
-    → j.loss ≡ loss → j.left ≡ sum_by (λ (p : Certificate). p.left) parts → j.bound ≡ fold lesser_of loss (bounds_of parts) → IsJoined c parts loss j
-joined c parts loss j version versions is nodes loss_is left bound = record {
-  version = (is, subst (λ (ns : List Node). All (FitsVersion 2) ns) (sym nodes) (fills_version c parts version versions));
+joined : (c : Certificate) (parts : List Certificate) (loss : Option ℕ) (j : Certificate) → IsVersion c.version c → 2 ≤ c.version → All (IsVersion 2) parts → j.version ≡ c.version → j.nodes.items ≡ filled c.nodes.items (nodes_in parts)
+    → j.loss ≡ loss → j.left ≡ sum_by (λ (p : Certificate). p.left) parts → j.floor ≡ c.floor → j.bound ≡ fold lesser_of loss (map (raised c.floor) (bounds_of parts)) → IsJoined c parts loss j
+joined c parts loss j version later versions is nodes loss_is left floor bound = record {
+  version = (is, subst (All (FitsVersion c.version)) (sym nodes) (fills_version c parts later version versions), λ low. floor ∙ version.2 low);
+  floor_is = floor;
   nodes_are = nodes;
   loss_is = loss_is;
   left_is = left;
@@ -22,18 +23,20 @@ joined c parts loss j version versions is nodes loss_is left bound = record {
 
 pub returns-clause-joined : goal.returns-clause-joined
 returns-clause-joined c =
-    joined c.args.cert.now c.args.parts.items c.args.loss _ c.requires.version c.requires.versions refl
+    joined c.args.cert.now c.args.parts.items c.args.loss _ c.requires.version.1 c.requires.later c.requires.versions refl
     (c.in_ok-nodes.ensures ∙ rw (c.as_slice.ensures, c.as_slice-2.ensures) refl) refl
     (c.all_left.ensures ∙ ap (λ (ps : List Certificate). sum_by (λ (p : Certificate). p.left) ps) c.as_slice-4.ensures)
-    (c.least_bound.ensures ∙ ap (λ (ps : List Certificate). fold lesser_of c.args.loss (bounds_of ps)) c.as_slice-3.ensures)
+    refl
+    (c.least_bound.ensures ∙ ap (λ (ps : List Certificate). fold lesser_of c.args.loss (map (raised c.args.cert.now.floor) (bounds_of ps))) c.as_slice-3.ensures)
 
 pub returns-clause-right : goal.returns-clause-right
 returns-clause-right c =
-    keeps_right c.args.cert.now c.args.parts.items c.args.loss _
-    (joined c.args.cert.now c.args.parts.items c.args.loss _ c.requires.version c.requires.versions refl
+    keeps_right c.args.cert.now c.args.parts.items c.args.loss _ (no_floors c.args.cert.now.floor c.args.parts.items c.requires.versions)
+    (joined c.args.cert.now c.args.parts.items c.args.loss _ c.requires.version.1 c.requires.later c.requires.versions refl
     (c.in_ok-nodes.ensures ∙ rw (c.as_slice.ensures, c.as_slice-2.ensures) refl) refl
     (c.all_left.ensures ∙ ap (λ (ps : List Certificate). sum_by (λ (p : Certificate). p.left) ps) c.as_slice-4.ensures)
-    (c.least_bound.ensures ∙ ap (λ (ps : List Certificate). fold lesser_of c.args.loss (bounds_of ps)) c.as_slice-3.ensures))
+    refl
+    (c.least_bound.ensures ∙ ap (λ (ps : List Certificate). fold lesser_of c.args.loss (map (raised c.args.cert.now.floor) (bounds_of ps))) c.as_slice-3.ensures))
 
 pub returns-clause-nodes : goal.returns-clause-nodes
 returns-clause-nodes c =

@@ -35,7 +35,7 @@ returns-clause-resumed g c =
     resumed b c.args.budget (first_loss b first) (option_map tree c.args.checked.now.plan) c.args.checked.now.certificate c.in_ok-named.named c.in_ok-history.history c.in_ok-parts.parts.items
     c.in_ok-certificate.certificate (option_map tree c.in_ok-plan.plan) c.items-items.ensures.rules c.requires.good
     (searched_on b c.args.budget (first_loss b first) c.args.checked.now.certificate c.in_ok-named.named c.in_ok-history.history c.in_ok-boxes.boxes.items c.in_ok-parts.parts.items c.best_loss.result
-    c.in_ok-certificate.certificate (record { reasoned = c.in_ok-named.ensures.reasoned; good = c.in_ok-named.ensures.good })
+    c.in_ok-certificate.certificate (record { reasoned = c.in_ok-named.ensures.reasoned; good = c.in_ok-named.ensures.good }) c.in_ok-named.ensures.version
     (c.in_ok-boxes.ensures.boxes c.in_ok-named.ensures.good.tree c.in_ok-named.ensures.good.nodes_are) c.best_loss.ensures c.in_ok-history.ensures
     (c.in_ok-parts.ensures.good s c.in_ok-history.ensures) (c.in_ok-parts.ensures.searched s c.in_ok-history.ensures) c.in_ok-parts.ensures.nodes c.in_ok-parts.ensures.left
     j.joined j.right j.nodes j.head j.number)

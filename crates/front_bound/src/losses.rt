@@ -1,0 +1,51 @@
+//! Losses that no lawful plan is below.
+
+ghost use Rattle.std.specs.Prelude.{◌≡◌, ◌*◌, ◌-◌, ◌≤◌, IfOk};
+ghost use Rattle.glass_base.specs.Items.{area_of};
+ghost use Rattle.cut_model.specs.Lawful.{IsLawful};
+ghost use Rattle.cut_model.specs.Loss.{loss_of};
+ghost use Rattle.cut_model.specs.Tree.{Forest};
+
+use crate::bounds::longest_shown;
+use glass_base::{Instance, Memory};
+use std::alloc::Global;
+
+/// How many labels are looked at in one search; there may be a front for each 10,000 of them. It bounds time, to minutes, and memory, to some gigabytes.
+pub const LABELS: u64 = 1_000_000_000;
+
+/// Longer than every plan, in mm.
+const LONGEST: u64 = 5_000_000_000;
+
+/// The loss of a plan of this length, in mm².
+#[tactic(auto, using(plan_box::proofs::LeastLengths::height_times))]
+fn loss_of_length(instance: &Instance, length: u64) -> u64
+    requires { length ≤ 5000000000 }
+    ensures { result ≡ instance.now.params.height * length - area_of instance.now.items }
+{
+    (u64::from(instance.params().height) * length).saturating_sub(instance.area())
+}
+
+/// The least length of which a plan loses at least this, or `LONGEST` where that is less: a guess.
+fn length_of_loss(instance: &Instance, loss: u64) -> u64
+    ensures { result ≤ 5000000000 }
+{
+    let glass = loss.saturating_add(instance.area());
+    let length = glass.div_ceil(u64::from(instance.params().height));
+    length.min(LONGEST)
+}
+
+/// The greatest loss up to this one, in mm², of which fronts show that no lawful plan is below it. Where there are too many fronts or labels (`LABELS`), it is what was shown before,
+/// or 0, which says nothing.
+///
+/// Only want of memory is refused.
+pub fn floor_up_to(alloc: Global, instance: &Instance, loss: u64) -> Result<u64, Memory>
+    ensures shown { IfOk result (λ floor. (plan : Forest) → IsLawful instance.now plan → floor ≤ loss_of instance.now plan) }
+    ensures most { IfOk result (λ floor. floor ≤ loss) }
+{
+    if loss == 0 {
+        return Ok(0);
+    }
+    let most = length_of_loss(instance, loss);
+    let length = longest_shown(alloc, instance, most, LABELS)?;
+    Ok(loss_of_length(instance, length).min(loss))
+}
