@@ -14,6 +14,7 @@ use Rattle.cert_log.specs.declared.history.Note.{Note}
 use Rattle.cert_log.specs.declared.history.Left.{Left}
 use Rattle.cert_log.specs.declared.history.History.{History}
 use Rattle.cert_log.specs.Levels.{level, levels_upto}
+use Rattle.cert_log.specs.Good.{IsFloor}
 use Rattle.cert_log.specs.Lawful.{Course, times, once_below, IsLawful, Handled}
 use Rattle.cert_log.proofs.Members.{same_by_key}
 use Rattle.box_levels.specs.Events.{Event, note_of, all_boxes, tickets_of, AreKept, AreOfLevels}
@@ -78,7 +79,7 @@ module _ (b : Problem) (c : Course) (h : History) (es : List Event) (spent : Lis
       let g = all_sum (λ (y : PlainBox). f y.id) es lefts in let m = sum_map (λ (l : Left). l.bx) (λ (y : PlainBox). f y.id) h.left.items in omega arith
 
   abbrev with_log : List Note → History
-  with_log ns = record { starts = h.starts; log = record { items = ns; spare = h.log.spare }; left = h.left; plan = h.plan; best = h.best }
+  with_log ns = record { starts = h.starts; log = record { items = ns; spare = h.log.spare }; left = h.left; plan = h.plan; best = h.best; floor = h.floor }
 
   long : length (map note_of es) ≡ length es
   long = length-map es note_of
@@ -101,11 +102,14 @@ module _ (b : Problem) (c : Course) (h : History) (es : List Event) (spent : Lis
     handled = λ n x m at_x at_m same. (
         let f = found_by note_of es m at_m in let e = f.0 in
         let is : e.box ≡ x = same_id e.box x (body_in e f.1) (levels.among n x at_x) (ap (λ (z : Note). z.id) f.2 ∙ same) in
-        subst (λ (a : Act). Handled b c.first h.best x.ranges a) (ap (λ (z : Note). z.act) f.2) (subst (λ (y : PlainBox). Handled b c.first h.best y.ranges e.act) is (r.right e f.1).right));
+        subst (λ (a : Act). Handled b h.floor c.first h.best x.ranges a) (ap (λ (z : Note). z.act) f.2)
+        (subst (λ (y : PlainBox). Handled b h.floor c.first h.best y.ranges e.act) is (subst (λ (n : ℕ). Handled b n c.first h.best e.box.ranges e.act) (sym r.floor_is) (r.right e f.1).right)));
     left_is = λ n x l at_x at_l same. same_id l.bx x (left_in l at_l) (levels.among n x at_x) same;
     bounds = λ l at. All-contains (λ (z : Left). z.bound ≡ bound b z.bx.ranges) h.left.items l r.bounds at;
     best_is = r.plan;
     best_first = r.best;
+    floor_is = r.floor_is;
+    least_is = subst (IsFloor b) (sym r.floor_is) r.least_is;
     spent = λ some. (long ∙ sym count ∙ drawn.all (λ none. some (r.emptied none)));
   }
 

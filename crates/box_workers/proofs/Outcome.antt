@@ -4,6 +4,7 @@ use Rattle.std.specs.Prelude.{sum_by, Option, Some, None}
 use Rattle.std.specs.List.{Contains}
 use Rattle.std.proofs.lemmas.List.{length-map}
 use Rattle.std.proofs.lemmas.Nat.{mul-le}
+use Rattle.std.proofs.lemmas.Bool.{lt-ltb}
 use Rattle.std.proofs.lemmas.Bool.Decides.{nat_tests}
 use Rattle.glass_base.specs.Plates.{Before}
 use Rattle.glass_base.specs.Problem.{Problem, IsProblem}
@@ -20,7 +21,7 @@ use Rattle.cert_log.specs.declared.history.Cause.{Cause}
 use Rattle.cert_log.specs.declared.history.Left.{Left}
 use Rattle.cert_log.specs.declared.history.Note.{Note}
 use Rattle.cert_log.specs.declared.history.History.{History}
-use Rattle.cert_log.specs.Good.{Reaches}
+use Rattle.cert_log.specs.Good.{IsFloor, Reaches}
 use Rattle.cert_log.specs.Lawful.{no_loss, loss_of, numbered, once_below, IsBest, IsLawful, Handled}
 use Rattle.box_levels.specs.Events.{Event, note_of, tickets_of, SplitsFree}
 use Rattle.box_levels.proofs.Counts.{sum_map}
@@ -73,35 +74,40 @@ reaches threshold n low small = by_test (nat_lt threshold no_loss) refl
     by_test true q = low
     by_test false q = absurd (let l = of_false threshold no_loss q in omega arith)
 
-splits_free : (b : Problem) (rs : List Ranges) (seen loss : ℕ) (a : Act) → IsAct b rs seen loss a → SplitsFree rs a
-splits_free b rs seen loss (Act.Split step v) is = is.2
-splits_free b rs seen loss (Act.Closed cause threshold) is = tt
+-- a floor reaches a loss that is known
+reaches_known : (threshold floor : ℕ) → threshold ≤ floor → threshold < no_loss → Reaches (loss_of threshold) floor
+reaches_known threshold floor le known = subst (λ (t : Bool). Reaches (cond t (Some threshold) None) floor) (sym (lt-ltb threshold no_loss known)) le
+
+splits_free : (b : Problem) (floor : ℕ) (rs : List Ranges) (seen loss : ℕ) (a : Act) → IsAct b floor rs seen loss a → SplitsFree rs a
+splits_free b floor rs seen loss (Act.Split step v) is = is.2
+splits_free b floor rs seen loss (Act.Closed cause threshold) is = tt
 
 -- what was done with a box is right, where what was seen and the hand's loss are no less than the best loss at last
-right_of : (b : Problem) (first best seen loss : ℕ) (rs : List Ranges) (a : Act) → IsProblem b → best ≤ seen → best ≤ loss → seen ≤ first → IsAct b rs seen loss a → Handled b first best rs a
-right_of b first best seen loss rs (Act.Split step v) rules low_seen low_loss top is = (is.0, (let l = is.1 in omega arith), is.2)
-right_of b first best seen loss rs (Act.Closed (Cause.Reason r) threshold) rules low_seen low_loss top is = (is.1, (let t = is.0 in omega arith), (let t = is.0 in omega arith))
-right_of b first best seen loss rs (Act.Closed Cause.Bound threshold) rules low_seen low_loss top is =
+right_of : (b : Problem) (floor first best seen loss : ℕ) (rs : List Ranges) (a : Act) → IsProblem b → best ≤ seen → best ≤ loss → seen ≤ first → IsAct b floor rs seen loss a → Handled b floor first best rs a
+right_of b floor first best seen loss rs (Act.Split step v) rules low_seen low_loss top is = (is.0, (let l = is.1 in omega arith), is.2)
+right_of b floor first best seen loss rs (Act.Closed (Cause.Reason r) threshold) rules low_seen low_loss top is = (is.1, (let t = is.0 in omega arith), (let t = is.0 in omega arith))
+right_of b floor first best seen loss rs (Act.Closed Cause.Bound threshold) rules low_seen low_loss top is =
     ((is.1, reaches threshold (bound b rs) is.2 (bound_small b rs rules is.1)), (let t = is.0 in omega arith), (let t = is.0 in omega arith))
-right_of b first best seen loss rs (Act.Closed Cause.Floor threshold) rules low_seen low_loss top is = absurd is
-right_of b first best seen loss rs (Act.Closed Cause.Unsaid threshold) rules low_seen low_loss top is = absurd is
+right_of b floor first best seen loss rs (Act.Closed Cause.Floor threshold) rules low_seen low_loss top is =
+    ((is.2, reaches_known threshold floor is.3 is.4), (let t = is.0 in omega arith), (let t = is.0 in omega arith))
+right_of b floor first best seen loss rs (Act.Closed Cause.Unsaid threshold) rules low_seen low_loss top is = absurd is
 
 -- the threshold of a closed box is at most what was seen, and the bound of one that was split is below it
-act_within : (b : Problem) (rs : List Ranges) (seen loss : ℕ) (a : Act) → IsAct b rs seen loss a → Within b rs seen a
-act_within b rs seen loss (Act.Split step v) is = let l = is.1 in omega arith
-act_within b rs seen loss (Act.Closed (Cause.Reason r) threshold) is = let t = is.0 in omega arith
-act_within b rs seen loss (Act.Closed Cause.Bound threshold) is = let t = is.0 in omega arith
-act_within b rs seen loss (Act.Closed Cause.Floor threshold) is = absurd is
-act_within b rs seen loss (Act.Closed Cause.Unsaid threshold) is = absurd is
+act_within : (b : Problem) (floor : ℕ) (rs : List Ranges) (seen loss : ℕ) (a : Act) → IsAct b floor rs seen loss a → Within b rs seen a
+act_within b floor rs seen loss (Act.Split step v) is = let l = is.1 in omega arith
+act_within b floor rs seen loss (Act.Closed (Cause.Reason r) threshold) is = let t = is.0 in omega arith
+act_within b floor rs seen loss (Act.Closed Cause.Bound threshold) is = let t = is.0 in omega arith
+act_within b floor rs seen loss (Act.Closed Cause.Floor threshold) is = let t = is.0 in omega arith
+act_within b floor rs seen loss (Act.Closed Cause.Unsaid threshold) is = absurd is
 
 -- what stands is right by each loss that is at most what was seen, and at most its worker's loss
 stands_right : (b : Problem) (boxes : List PlainBox) (w : Words) (lowest best low : ℕ) (e : Event) → IsProblem b → Stands b w lowest best e → low ≤ lowest → low ≤ best → IsRight b (course_of boxes w) low e
 stands_right b boxes w lowest best low e rules s low_seen low_loss =
     let d = s.handled in let f = s.seen in let q = s.least in record {
       valid = d.valid;
-      free = splits_free b e.box.ranges e.seen (min s.loss e.probed) e.act d.act;
+      free = splits_free b w.floor e.box.ranges e.seen (min s.loss e.probed) e.act d.act;
       in_budget = d.in_budget;
-      right = right_of b w.first low e.seen (min s.loss e.probed) e.box.ranges e.act rules (omega arith) (omega arith) s.first d.act;
+      right = right_of b w.floor w.first low e.seen (min s.loss e.probed) e.box.ranges e.act rules (omega arith) (omega arith) s.first d.act;
     }
 
 count : (es : List Event) → length (tickets_of es) ≡ length es
@@ -139,7 +145,7 @@ module _ (b : Problem) (w : Words) (starts : ℕ) (boxes : List PlainBox) (s t :
 module _ (b : Problem) (w : Words) (boxes : List PlainBox) (v : View) (k : Hand) (events : List Event) (vain : List ℕ) (waiting : List PlainBox) (first : Option Trace) (h : History) (rules : IsProblem b) (stage : IsStage b w h.starts boxes v k events vain waiting)
     (none : vain ≡ [] → waiting ≡ []) (settled : Settles v) (of_first : v.first ≡ w.first) (starts : h.starts ≡ length boxes) (ids : numbered 0 boxes) (of_instance : All (λ (x : PlainBox). x.frame ≡ frame_of b) boxes) (log : h.log ≡ k.log)
     (weighs : (weight : PlainBox → ℕ) → sum_by (λ (l : Left). weight l.bx) h.left.items ≡ sum_by (λ (l : Left). weight l.bx) k.left.items + sum_by weight waiting) (bounds : HaveBounds b h.left.items) (plan : IsBest b h.best h.plan)
-    (first_is : w.first ≡ first_loss b first) (small : first_loss b first ≤ no_loss) (best : h.best ≡ min (first_loss b first) k.loss) where
+    (first_is : w.first ≡ first_loss b first) (small : first_loss b first ≤ no_loss) (best : h.best ≡ min (first_loss b first) k.loss) (floor_is : h.floor ≡ w.floor) (least_is : IsFloor b w.floor) where
   abbrev team : IsTeamwork b w v k events vain
   team = stage.teamwork
 
@@ -174,6 +180,8 @@ module _ (b : Problem) (w : Words) (boxes : List PlainBox) (v : View) (k : Hand)
     bounds = bounds;
     plan = plan;
     best = (let i = best_is in omega arith);
+    floor_is = floor_is;
+    least_is = least_is;
   }
 
   history : IsHistory b (course_of boxes w) h events
@@ -191,7 +199,7 @@ module _ (b : Problem) (w : Words) (boxes : List PlainBox) (v : View) (k : Hand)
     tickets = team.tickets;
     in_budget = λ e at. (team.each e at).handled.in_budget;
     looks = team.looks;
-    within = λ e at. (let d = (team.each e at).handled in act_within b e.box.ranges e.seen _ e.act d.act);
+    within = λ e at. (let d = (team.each e at).handled in act_within b w.floor e.box.ranges e.seen _ e.act d.act);
     announced = team.announced ∙ team.loss;
     best = best_is;
     alone = one;
@@ -227,7 +235,7 @@ module _ (b : Problem) (w : Words) (starts : ℕ) (boxes : List PlainBox) (worke
 module _ (b : Problem) (w : Words) (boxes : List PlainBox) (workers : ℕ) (s0 s s' t : Seated) (k0 k k' : Hand) (before waiting : List PlainBox) (first : Option Trace) (h : History) (rules : IsProblem b) (begun : HasBegun b w h.starts boxes workers s0 s k0 k before)
     (ended : HasEnded b w h.starts before s s' k k' waiting) (new : s0.view ≡ newcomer w.first) (fresh : IsFresh b k0) (same : t ≡ s') (settles : IsWhole t.view → Settles t.view) (starts : h.starts ≡ length boxes) (ids : numbered 0 boxes) (of_instance : All (λ (x : PlainBox). x.frame ≡ frame_of b) boxes) (log : h.log ≡ k'.log)
     (weighs : (weight : PlainBox → ℕ) → sum_by (λ (l : Left). weight l.bx) h.left.items ≡ sum_by (λ (l : Left). weight l.bx) k'.left.items + sum_by weight waiting) (bounds : HaveBounds b h.left.items) (plan : IsBest b h.best h.plan)
-    (first_is : w.first ≡ first_loss b first) (small : first_loss b first ≤ no_loss) (best : h.best ≡ min (first_loss b first) k'.loss) where
+    (first_is : w.first ≡ first_loss b first) (small : first_loss b first ≤ no_loss) (best : h.best ≡ min (first_loss b first) k'.loss) (floor_is : h.floor ≡ w.floor) (least_is : IsFloor b w.floor) where
   whole : IsWhole s'.view
   whole = is_whole b w h.starts boxes workers s0 s s' k0 k k' before waiting begun ended new
 
@@ -241,12 +249,12 @@ module _ (b : Problem) (w : Words) (boxes : List PlainBox) (workers : ℕ) (s0 s
   spent_all = none_left b w h.starts boxes before waiting s s' k k' begun.events begun.spent begun.stage ended
 
   pub lawful : IsLawful b (course_of boxes w) h
-  lawful = (history b w boxes s'.view k' (begun.events ++ ended.events) (begun.spent ++ ended.spent) waiting first h rules at_last spent_all settled ended.run.worked.seat.1 starts ids of_instance log weighs bounds plan first_is small best).lawful
+  lawful = (history b w boxes s'.view k' (begun.events ++ ended.events) (begun.spent ++ ended.spent) waiting first h rules at_last spent_all settled ended.run.worked.seat.1 starts ids of_instance log weighs bounds plan first_is small best floor_is least_is).lawful
 
   pub shows : Shows b w boxes workers t.view h
   shows =
       subst (λ (u : Seated). Shows b w boxes workers u.view h) (sym same)
-      (shown b w boxes s'.view k' (begun.events ++ ended.events) (begun.spent ++ ended.spent) waiting first h rules at_last spent_all settled ended.run.worked.seat.1 starts ids of_instance log weighs bounds plan first_is small best workers
+      (shown b w boxes s'.view k' (begun.events ++ ended.events) (begun.spent ++ ended.spent) waiting first h rules at_last spent_all settled ended.run.worked.seat.1 starts ids of_instance log weighs bounds plan first_is small best floor_is least_is workers
       (one_alone b w h.starts boxes workers s0 s s' k0 k k' before waiting begun ended new fresh (let f = first_is in let l = small in omega arith)))
 
 -- a search from its new seat and its new hand on, whose seat has settled, and its history
@@ -263,8 +271,8 @@ module _ (b : Problem) (w : Words) (boxes : List PlainBox) (workers : ℕ) (s0 s
         subst (λ (u : Seated). IsSeatOf w u × IsWhole u.view) (sym same)
         (d.ended.run.worked.seat, is_whole b w (length boxes) boxes workers s0 d.seat s' k0 d.hand k' d.before waiting d.begun d.ended new)
 
-    module _ (first : Option Trace) (n : ℕ) (is : n ≡ length boxes) (h : History) (f : Finishes b n k' waiting first h) (rules : IsProblem b) (fresh : IsFresh b k0) (settles : IsWhole t.view → Settles t.view) (ids : numbered 0 boxes)
-        (of_instance : All (λ (x : PlainBox). x.frame ≡ frame_of b) boxes) (first_is : w.first ≡ first_loss b first) where
+    module _ (first : Option Trace) (n : ℕ) (is : n ≡ length boxes) (h : History) (f : Finishes b n w.floor k' waiting first h) (rules : IsProblem b) (fresh : IsFresh b k0) (settles : IsWhole t.view → Settles t.view) (ids : numbered 0 boxes)
+        (of_instance : All (λ (x : PlainBox). x.frame ≡ frame_of b) boxes) (first_is : w.first ≡ first_loss b first) (least_is : IsFloor b w.floor) where
       starts : h.starts ≡ length boxes
       starts = f.starts ∙ is
 
@@ -276,8 +284,8 @@ module _ (b : Problem) (w : Words) (boxes : List PlainBox) (workers : ℕ) (s0 s
 
       pub all_lawful : IsLawful b (course_of boxes w) h
       all_lawful =
-          lawful b w boxes workers s0 d.seat s' t k0 d.hand k' d.before waiting first h rules begun ended new fresh same settles starts ids of_instance f.log f.weighs f.bounds f.plan first_is f.small f.best
+          lawful b w boxes workers s0 d.seat s' t k0 d.hand k' d.before waiting first h rules begun ended new fresh same settles starts ids of_instance f.log f.weighs f.bounds f.plan first_is f.small f.best f.floor_is least_is
 
       pub all_shown : Shows b w boxes workers t.view h
       all_shown =
-          shows b w boxes workers s0 d.seat s' t k0 d.hand k' d.before waiting first h rules begun ended new fresh same settles starts ids of_instance f.log f.weighs f.bounds f.plan first_is f.small f.best
+          shows b w boxes workers s0 d.seat s' t k0 d.hand k' d.before waiting first h rules begun ended new fresh same settles starts ids of_instance f.log f.weighs f.bounds f.plan first_is f.small f.best f.floor_is least_is

@@ -59,7 +59,7 @@ module _ (b : Problem) (w : Words) (x : PlainBox) (s mid t : Seated) (old betwee
     };
     probed = i.is_probed;
     seat = i.seat;
-    act = subst (λ (n : ℕ). IsAct b x.ranges seen n act) (sym noted.loss) d.is_act;
+    act = subst (λ (n : ℕ). IsAct b w.floor x.ranges seen n act) (sym noted.loss) d.is_act;
     log = noted.log ∙ ap (λ (l : Listed Note). l.items ++ note_of event ∷ []) d.log ∙ ap (λ (l : List Note). l ++ note_of event ∷ []) idle.log;
     loss = noted.loss ∙ i.loss;
     plan = subst (λ (p : Option Trace). IsPlanAfter b x.ranges old.loss probed old.plan p) (sym noted.plan) i.plan;

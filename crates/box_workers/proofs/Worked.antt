@@ -48,13 +48,13 @@ least_min a c [] h = omega arith
 least_min a c (e ∷ es) h = let i = least_min (min a e.probed) (min c e.probed) es (omega arith) in let l = least_low (min c e.probed) es in omega arith
 
 -- where the least of all losses was seen, it decides
-exact : (b : Problem) (m loss probed seen : ℕ) (rs : List Ranges) (a : Act) → seen ≡ m → m ≤ loss → loss ≤ no_loss → IsProbed b rs probed → IsAct b rs seen (min loss probed) a → Reached b rs (min m probed) a
-exact b m loss probed seen rs (Act.Split step v) s low small p is = let l = is.1 in omega arith
-exact b m loss probed seen rs (Act.Closed (Cause.Reason r) threshold) s low small p is =
+exact : (b : Problem) (floor m loss probed seen : ℕ) (rs : List Ranges) (a : Act) → seen ≡ m → m ≤ loss → loss ≤ no_loss → IsProbed b rs probed → IsAct b floor rs seen (min loss probed) a → Reached b rs (min m probed) a
+exact b floor m loss probed seen rs (Act.Split step v) s low small p is = let l = is.1 in omega arith
+exact b floor m loss probed seen rs (Act.Closed (Cause.Reason r) threshold) s low small p is =
     elim p [ inl found ↦ absurd (found.0.not_refuted (_, is.1.applies)) | inr none ↦ (let t = is.0 in let n = none.1 in omega arith) ]
-exact b m loss probed seen rs (Act.Closed Cause.Bound threshold) s low small p is = let t = is.0 in omega arith
-exact b m loss probed seen rs (Act.Closed Cause.Floor threshold) s low small p is = absurd is
-exact b m loss probed seen rs (Act.Closed Cause.Unsaid threshold) s low small p is = absurd is
+exact b floor m loss probed seen rs (Act.Closed Cause.Bound threshold) s low small p is = let t = is.0 in omega arith
+exact b floor m loss probed seen rs (Act.Closed Cause.Floor threshold) s low small p is = let t = is.0 in omega arith
+exact b floor m loss probed seen rs (Act.Closed Cause.Unsaid threshold) s low small p is = absurd is
 
 -- what is announced at last
 announced_is : (loss probed : ℕ) (v : View) → ((probed < loss) × ((told loss probed v).announced ≡ min v.announced probed)) ⊎ ((loss ≤ probed) × ((told loss probed v).announced ≡ v.announced))
@@ -199,8 +199,8 @@ module _ (b : Problem) (w : Words) (s t u : Seated) (k l m : Hand) (es : List Ev
     t_whole : IsWhole s.view → IsWhole t.view
     t_whole whole = let a = ap (λ (ts : List ℕ). length ts) tickets_so_far in let c = length-append s.view.tickets (tickets_of es) in let n = count es in let q = r.allowance in omega arith
 
-    act_at : IsAct b e.box.ranges e.seen (min l.loss e.probed) e.act
-    act_at = subst (λ (y : PlainBox). IsAct b y.ranges e.seen (min l.loss e.probed) e.act) (sym h.box) (subst (λ (n : ℕ). IsAct b x.ranges e.seen n e.act) h.loss h.act)
+    act_at : IsAct b w.floor e.box.ranges e.seen (min l.loss e.probed) e.act
+    act_at = subst (λ (y : PlainBox). IsAct b w.floor y.ranges e.seen (min l.loss e.probed) e.act) (sym h.box) (subst (λ (n : ℕ). IsAct b w.floor x.ranges e.seen n e.act) h.loss h.act)
 
     probed_at : IsProbed b e.box.ranges e.probed
     probed_at = subst (λ (y : PlainBox). IsProbed b y.ranges e.probed) (sym h.box) h.probed
@@ -212,7 +212,7 @@ module _ (b : Problem) (w : Words) (s t u : Seated) (k l m : Hand) (es : List Ev
         let is : min w.first t.view.announced ≡ least_loss z es = elim r.better [ inl more ↦ (let a = more.2 in omega arith) | inr same ↦ (let a = same.2 in let c = same.0 in omega arith) ] in
         let seen : e.seen ≡ least_loss z es = h.look.whole (t_whole whole) ∙ is in
         let before = r.exact whole low in
-        (seen_push z es e before.0 seen, reached_push b z es e before.1 (exact b (least_loss z es) l.loss e.probed e.seen e.box.ranges e.act seen (omega arith) l_small probed_at act_at))
+        (seen_push z es e before.0 seen, reached_push b z es e before.1 (exact b w.floor (least_loss z es) l.loss e.probed e.seen e.box.ranges e.act seen (omega arith) l_small probed_at act_at))
 
     pub worked_more : x.frame ≡ frame_of b → IsSeatOf w u → 1 ≤ t.view.allowance → Worked b w s u k m (es ++ e ∷ []) []
     worked_more of seat some = record {
@@ -232,7 +232,7 @@ module _ (b : Problem) (w : Words) (s t u : Seated) (k l m : Hand) (es : List Ev
         valid = subst IsBox (sym h.box) h.valid;
         probed = probed_at;
         in_budget = h.look.in_budget;
-        act = subst (λ (n : ℕ). IsAct b e.box.ranges e.seen (min n e.probed) e.act) r.loss act_at;
+        act = subst (λ (n : ℕ). IsAct b w.floor e.box.ranges e.seen (min n e.probed) e.act) r.loss act_at;
       };
       worker = h.worker ∙ r.worker;
       loss = h.loss ∙ ap (λ (n : ℕ). min n e.probed) r.loss ∙ sym (least_push k.loss es e);

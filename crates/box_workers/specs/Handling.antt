@@ -57,13 +57,13 @@ IsPlanAfter b rs loss probed old new =
     ((probed < loss) × ((t : Trace) × (new ≡ Some t) × (t.steps.items ≡ least_steps (known b rs)) × IsComplete b t.steps.items))
     ⊎ ((loss ≤ probed) × (new ≡ old))
 
--- what was done rightly with a box, where this loss was seen, and the hand had this loss after the probe
-abbrev pub IsAct : Problem → List Ranges → ℕ → ℕ → Act → Type 0
-IsAct b rs seen loss (Act.Closed (Cause.Reason r) threshold) = (threshold ≡ seen) × IsFirstReason b rs r
-IsAct b rs seen loss (Act.Closed Cause.Bound threshold) = (threshold ≡ min seen loss) × (¬ IsRefuted b rs) × (threshold ≤ bound b rs)
-IsAct b rs seen loss (Act.Closed Cause.Floor threshold) = ⊥
-IsAct b rs seen loss (Act.Closed Cause.Unsaid threshold) = ⊥
-IsAct b rs seen loss (Act.Split step v) = (¬ IsRefuted b rs) × (bound b rs < min seen loss) × IsTrue (is_free rs step v)
+-- what was done rightly with a box, where this loss was seen, and the hand had this loss after the probe, by this floor, if there is one
+abbrev pub IsAct : Problem → ℕ → List Ranges → ℕ → ℕ → Act → Type 0
+IsAct b floor rs seen loss (Act.Closed (Cause.Reason r) threshold) = (threshold ≡ seen) × IsFirstReason b rs r
+IsAct b floor rs seen loss (Act.Closed Cause.Bound threshold) = (threshold ≡ min seen loss) × (¬ IsRefuted b rs) × (threshold ≤ bound b rs)
+IsAct b floor rs seen loss (Act.Closed Cause.Floor threshold) = (threshold ≡ min seen loss) × (¬ IsRefuted b rs) × (0 < floor) × (threshold ≤ floor) × (threshold < no_loss)
+IsAct b floor rs seen loss (Act.Closed Cause.Unsaid threshold) = ⊥
+IsAct b floor rs seen loss (Act.Split step v) = (¬ IsRefuted b rs) × (bound b rs < min seen loss) × IsTrue (is_free rs step v)
 
 -- one box was handled
 pub record Handles (b : Problem) (w : Words) (x : PlainBox) (s t : Seated) (old new : Hand) (e : Event) : Type 0 where
@@ -72,7 +72,7 @@ pub record Handles (b : Problem) (w : Words) (x : PlainBox) (s t : Seated) (old 
   pub look : IsLook w s.view e
   pub probed : IsProbed b x.ranges e.probed
   pub seat : t.view ≡ told old.loss e.probed (looked (drawn s.view e.ticket) e.seen)
-  pub act : IsAct b x.ranges e.seen new.loss e.act
+  pub act : IsAct b w.floor x.ranges e.seen new.loss e.act
   pub log : new.log.items ≡ old.log.items ++ note_of e ∷ []
   pub loss : new.loss ≡ min old.loss e.probed
   pub plan : IsPlanAfter b x.ranges old.loss e.probed old.plan new.plan

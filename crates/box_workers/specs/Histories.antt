@@ -6,6 +6,7 @@ use Rattle.plan_box.specs.Frames.{frame_of}
 use Rattle.plan_box.specs.Ranges.{PlainBox, IsBox}
 use Rattle.cert_log.specs.declared.history.Left.{Left}
 use Rattle.cert_log.specs.declared.history.History.{History}
+use Rattle.cert_log.specs.Good.{IsFloor}
 use Rattle.cert_log.specs.Levels.{level}
 use Rattle.cert_log.specs.Lawful.{Course, numbered, times, once_below, Handled, IsBest, IsLawful}
 use Rattle.box_levels.specs.Events.{Event, note_of, made_by, all_boxes, tickets_of, SplitsFree}
@@ -19,7 +20,7 @@ pub record IsRight (b : Problem) (c : Course) (best : ℕ) (e : Event) : Type 0 
   pub valid : IsBox e.box
   pub free : SplitsFree e.box.ranges e.act
   pub in_budget : e.ticket < c.budget
-  pub right : Handled b c.first best e.box.ranges e.act
+  pub right : Handled b c.floor c.first best e.box.ranges e.act
 
 -- what all workers did together: each box with its note, and the tickets that were drawn in vain
 pub record IsAccount (b : Problem) (c : Course) (h : History) (es : List Event) (spent : List ℕ) : Type 0 where
@@ -37,6 +38,9 @@ pub record IsAccount (b : Problem) (c : Course) (h : History) (es : List Event) 
   pub bounds : All (λ (l : Left). l.bound ≡ bound b l.bx.ranges) h.left.items
   pub plan : IsBest b h.best h.plan
   pub best : h.best ≤ c.first
+  -- no lawful plan loses less than the floor
+  pub floor_is : h.floor ≡ c.floor
+  pub least_is : IsFloor b c.floor
 
 -- the history is lawful, and each box that was handled is a box of a level
 pub record IsHistory (b : Problem) (c : Course) (h : History) (es : List Event) : Type 0 where

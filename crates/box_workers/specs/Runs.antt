@@ -27,7 +27,7 @@ IsFirst b (Some t) = IsComplete b t.steps.items
 
 -- what a search was asked
 abbrev pub course_of : List PlainBox → Words → Course
-course_of boxes w = record { boxes = boxes; first = w.first; budget = w.budget }
+course_of boxes w = record { boxes = boxes; first = w.first; budget = w.budget; floor = w.floor }
 
 -- the least of this loss and the probed losses of the boxes that were handled
 abbrev pub least_loss : ℕ → List Event → ℕ
@@ -45,7 +45,7 @@ pub record IsHandled (b : Problem) (w : Words) (loss : ℕ) (e : Event) : Type 0
   pub valid : IsBox e.box
   pub probed : IsProbed b e.box.ranges e.probed
   pub in_budget : e.ticket < w.budget
-  pub act : IsAct b e.box.ranges e.seen (min loss e.probed) e.act
+  pub act : IsAct b w.floor e.box.ranges e.seen (min loss e.probed) e.act
 
 -- these boxes were handled in this order by a worker whose loss was this one before
 abbrev pub AreHandled : Problem → Words → ℕ → List Event → Type 0

@@ -1,9 +1,10 @@
 //! The handling of one box.
-ghost use Rattle.std.specs.Prelude.{◌≡◌, ℕ, ◌≤◌, ◌<◌, length, IfOk, IfErr, IsTrue};
+ghost use Rattle.std.specs.Prelude.{◌≡◌, ℕ, ◌≤◌, ◌<◌, ◌↔◌, length, IfOk, IfErr, IsTrue};
 ghost use Rattle.plan_box.specs.Decisions.{is_free, IsPoint};
 ghost use Rattle.plan_box.specs.Frames.{frame_of};
 ghost use Rattle.plan_box.specs.Reasons.{IsRefuted};
 ghost use Rattle.box_bound.specs.Leastings.{IsOf, IsFor};
+ghost use Rattle.cert_log.specs.Lawful.{no_loss};
 ghost use Rattle.box_levels.specs.Events.{SplitsFree};
 ghost use Rattle.shared_best.specs.Seats.{IsSeatOf};
 ghost use Rattle.shared_best.specs.Words.{share};
@@ -20,7 +21,7 @@ use defect_map::DefectMap;
 use glass_base::{Instance, Memory};
 use plan_box::{PlanBox, Var};
 use plan_trace::TraceBroken;
-use shared_best::{Seat, SharedBest};
+use shared_best::{NONE, Seat, SharedBest};
 use std::alloc::Global;
 
 /// What became of a box.
@@ -87,8 +88,15 @@ fn improve(
     None
 }
 
+/// Whether there is a floor that reaches a loss, so that no plan beats it.
+fn reaches_floor(floor: u64, loss: u64) -> bool
+    ensures { IsTrue result ↔ ((0 < floor) × (loss ≤ floor) × (loss < no_loss)) }
+{
+    0 < floor && loss <= floor && loss < NONE
+}
+
 /// What is to be done with a box, by what is seen and probed now. It is closed for the first reason by which it is refuted; else, after
-/// its probe, by its bound, where that reaches the lesser of what was seen and the hand's loss; else it is split.
+/// its probe, by its bound, or by the floor, where that reaches the lesser of what was seen and the hand's loss; else it is split.
 fn decide(
     instance: &Instance,
     map: &DefectMap,
@@ -127,6 +135,12 @@ fn decide(
         return Act::Closed {
             threshold,
             cause: Cause::Bound,
+        };
+    }
+    if reaches_floor(shared.floor(), threshold) {
+        return Act::Closed {
+            threshold,
+            cause: Cause::Floor,
         };
     }
     let (step, var) = choose(&hand.leasts, bx, broken);

@@ -4,6 +4,7 @@ ghost use Rattle.plan_box.specs.Frames.{frame_of};
 ghost use Rattle.plan_box.specs.Ranges.{PlainBox};
 ghost use Rattle.box_bound.specs.Leastings.{IsOf};
 ghost use Rattle.cert_log.specs.declared.history.Left.{Left as LeftBox};
+ghost use Rattle.cert_log.specs.Good.{IsFloor};
 ghost use Rattle.cert_log.specs.Lawful.{IsBest, IsLawful, numbered, no_loss};
 ghost use Rattle.shared_best.specs.Seats.{IsSeatOf};
 ghost use Rattle.shared_best.specs.Words.{newcomer, none_known, IsWhole, Settles};
@@ -105,12 +106,14 @@ fn history_of(
     alloc: Global,
     instance: &Instance,
     starts: u64,
+    floor: u64,
     hand: &mut Hand,
     first: Option<Trace>,
 ) -> History
     requires best { IsBest instance.now hand.old.loss hand.old.plan }
     requires first { IsFirst instance.now first }
     ensures starts { result.starts ≡ starts }
+    ensures floor { result.floor ≡ floor }
     ensures log { result.log ≡ hand.old.log }
     ensures left { result.left ≡ hand.old.left }
     ensures plan { IsBest instance.now result.best result.plan }
@@ -124,6 +127,7 @@ fn history_of(
         left: mem::replace(&mut hand.left, Run::new(alloc)),
         plan,
         best,
+        floor,
     }
 }
 
@@ -133,6 +137,7 @@ fn finish_with(
     alloc: Global,
     instance: &Instance,
     starts: u64,
+    floor: u64,
     hand: &mut Hand,
     waiting: Run<PlanBox>,
     first: Option<Trace>,
@@ -142,10 +147,10 @@ fn finish_with(
     requires frames { All (λ (x : PlainBox). x.frame ≡ frame_of instance.now) waiting.items }
     requires best { IsBest instance.now hand.old.loss hand.old.plan }
     requires first { IsFirst instance.now first }
-    ensures { IfOk result (λ h. Finishes instance.now starts hand.old waiting.items first h) }
+    ensures { IfOk result (λ h. Finishes instance.now starts floor hand.old waiting.items first h) }
 {
     leave_all(instance, hand, waiting)?;
-    Ok(history_of(alloc, instance, starts, hand, first))
+    Ok(history_of(alloc, instance, starts, floor, hand, first))
 }
 
 /// The history of a search from so many start boxes and this first trace, once this hand holds what was done, and these boxes wait.
@@ -153,6 +158,7 @@ fn finish(
     alloc: Global,
     instance: &Instance,
     starts: u64,
+    floor: u64,
     hand: Hand,
     waiting: Run<PlanBox>,
     first: Option<Trace>,
@@ -162,10 +168,10 @@ fn finish(
     requires frames { All (λ (x : PlainBox). x.frame ≡ frame_of instance.now) waiting.items }
     requires best { IsBest instance.now hand.loss hand.plan }
     requires first { IsFirst instance.now first }
-    ensures { IfOk result (λ h. Finishes instance.now starts hand waiting.items first h) }
+    ensures { IfOk result (λ h. Finishes instance.now starts floor hand waiting.items first h) }
 {
     let mut hand = hand;
-    finish_with(alloc, instance, starts, &mut hand, waiting, first)
+    finish_with(alloc, instance, starts, floor, &mut hand, waiting, first)
 }
 
 /// Several workers handle boxes, from the start boxes on, until each of them rests, and then the caller, who holds this seat and this
@@ -237,6 +243,7 @@ pub(crate) fn search_with<R: Threads + Wait + Sync, G: Gate + Sync, Q: Poster + 
     requires budget { (1 ≤ shared.now.budget) × (shared.now.budget ≤ 10000000) }
     requires seat { IsSeatOf shared.now seat.old }
     requires newcomer { seat.old.view ≡ newcomer shared.now.first }
+    requires floor { IsFloor instance.now shared.now.floor }
     ensures lawful { IfOk result (λ h. IsLawful instance.now (course_of start.items shared.now) h) }
     ensures seat { OnOk result (IsSeatOf shared.now seat.new × IsWhole seat.new.view) }
     ensures shows { IfOk result (λ h. Shows instance.now shared.now start.items workers seat.new.view h) }
@@ -249,7 +256,8 @@ pub(crate) fn search_with<R: Threads + Wait + Sync, G: Gate + Sync, Q: Poster + 
         rt, alloc, instance, map, start, workers, shared, seat, &mut hand, gate, poster,
     )?;
     settle(shared, seat);
-    finish(alloc, instance, starts, hand, waiting, first)
+    let floor = shared.floor();
+    finish(alloc, instance, starts, floor, hand, waiting, first)
 }
 
 /// Handles boxes, from the start boxes on, until none is left or the budget is spent; the boxes that then wait are left open.
@@ -258,7 +266,7 @@ pub(crate) fn search_with<R: Threads + Wait + Sync, G: Gate + Sync, Q: Poster + 
 /// loss, or `NONE`, as their first value, and the seat is their first one. The budget is how many boxes may be handled.
 ///
 /// Several workers, each in a thread of its own where one can be made, handle boxes of their own and of one another until each of them
-/// rests. The caller handles what they leave. One worker alone is the caller, with the number 0.
+/// rests. The caller handles what they leave. One worker alone is the caller, with the number 0. Where the words have a floor, boxes are closed for it.
 ///
 /// Only want of memory is refused. It may wait for another thread, which is at the same deque.
 pub fn search<R: Threads + Wait + Sync, G: Gate + Sync>(
@@ -283,6 +291,7 @@ pub fn search<R: Threads + Wait + Sync, G: Gate + Sync>(
     requires budget { (1 ≤ shared.now.budget) × (shared.now.budget ≤ 10000000) }
     requires seat { IsSeatOf shared.now seat.old }
     requires newcomer { seat.old.view ≡ newcomer shared.now.first }
+    requires floor { IsFloor instance.now shared.now.floor }
     ensures lawful { IfOk result (λ h. IsLawful instance.now (course_of start.items shared.now) h) }
     ensures seat { OnOk result (IsSeatOf shared.now seat.new × IsWhole seat.new.view) }
     ensures shows { IfOk result (λ h. Shows instance.now shared.now start.items workers seat.new.view h) }

@@ -3,6 +3,7 @@ ghost use Rattle.std.specs.Prelude.{◌≡◌, ◌≤◌, All, IfOk, IfSome, OnO
 ghost use Rattle.plan_trace.specs.Claims.{IsComplete};
 ghost use Rattle.plan_box.specs.Frames.{frame_of};
 ghost use Rattle.plan_box.specs.Ranges.{PlainBox};
+ghost use Rattle.cert_log.specs.Good.{IsFloor};
 ghost use Rattle.cert_log.specs.Lawful.{IsBest, IsLawful, numbered};
 ghost use Rattle.shared_best.specs.Seats.{IsSeatOf};
 ghost use Rattle.shared_best.specs.Words.{newcomer, IsWhole};
@@ -134,6 +135,7 @@ pub fn search_watched<R: Threads + Wait + Sync, G: Gate + Sync>(
     requires budget { (1 ≤ shared.now.budget) × (shared.now.budget ≤ 10000000) }
     requires seat { IsSeatOf shared.now seat.old }
     requires newcomer { seat.old.view ≡ newcomer shared.now.first }
+    requires floor { IsFloor instance.now shared.now.floor }
     ensures lawful { IfOk result (λ r. IsLawful instance.now (course_of start.items shared.now) r.0) }
     ensures seat { OnOk result (IsSeatOf shared.now seat.new × IsWhole seat.new.view) }
     ensures shows { IfOk result (λ r. Shows instance.now shared.now start.items workers seat.new.view r.0) }

@@ -58,7 +58,7 @@ impl Place {
     ghost use Rattle.std.specs.Prelude.{◌<◌, ◌^◌};
     ghost use Rattle.cert_check.specs.inner.Walks.{Reads};
 
-    /// Reads one more node. In version 2 open nodes in a row share a line.
+    /// Reads one more node. From version 2 on open nodes in a row share a line.
     fn read(&mut self, version: u32, node: Node)
         requires { self.old.line < 2 ^ 64 - 1 }
         ensures { Reads version node self.old self.new }

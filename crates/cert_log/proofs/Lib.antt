@@ -1,5 +1,6 @@
 pub mod Members
 pub mod Standing
+pub mod Versions
 pub mod Naming
 pub mod Growing
 pub mod Counting

@@ -1,6 +1,7 @@
 -- What the notes of a lawful history grow into is right for its boxes.
-use Rattle.std.proofs.Common.{◌≡◌, ℕ, suc, ◌<◌, ◌≤◌, max, inl, inr, Bool, true, false, cond, eqb, ltb, List, [], ◌∷◌, refl, sym, ap, ◌∙◌, subst, arith, Some, None}
+use Rattle.std.proofs.Common.{◌≡◌, ℕ, suc, ◌<◌, ◌≤◌, map, max, inl, inr, Bool, true, false, cond, eqb, ltb, List, [], ◌∷◌, refl, sym, ap, ◌∙◌, subst, arith, Some, None}
 use Rattle.std.specs.List.{Contains}
+use Rattle.std.proofs.lemmas.List.{map-append}
 use Rattle.std.proofs.lemmas.List.Elements.{Contains-append_left, Contains-append_right}
 use Rattle.std.proofs.lemmas.Bool.{eq-eqb, ltb-true, lt-ltb}
 use Rattle.glass_base.specs.Problem.{Problem}
@@ -45,15 +46,15 @@ reaches_lesser best threshold n less reaches = by_test (ltb threshold no_loss) r
         subst (λ (t : Bool). Reaches (cond t (Some best) None) n) (sym best_is) (omega arith)
     by_test false is = absurd (subst (λ (t : Bool). Reaches (cond t (Some threshold) None) n) is reaches)
 
-closed_stands : (b : Problem) (best threshold : ℕ) (rs : List Ranges) (cause : Cause) → best ≤ threshold → ClosedFor b threshold rs cause → MayClose b 0 (loss_of best) rs cause
-closed_stands b best threshold rs Cause.Unsaid less c = absurd c
-closed_stands b best threshold rs Cause.Floor less c = absurd c
-closed_stands b best threshold rs (Cause.Reason r) less c = c
-closed_stands b best threshold rs Cause.Bound less c = reaches_lesser best threshold (bound b rs) less c.1
+closed_stands : (b : Problem) (floor best threshold : ℕ) (rs : List Ranges) (cause : Cause) → best ≤ threshold → ClosedFor b floor threshold rs cause → MayClose b floor (loss_of best) rs cause
+closed_stands b floor best threshold rs Cause.Unsaid less c = absurd c
+closed_stands b floor best threshold rs Cause.Floor less c = reaches_lesser best threshold floor less c.1
+closed_stands b floor best threshold rs (Cause.Reason r) less c = c
+closed_stands b floor best threshold rs Cause.Bound less c = reaches_lesser best threshold (bound b rs) less c.1
 
 module _ (b : Problem) (s : Course) (h : History) (lawful : IsLawful b s h) where
-  pub handled_as : (n : ℕ) (x : PlainBox) (m : Note) (act : Act) → Contains (level_of s h n) x → Contains h.log.items m → m.id ≡ x.id → m.act ≡ act → Handled b s.first h.best x.ranges act
-  handled_as n x m act at noted same is = subst (λ (a : Act). Handled b s.first h.best x.ranges a) is (lawful.handled n x m at noted same)
+  pub handled_as : (n : ℕ) (x : PlainBox) (m : Note) (act : Act) → Contains (level_of s h n) x → Contains h.log.items m → m.id ≡ x.id → m.act ≡ act → Handled b h.floor s.first h.best x.ranges act
+  handled_as n x m act at noted same is = subst (λ (a : Act). Handled b h.floor s.first h.best x.ranges a) is (lawful.handled n x m at noted same)
 
   half_in : (n : ℕ) (x y : PlainBox) (m : Note) (act : Act) → Contains (level_of s h n) x → Contains h.log.items m → m.id ≡ x.id → m.act ≡ act → Contains (made_of h.starts m.ticket act x) y → Contains (level_of s h (suc n)) y
   half_in n x y m act at noted same is made =
@@ -69,14 +70,14 @@ module _ (b : Problem) (s : Course) (h : History) (lawful : IsLawful b s h) wher
       half_in n x (child_of upper_half x step v (upper_id h.starts m.ticket)) m (Act.Split step v) at noted same is (is_later (child_of lower_half x step v (lower_id h.starts m.ticket)) (child_of upper_half x step v (upper_id h.starts m.ticket) ∷ []) (child_of upper_half x step v (upper_id h.starts m.ticket)) (is_first (child_of upper_half x step v (upper_id h.starts m.ticket)) []))
 
   -- each split is of a free variable, and each closed box may be closed
-  pub grown_stands : (n : ℕ) (x : PlainBox) (t : Twig) → Contains (level_of s h n) x → Grows h x.id t → Stands b 0 (loss_of h.best) x.ranges (bare t)
+  pub grown_stands : (n : ℕ) (x : PlainBox) (t : Twig) → Contains (level_of s h n) x → Grows h x.id t → Stands b h.floor (loss_of h.best) x.ranges (bare t)
   grown_stands n x (forks m step v lower upper) at g = (
     (handled_as n x m (Act.Split step v) at g.0 g.1 g.2).2,
     grown_stands (suc n) (child_of lower_half x step v (lower_id h.starts m.ticket)) lower (lower_in n x m step v at g.0 g.1 g.2) g.3,
     grown_stands (suc n) (child_of upper_half x step v (upper_id h.starts m.ticket)) upper (upper_in n x m step v at g.0 g.1 g.2) g.4,
   )
   grown_stands n x (ends m threshold cause) at g =
-      let e = handled_as n x m (Act.Closed cause threshold) at g.0 g.1 g.2 in closed_stands b h.best threshold x.ranges cause e.1 e.0
+      let e = handled_as n x m (Act.Closed cause threshold) at g.0 g.1 g.2 in closed_stands b h.floor h.best threshold x.ranges cause e.1 e.0
   grown_stands n x (waits l) at g = tt
 
   -- each box that is split is not refuted, and has a bound below the loss that is to be beaten
@@ -92,13 +93,12 @@ module _ (b : Problem) (s : Course) (h : History) (lawful : IsLawful b s h) wher
   grown_splits n x (waits l) at g = tt
 
   -- the bounds that were kept are those of the boxes left open
-  pub grown_bounds : (n : ℕ) (x : PlainBox) (t : Twig) → Contains (level_of s h n) x → Grows h x.id t → open_bounds b 0 x.ranges (bare t) ≡ kept_bounds t
+  pub grown_bounds : (n : ℕ) (x : PlainBox) (t : Twig) → Contains (level_of s h n) x → Grows h x.id t → open_bounds b h.floor x.ranges (bare t) ≡ map (max h.floor) (kept_bounds t)
   grown_bounds n x (forks m step v lower upper) at g =
       let l = grown_bounds (suc n) (child_of lower_half x step v (lower_id h.starts m.ticket)) lower (lower_in n x m step v at g.0 g.1 g.2) g.3 in
       let u = grown_bounds (suc n) (child_of upper_half x step v (upper_id h.starts m.ticket)) upper (upper_in n x m step v at g.0 g.1 g.2) g.4 in
-      cc (l, u)
+      cc (l, u) ∙ sym (map-append (max h.floor) (kept_bounds lower) (kept_bounds upper))
   grown_bounds n x (ends m threshold cause) at g = refl
   grown_bounds n x (waits l) at g =
       let same : bound b l.bx.ranges ≡ bound b x.ranges = ap (λ (y : PlainBox). bound b y.ranges) (lawful.left_is n x l at g.0 g.1) in
-      let raised : max 0 (bound b x.ranges) ≡ bound b x.ranges = omega arith in
-      ap (λ (k : ℕ). k ∷ []) (raised ∙ sym same ∙ sym (lawful.bounds l g.0))
+      ap (λ (k : ℕ). max h.floor k ∷ []) (sym same ∙ sym (lawful.bounds l g.0))

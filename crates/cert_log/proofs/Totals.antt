@@ -1,8 +1,8 @@
 -- The certificates of all start boxes: each is right, and together they have a node for each note and each left box.
-use Rattle.std.proofs.Common.{◌≡◌, ℕ, zero, suc, ◌+◌, ◌*◌, ◌<◌, ◌≤◌, inl, inr, List, [], ◌∷◌, ◌++◌, length, map, refl, sym, ap, ◌∙◌, subst, arith}
+use Rattle.std.proofs.Common.{◌≡◌, ℕ, zero, suc, ◌+◌, ◌*◌, ◌<◌, ◌≤◌, inl, inr, List, [], ◌∷◌, ◌++◌, length, map, max, refl, sym, ap, ◌∙◌, subst, arith}
 use Rattle.std.specs.Prelude.{All, sum_by}
 use Rattle.std.specs.List.{Contains, AllZip}
-use Rattle.std.proofs.lemmas.List.{length-append}
+use Rattle.std.proofs.lemmas.List.{length-append, length-map}
 use Rattle.std.proofs.lemmas.List.Sums.{sum_by-cons, sum_by-append}
 use Rattle.std.proofs.lemmas.Bool.{cases_eq}
 use Rattle.glass_base.specs.Problem.{Problem}
@@ -11,7 +11,7 @@ use Rattle.cert_log.specs.declared.history.Note.{Note}
 use Rattle.cert_log.specs.declared.history.Left.{Left}
 use Rattle.cert_log.specs.declared.history.History.{History}
 use Rattle.cert_log.specs.declared.certificate.Certificate.{Certificate}
-use Rattle.cert_log.specs.Good.{least_of, open_bounds, IsFloor, IsGood, AreGood, IsVersion, Stands}
+use Rattle.cert_log.specs.Good.{least_of, open_bounds, version_for, IsFloor, IsGood, AreGood, IsVersionFor, Stands}
 use Rattle.cert_log.specs.Splits.{IsSearched, AreSearched}
 use Rattle.std.proofs.lemmas.List.Elements.{All-cons, All-nil, All-same}
 use Rattle.cert_log.specs.Trees.{nodes_of, FitsVersion}
@@ -22,6 +22,7 @@ use Rattle.cert_log.specs.inner.Growth.{Twig, forks, ends, waits, bare, kept_bou
 use Rattle.cert_log.proofs.Members.{is_first, is_later, counted, times-append}
 use Rattle.cert_log.proofs.Standing.{grown_stands, grown_splits, grown_bounds}
 use Rattle.cert_log.proofs.Growing.{has_twig}
+use Rattle.cert_log.proofs.Versions.{none_before}
 use Rattle.cert_log.proofs.Counting.{AreOf, weigh, weigh_all, not_left}
 use Rattle.cert_log.proofs.Indexing.{count_ids}
 use Rattle.cert_log.proofs.Identities.{ids_below}
@@ -93,10 +94,6 @@ left_total h once n (c ∷ cs) m =
     let a = sum_by-cons (λ (c : Certificate). c.left) c cs in let d = sum_by-cons (weigh (in_left h)) m.0.twig (twigs_of h (n + 1) cs m.1) in
     let e = m.0.left_is in let w = weigh_left h once n m.0.twig m.0.grows in let r = left_total h once (n + 1) cs m.1 in omega arith
 
--- no plan loses less than nothing
-no_floor : (b : Problem) (floor : ℕ) → floor ≡ 0 → IsFloor b floor
-no_floor b floor is = λ plan lawful. omega (arith, is)
-
 module _ (b : Problem) (s : Course) (h : History) (lawful : IsLawful b s h) where
   -- a certificate is right for its box
   made_good : (x : PlainBox) (c : Certificate) → Contains s.boxes x → IsMade h x.id c → IsGood b x.ranges (loss_of h.best) c
@@ -106,9 +103,9 @@ module _ (b : Problem) (s : Course) (h : History) (lawful : IsLawful b s h) wher
         tree = bare m.twig;
         nodes_are = m.nodes_are;
         loss_is = m.loss_is;
-        floor_is = no_floor b c.floor m.floor_is;
+        floor_is = subst (IsFloor b) (sym m.floor_is) lawful.least_is;
         stands = subst (λ (floor : ℕ). Stands b floor (loss_of h.best) x.ranges (bare m.twig)) (sym m.floor_is) (grown_stands b s h lawful zero x m.twig at m.grows);
-        left_is = m.left_is ∙ ap length (sym e) ∙ ap (λ (floor : ℕ). length (open_bounds b floor x.ranges (bare m.twig))) (sym m.floor_is);
+        left_is = m.left_is ∙ sym (length-map (kept_bounds m.twig) (max h.floor)) ∙ ap length (sym e) ∙ ap (λ (floor : ℕ). length (open_bounds b floor x.ranges (bare m.twig))) (sym m.floor_is);
         bound_is = m.bound_is ∙ ap (least_of (loss_of h.best)) (sym e) ∙ ap (λ (floor : ℕ). least_of (loss_of h.best) (open_bounds b floor x.ranges (bare m.twig))) (sym m.floor_is);
       }
 
@@ -127,18 +124,21 @@ module _ (b : Problem) (s : Course) (h : History) (lawful : IsLawful b s h) wher
     each_from P each (n + 1) xs cs m.1 num.1 (omega arith) (λ y at. among y (is_later x xs y at)),
   )
 
-  made_version : (x : PlainBox) (c : Certificate) → Contains s.boxes x → IsMade h x.id c → IsVersion 2 c
-  made_version x c at m = (m.version_is, All-same (FitsVersion 2) c.nodes.items (nodes_of (bare m.twig)) m.nodes_are (grown_fits b s h lawful zero x m.twig at m.grows), λ low. m.floor_is)
+  made_version : (x : PlainBox) (c : Certificate) → Contains s.boxes x → IsMade h x.id c → IsVersionFor h.floor c
+  made_version x c at m = (
+    (m.version_is, All-same (FitsVersion (version_for h.floor)) c.nodes.items (nodes_of (bare m.twig)) m.nodes_are (grown_fits b s h lawful zero x m.twig at m.grows), λ low. m.floor_is ∙ none_before h.floor low),
+    m.floor_is,
+  )
 
-  version_from : (n : ℕ) (xs : List PlainBox) (cs : List Certificate) → AreMade h n cs → numbered n xs → length xs ≡ length cs → ((x : PlainBox) → Contains xs x → Contains s.boxes x) → All (IsVersion 2) cs
-  version_from n xs [] m num same among = All-nil (IsVersion 2)
+  version_from : (n : ℕ) (xs : List PlainBox) (cs : List Certificate) → AreMade h n cs → numbered n xs → length xs ≡ length cs → ((x : PlainBox) → Contains xs x → Contains s.boxes x) → All (IsVersionFor h.floor) cs
+  version_from n xs [] m num same among = All-nil (IsVersionFor h.floor)
   version_from n [] (c ∷ cs) m num same among = absurd (omega arith)
   version_from n (x ∷ xs) (c ∷ cs) m num same among =
-      All-cons (IsVersion 2) c cs
+      All-cons (IsVersionFor h.floor) c cs
       (made_version x c (among x (is_first x xs)) (subst (λ (i : ℕ). IsMade h i c) (sym num.0) m.0))
       (version_from (n + 1) xs cs m.1 num.1 (omega arith) (λ y at. among y (is_later x xs y at)))
 
-  pub all_version : (cs : List Certificate) → AreMade h 0 cs → length cs ≡ h.starts → All (IsVersion 2) cs
+  pub all_version : (cs : List Certificate) → AreMade h 0 cs → length cs ≡ h.starts → All (IsVersionFor h.floor) cs
   all_version cs m whole = version_from 0 s.boxes cs m lawful.start_ids (let e = lawful.starts_are in omega arith) (λ x at. at)
 
   pub all_good : (cs : List Certificate) → AreMade h 0 cs → length cs ≡ h.starts → AreGood b (loss_of h.best) s.boxes cs

@@ -1,7 +1,7 @@
 -- The steps in which a tree is written.
-use Rattle.std.proofs.Common.{◌≡◌, ℕ, ◌+◌, ◌<◌, ◌≤◌, List, [], ◌∷◌, ◌++◌, length, map, refl, sym, ap, ◌∙◌, subst, arith, Option}
+use Rattle.std.proofs.Common.{◌≡◌, ℕ, ◌+◌, ◌<◌, ◌≤◌, List, [], ◌∷◌, ◌++◌, length, map, max, refl, sym, ap, ◌∙◌, subst, arith, Option}
 use Rattle.std.specs.List.{Contains, AllZip}
-use Rattle.std.proofs.lemmas.List.{append-nil, append_assoc, length-append}
+use Rattle.std.proofs.lemmas.List.{append-nil, append_assoc, length-append, map-append}
 use Rattle.std.specs.Prelude.{All}
 use Rattle.std.proofs.lemmas.List.Sums.{fold_push}
 use Rattle.std.proofs.lemmas.List.Elements.{All-contains, Contains-append_left, Contains-append_right}
@@ -146,7 +146,7 @@ module _ (h : History) (once : AreDifferent h) where
   -- a box that was left open
   pub write_left : (id : ℕ) (waiting : List ℕ) (x : ℕ) (nodes : List Node) (least : Option ℕ) (l : Left)
       → IsGrowing h id (waiting ++ x ∷ []) nodes least → Contains h.left.items l → l.bx.id ≡ x
-      → IsGrowing h id waiting (nodes ++ Node.Left ∷ []) (lesser least l.bound)
+      → IsGrowing h id waiting (nodes ++ Node.Left ∷ []) (lesser least (max h.floor l.bound))
   write_left id waiting x nodes least l g at is =
       let r = has_last h waiting x g.twigs g.grow in
       let whole : g.twigs ≡ r.earlier ++ waits l ∷ [] = r.are ∙ ap (λ (u : Twig). r.earlier ++ u ∷ []) (left_tells l x r.last at is r.grows) in
@@ -159,7 +159,10 @@ module _ (h : History) (once : AreDifferent h) where
         nodes_are = append_assoc nodes (Node.Left ∷ []) (nodes_ahead r.earlier) ∙ ap (λ (ns : List Node). nodes ++ ns) (sym n0) ∙ g.nodes_are;
         bounds = g.bounds ++ l.bound ∷ [];
         bounds_are = append_assoc g.bounds (l.bound ∷ []) (bounds_ahead r.earlier) ∙ ap (λ (ns : List ℕ). g.bounds ++ ns) (sym b0) ∙ g.bounds_are;
-        least_is = ap (λ (k : Option ℕ). lesser k l.bound) g.least_is ∙ sym (fold_push lesser (loss_of h.best) g.bounds l.bound);
+        least_is =
+            ap (λ (k : Option ℕ). lesser k (max h.floor l.bound)) g.least_is
+            ∙ sym (fold_push lesser (loss_of h.best) (map (max h.floor) g.bounds) (max h.floor l.bound))
+            ∙ ap (least_of (loss_of h.best)) (sym (map-append (max h.floor) g.bounds (l.bound ∷ [])));
       }
 
 -- at first the whole tree is to come
@@ -184,12 +187,12 @@ write_more h id waiting x nodes least g =
 
 -- where nothing waits, the tree is written
 pub write_all : (h : History) (id : ℕ) (nodes : List Node) (least : Option ℕ) (g : IsGrowing h id [] nodes least)
-    → (nodes ≡ nodes_of (bare g.root.twig)) × (least ≡ least_of (loss_of h.best) (kept_bounds g.root.twig))
+    → (nodes ≡ nodes_of (bare g.root.twig)) × (least ≡ least_of (loss_of h.best) (map (max h.floor) (kept_bounds g.root.twig)))
 write_all h id nodes least g =
     let none = no_twigs g.twigs g.grow in
     let n = sym (append-nil nodes) ∙ ap (λ (ts : List Twig). nodes ++ nodes_ahead ts) (sym none) ∙ g.nodes_are in
     let b = sym (append-nil g.bounds) ∙ ap (λ (ts : List Twig). g.bounds ++ bounds_ahead ts) (sym none) ∙ g.bounds_are in
-    (n, g.least_is ∙ ap (least_of (loss_of h.best)) b)
+    (n, g.least_is ∙ ap (λ (ns : List ℕ). least_of (loss_of h.best) (map (max h.floor) ns)) b)
   where
     no_twigs : (ts : List Twig) → GrowAll h [] ts → ts ≡ []
     no_twigs [] a = refl

@@ -1,5 +1,5 @@
 -- What writing one node changes, by the lists before and after it.
-use Rattle.std.proofs.Common.{◌≡◌, ℕ, ◌+◌, List, [], ◌∷◌, ◌++◌, length, sym, ap, ◌∙◌, subst, refl, cond, Option, Result, Ok, Err, arith}
+use Rattle.std.proofs.Common.{◌≡◌, ℕ, ◌+◌, List, [], ◌∷◌, ◌++◌, length, max, sym, ap, ◌∙◌, subst, refl, cond, Option, Result, Ok, Err, arith}
 use Rattle.std.specs.Prelude.{count_by}
 use Rattle.std.proofs.lemmas.List.Sums.{sum_by-cons, sum_by-append}
 use Rattle.std.specs.Result.{OnOk}
@@ -13,7 +13,7 @@ use Rattle.cert_log.specs.declared.history.Left.{Left}
 use Rattle.cert_log.specs.declared.history.History.{History}
 use Rattle.cert_log.specs.declared.certificate.Node.{Node}
 use Rattle.cert_log.specs.declared.assembling.Growth.{Growth}
-use Rattle.cert_log.specs.Good.{lesser}
+use Rattle.cert_log.specs.Good.{lesser, version_for}
 use Rattle.cert_log.specs.Levels.{lower_id, upper_id}
 use Rattle.cert_log.specs.inner.Growth.{Twig, forks, ends, waits, bare, kept_bounds, AreDifferent, IsGrowing, IsMade}
 use Rattle.cert_log.specs.Lawful.{loss_of}
@@ -53,10 +53,10 @@ module _ (h : History) (once : AreDifferent h) (next : ℕ) (old new : Growth) w
   }
 
   pub writes_left : (l : Left) (kept : ℕ) → Contains h.left.items l → l.bx.id ≡ next → l.bound ≡ kept
-      → new.waiting.items ≡ old.waiting.items → new.nodes.items ≡ old.nodes.items ++ Node.Left ∷ [] → new.bound ≡ lesser old.bound kept → Writes h next old new
+      → new.waiting.items ≡ old.waiting.items → new.nodes.items ≡ old.nodes.items ++ Node.Left ∷ [] → new.bound ≡ lesser old.bound (max h.floor kept) → Writes h next old new
   writes_left l kept at is bound_is w e b = record {
     one = one_more Node.Left e;
-    keeps = λ root g. told h root new.waiting.items old.waiting.items new.nodes.items (old.nodes.items ++ Node.Left ∷ []) new.bound (lesser old.bound l.bound) w e (b ∙ ap (lesser old.bound) (sym bound_is))
+    keeps = λ root g. told h root new.waiting.items old.waiting.items new.nodes.items (old.nodes.items ++ Node.Left ∷ []) new.bound (lesser old.bound (max h.floor l.bound)) w e (b ∙ ap (λ (n : ℕ). lesser old.bound (max h.floor n)) (sym bound_is))
         (write_left h once root old.waiting.items next old.nodes.items old.bound l g at is);
   }
 
@@ -70,7 +70,7 @@ left_count (ends n threshold cause) = refl
 left_count (waits l) = refl
 
 -- where nothing waits, the certificate tells the tree
-pub made : (h : History) (id : ℕ) (c : Certificate) → IsGrowing h id [] c.nodes.items c.bound → c.version ≡ 2 → c.loss ≡ loss_of h.best → c.floor ≡ 0 → c.left ≡ count_by is_left c.nodes.items → IsMade h id c
+pub made : (h : History) (id : ℕ) (c : Certificate) → IsGrowing h id [] c.nodes.items c.bound → c.version ≡ version_for h.floor → c.loss ≡ loss_of h.best → c.floor ≡ h.floor → c.left ≡ count_by is_left c.nodes.items → IsMade h id c
 made h id c g version loss floor left =
     let w = write_all h id c.nodes.items c.bound g in
     record {

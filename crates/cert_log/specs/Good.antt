@@ -1,5 +1,5 @@
 -- When a certificate is right for a box.
-use Rattle.std.specs.Prelude.{◌≡◌, ℕ, ◌≤◌, ◌<◌, ◌⊎◌, max, min, List, [], ◌∷◌, ◌++◌, length, fold, Option, Some, None, IsTrue, All}
+use Rattle.std.specs.Prelude.{◌≡◌, ℕ, ◌≤◌, ◌<◌, ◌⊎◌, ◌==◌, cond, max, min, List, [], ◌∷◌, ◌++◌, length, fold, Option, Some, None, IsTrue, All}
 use Rattle.std.specs.List.{AllZip}
 use Rattle.glass_base.specs.Problem.{Problem}
 use Rattle.cut_model.specs.Lawful.{IsLawful}
@@ -71,6 +71,14 @@ AreGood b loss xs cs = AllZip (λ x c. IsGood b x.ranges loss c) xs cs
 -- the certificate has this version, its closed nodes have what that asks, and it has a floor from version 3 on
 abbrev pub IsVersion : ℕ → Certificate → Type 0
 IsVersion version c = (c.version ≡ version) × All (FitsVersion version) c.nodes.items × (version < 3 → c.floor ≡ 0)
+
+-- the version of a certificate with this floor, where each closed node has its cause
+abbrev pub version_for : ℕ → ℕ
+version_for floor = cond (floor == 0) 2 3
+
+-- it has this floor, and that version
+abbrev pub IsVersionFor : ℕ → Certificate → Type 0
+IsVersionFor floor c = IsVersion (version_for floor) c × (c.floor ≡ floor)
 
 -- it has one of the versions
 abbrev pub HasVersion : Certificate → Type 0

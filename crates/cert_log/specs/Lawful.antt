@@ -16,14 +16,16 @@ use Rattle.cert_log.specs.declared.history.Act.{Act}
 use Rattle.cert_log.specs.declared.history.Note.{Note}
 use Rattle.cert_log.specs.declared.history.Left.{Left}
 use Rattle.cert_log.specs.declared.history.History.{History}
-use Rattle.cert_log.specs.Good.{Reaches}
+use Rattle.cert_log.specs.Good.{IsFloor, Reaches}
 use Rattle.cert_log.specs.Levels.{level, levels_upto}
 
--- what a search was asked: its start boxes, the loss in mm² that it is to beat from the first, and how many boxes it may handle
+-- what a search was asked: its start boxes, the loss in mm² that it is to beat from the first, how many boxes it may handle, and the floor that no
+-- lawful plan is below, 0 where it knows none
 pub record Course : Type 0 where
   pub boxes : List PlainBox
   pub first : ℕ
   pub budget : ℕ
+  pub floor : ℕ
 
 -- stands for no plan where a loss is a number
 abbrev pub no_loss : ℕ
@@ -54,17 +56,17 @@ ids_of h = map (λ n. n.id) h.log.items ++ map (λ l. l.bx.id) h.left.items
 abbrev pub level_of : Course → History → ℕ → List PlainBox
 level_of s h n = level h.starts h.log.items s.boxes n
 
--- a box was closed rightly: for the first reason that applies, or, where none does, by its bound
-abbrev pub ClosedFor : Problem → ℕ → List Ranges → Cause → Type 0
-ClosedFor b threshold rs Cause.Unsaid = ⊥
-ClosedFor b threshold rs Cause.Floor = ⊥
-ClosedFor b threshold rs (Cause.Reason r) = IsFirstReason b rs r
-ClosedFor b threshold rs Cause.Bound = ¬ IsRefuted b rs × Reaches (loss_of threshold) (bound b rs)
+-- a box was closed rightly: for the first reason that applies, or, where none does, by its bound, or by the floor, where there is one
+abbrev pub ClosedFor : Problem → ℕ → ℕ → List Ranges → Cause → Type 0
+ClosedFor b floor threshold rs Cause.Unsaid = ⊥
+ClosedFor b floor threshold rs Cause.Floor = (0 < floor) × Reaches (loss_of threshold) floor
+ClosedFor b floor threshold rs (Cause.Reason r) = IsFirstReason b rs r
+ClosedFor b floor threshold rs Cause.Bound = ¬ IsRefuted b rs × Reaches (loss_of threshold) (bound b rs)
 
 -- a box was handled rightly, where `first` was to be beaten at first and `best` at last
-abbrev pub Handled : Problem → ℕ → ℕ → List Ranges → Act → Type 0
-Handled b first best rs (Act.Split step v) = ¬ IsRefuted b rs × (bound b rs < first) × IsTrue (is_free rs step v)
-Handled b first best rs (Act.Closed cause threshold) = ClosedFor b threshold rs cause × (best ≤ threshold) × (threshold ≤ first)
+abbrev pub Handled : Problem → ℕ → ℕ → ℕ → List Ranges → Act → Type 0
+Handled b floor first best rs (Act.Split step v) = ¬ IsRefuted b rs × (bound b rs < first) × IsTrue (is_free rs step v)
+Handled b floor first best rs (Act.Closed cause threshold) = ClosedFor b floor threshold rs cause × (best ≤ threshold) × (threshold ≤ first)
 
 -- the loss of a trace of these steps, in mm²: what its length has beside the items
 abbrev pub trace_loss : Problem → List Step → ℕ
@@ -89,13 +91,16 @@ pub record IsLawful (b : Problem) (s : Course) (h : History) : Type 0 where
   pub same_ids : (weight : ℕ → ℕ) → sum_by weight (ids_of h) ≡ sum_by weight (map (λ x. x.id) (levels_upto h.starts h.log.items s.boxes depth))
   pub each_once : (x : ℕ) → times x (ids_of h) ≤ 1
   -- the box of each note was handled rightly
-  pub handled : (n : ℕ) (x : PlainBox) (m : Note) → Contains (level_of s h n) x → Contains h.log.items m → m.id ≡ x.id → Handled b s.first h.best x.ranges m.act
+  pub handled : (n : ℕ) (x : PlainBox) (m : Note) → Contains (level_of s h n) x → Contains h.log.items m → m.id ≡ x.id → Handled b h.floor s.first h.best x.ranges m.act
   -- each left box is the level's box of its identity, kept with its bound
   pub left_is : (n : ℕ) (x : PlainBox) (l : Left) → Contains (level_of s h n) x → Contains h.left.items l → l.bx.id ≡ x.id → l.bx ≡ x
   pub bounds : (l : Left) → Contains h.left.items l → l.bound ≡ bound b l.bx.ranges
   -- the best loss is that of the plan
   pub best_is : IsBest b h.best h.plan
   pub best_first : h.best ≤ s.first
+  -- no lawful plan loses less than the floor
+  pub floor_is : h.floor ≡ s.floor
+  pub least_is : IsFloor b h.floor
   -- a box is left open only where the budget is spent
   pub spent : h.left.items ≢ [] → length h.log.items ≡ s.budget
 

@@ -1,7 +1,7 @@
 //! Certificates are put together from a history, whose notes may come in any order: one walk over the tree of each start box.
 
 ghost use Rattle.std.specs.Prelude.{◌≡◌, ◌+◌, ◌*◌, ◌<◌, length, sum_by, count_by, All, IfSome, IfOk, OnOk};
-ghost use Rattle.cert_log.specs.Good.{lesser, AreGood, IsVersion};
+ghost use Rattle.cert_log.specs.Good.{lesser, version_for as version_of, AreGood, IsVersionFor};
 ghost use Rattle.cert_log.specs.inner.Growth.{AreDifferent, IsMade, IsRooted};
 ghost use Rattle.cert_log.specs.Lawful.{Course, HasCourse, IsLawful, ids_of, loss_of};
 ghost use Rattle.cert_log.specs.inner.Places.{IsIndexed};
@@ -54,7 +54,7 @@ pub(crate) struct Growth {
     /// The identities whose trees are still to come, the next one last.
     waiting: Run<u64>,
     nodes: Run<Node>,
-    /// The least of the loss and of the bounds of the open nodes.
+    /// The least of the loss and of the bounds of the open nodes, each raised to the floor.
     bound: Option<u64>,
 }
 
@@ -82,24 +82,31 @@ fn write_node(
             Act::Closed { cause, .. } => append(&mut growth.nodes, Node::Closed(cause)),
         },
         Entry::Open(kept) => {
-            growth.bound = with_bound(growth.bound, kept);
+            growth.bound = with_bound(growth.bound, history.floor.max(kept));
             append(&mut growth.nodes, Node::Left)
         }
     }
 }
 
-/// The certificate of version 2 of these nodes.
-fn with_nodes(loss: Option<u64>, bound: Option<u64>, nodes: Run<Node>) -> Certificate
-    ensures made { result ≡ record { version = 2; loss = loss; bound = bound; left = count_by is_left nodes.items; floor = 0; nodes = nodes } }
+/// The version of a certificate with this floor, where each closed node has its cause: a floor is said in version 3.
+fn version_for(floor: u64) -> u32
+    ensures { result ≡ version_of floor }
+{
+    if floor == 0 { 2 } else { 3 }
+}
+
+/// The certificate of these nodes.
+fn with_nodes(loss: Option<u64>, bound: Option<u64>, floor: u64, nodes: Run<Node>) -> Certificate
+    ensures made { result ≡ record { version = version_of floor; loss = loss; bound = bound; left = count_by is_left nodes.items; floor = floor; nodes = nodes } }
     ensures head { IsHead (head_of result) }
 {
     let left = count_left(nodes.as_slice());
     Certificate {
-        version: 2,
+        version: version_for(floor),
         loss,
         bound,
         left,
-        floor: 0,
+        floor,
         nodes,
     }
 }
@@ -138,7 +145,7 @@ fn certificate_of(
     while let Some(next) = growth.waiting.pop() {
         write_node(history, places, &mut growth, next)?;
     }
-    Ok(with_nodes(loss, growth.bound, growth.nodes))
+    Ok(with_nodes(loss, growth.bound, history.floor, growth.nodes))
 }
 
 /// The number of identities that the start boxes and the halves of the noted boxes can have, or none where it is too large.
@@ -151,8 +158,8 @@ fn identities(history: &History) -> Option<usize>
         .checked_add(notes)
 }
 
-/// The certificates of the start boxes, in their order. Together they have one node for each note and each left box. The numbers of each
-/// fit in 64 bits, so that its text can be read again.
+/// The certificates of the start boxes, in their order: of version 2, or of version 3 where there is a floor. Together they have one node for each note and each left box. The
+/// numbers of each fit in 64 bits, so that its text can be read again.
 pub fn assemble(
     alloc: Global,
     instance: &Instance,
@@ -163,7 +170,7 @@ pub fn assemble(
     ensures searched { IfOk result (λ cs. (s : Course) → IsLawful instance.now s history.now → AreSearched instance.now s.first s.boxes cs.items) }
     ensures nodes { IfOk result (λ cs. sum_by (λ c. length c.nodes.items) cs.items ≡ length history.now.log.items + length history.now.left.items) }
     ensures left { IfOk result (λ cs. sum_by (λ c. c.left) cs.items ≡ length history.now.left.items) }
-    ensures version { IfOk result (λ cs. All (IsVersion 2) cs.items) }
+    ensures version { IfOk result (λ cs. All (IsVersionFor history.now.floor) cs.items) }
     ensures heads { IfOk result (λ cs. All (λ c. IsHead (head_of c)) cs.items) }
 {
     let room = identities(history).ok_or(Memory)?;

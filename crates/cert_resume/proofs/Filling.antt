@@ -7,8 +7,9 @@ use Rattle.std.proofs.lemmas.List.Sums.{sum_by-cons}
 use Rattle.cert_log.specs.declared.certificate.Certificate.{Certificate}
 use Rattle.cert_log.specs.declared.certificate.Node.{Node}
 use Rattle.cert_log.specs.declared.history.Cause.{Cause}
-use Rattle.cert_log.specs.Good.{IsVersion}
+use Rattle.cert_log.specs.Good.{IsVersion, IsVersionFor, version_for}
 use Rattle.cert_log.specs.Trees.{FitsVersion, is_left}
+use Rattle.cert_log.proofs.Versions.{no_later, two_or_three}
 use Rattle.cert_resume.specs.Joins.{filled, nodes_in}
 
 fills_all : (P : Node → Type 0) (nodes : List Node) (parts : List (List Node)) → All P nodes → All (All P) parts → All P (filled nodes parts)
@@ -19,26 +20,27 @@ fills_all P (Node.Left ∷ nodes) [] h k = All-cons P Node.Left (filled nodes []
 fills_all P (Node.Left ∷ nodes) (part ∷ parts) h k =
     All-append P part (filled nodes parts) (All-head (All P) part parts k) (fills_all P nodes parts (All-tail P Node.Left nodes h) (All-tail (All P) part parts k))
 
--- a node of version 2 is one of each later version
-fits_later : (version : ℕ) (node : Node) → 2 ≤ version → FitsVersion 2 node → FitsVersion version node
-fits_later version (Node.Split step v) later fits = tt
-fits_later version (Node.Closed Cause.Unsaid) later fits = absurd (omega (arith, fits))
-fits_later version (Node.Closed Cause.Floor) later fits = absurd (omega (arith, fits))
-fits_later version (Node.Closed Cause.Bound) later fits = later
-fits_later version (Node.Closed (Cause.Reason r)) later fits = later
-fits_later version Node.Left later fits = tt
+-- a node of a version that names the causes is one of each later version
+fits_later : (version later : ℕ) (node : Node) → 2 ≤ version → version ≤ later → FitsVersion version node → FitsVersion later node
+fits_later version later (Node.Split step v) second le fits = tt
+fits_later version later (Node.Closed Cause.Unsaid) second le fits = absurd (omega (arith, second, fits))
+fits_later version later (Node.Closed Cause.Floor) second le fits = omega (arith, le, fits)
+fits_later version later (Node.Closed Cause.Bound) second le fits = omega (arith, second, le)
+fits_later version later (Node.Closed (Cause.Reason r)) second le fits = omega (arith, second, le)
+fits_later version later Node.Left second le fits = tt
 
 -- the causes of the nodes stay those of the version
-pub fills_version : (c : Certificate) (parts : List Certificate) → 2 ≤ c.version → IsVersion c.version c → All (IsVersion 2) parts → All (FitsVersion c.version) (filled c.nodes.items (nodes_in parts))
-fills_version c parts later version versions =
+pub fills_version : (c : Certificate) (parts : List Certificate) → 2 ≤ c.version → IsVersion c.version c → All (IsVersionFor c.floor) parts → All (FitsVersion c.version) (filled c.nodes.items (nodes_in parts))
+fills_version c parts second version versions =
+    let own = version_for c.floor in let names = two_or_three c.floor in let le = no_later c.floor c.version second version.2 in
     fills_all (FitsVersion c.version) c.nodes.items (nodes_in parts) version.1
     (All-map (All (FitsVersion c.version)) (λ (p : Certificate). p.nodes.items) parts
-    (All-weaker (IsVersion 2) (λ (p : Certificate). All (FitsVersion c.version) p.nodes.items)
-    (λ p is. All-weaker (FitsVersion 2) (FitsVersion c.version) (λ node fits. fits_later c.version node later fits) p.nodes.items is.1) parts versions))
+    (All-weaker (IsVersionFor c.floor) (λ (p : Certificate). All (FitsVersion c.version) p.nodes.items)
+    (λ p is. All-weaker (FitsVersion own) (FitsVersion c.version) (λ node fits. fits_later own c.version node names le fits) p.nodes.items is.0.1) parts versions))
 
--- they have no floor
-pub no_floors : (floor : ℕ) (parts : List Certificate) → All (IsVersion 2) parts → All (λ (p : Certificate). p.floor ≤ floor) parts
-no_floors floor parts versions = All-weaker (IsVersion 2) (λ (p : Certificate). p.floor ≤ floor) (λ p is. omega (arith, is.2 (omega arith))) parts versions
+-- their floors are no greater
+pub low_floors : (floor : ℕ) (parts : List Certificate) → All (IsVersionFor floor) parts → All (λ (p : Certificate). p.floor ≤ floor) parts
+low_floors floor parts versions = All-weaker (IsVersionFor floor) (λ (p : Certificate). p.floor ≤ floor) (λ p is. omega (arith, is.1)) parts versions
 
 -- one for an open node
 abbrev one : Node → ℕ

@@ -3,7 +3,7 @@
 ghost use Rattle.std.specs.Prelude.{◌≡◌, ◌+◌, ◌<◌, ◌≤◌, ◌^◌, ◌∷◌, ◌++◌, List, All, IfOk, count_by, fold, length, map, sum_by};
 ghost use Rattle.cert_log.specs.declared.certificate.Certificate.{Certificate as CertificateOf};
 ghost use Rattle.cert_log.specs.declared.certificate.Node.{Node as NodeOf};
-ghost use Rattle.cert_log.specs.Good.{HasVersion, IsVersion, lesser};
+ghost use Rattle.cert_log.specs.Good.{HasVersion, IsVersionFor, lesser};
 ghost use Rattle.cert_log.specs.Outcomes.{IsHead};
 ghost use Rattle.cert_log.specs.Texts.{head_of};
 ghost use Rattle.cert_log.specs.Trees.{is_left};
@@ -109,7 +109,7 @@ fn fill_all(alloc: Global, nodes: &[Node], parts: &[Certificate]) -> Result<Run<
 /// The certificate with the tree of a part in the place of each open node, in their order, for this loss.
 ///
 /// Where the certificate is right for a box and a loss that is no less, and each part is right for its open box and this loss, what comes
-/// is right for the box and this loss. Its version and its floor are kept. Only want of memory is refused. It takes time and memory linear in the nodes.
+/// is right for the box and this loss. Its version and its floor, which the parts have too, are kept. Only want of memory is refused. It takes time and memory linear in the nodes.
 pub fn join(
     alloc: Global,
     cert: &Certificate,
@@ -118,7 +118,7 @@ pub fn join(
 ) -> Result<Certificate, Memory>
     requires version { HasVersion cert.now }
     requires later { 2 ≤ cert.now.version }
-    requires versions { All (IsVersion 2) parts.items }
+    requires versions { All (IsVersionFor cert.now.floor) parts.items }
     requires parts { length parts.items ≡ count_by is_left cert.now.nodes.items }
     requires left { sum_by (λ (p : CertificateOf). p.left) parts.items < 2 ^ 64 }
     ensures joined { IfOk result (IsJoined cert.now parts.items loss) }

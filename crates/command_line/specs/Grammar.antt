@@ -51,7 +51,7 @@ pattern_of verb.Plan = record {
   stores = product.Plan ∷ product.Certificate ∷ [];
   options = role.Params ∷ role.Plates ∷ [];
   counts = count.Workers ∷ count.Budget ∷ [];
-  flags = flag.Watch ∷ [];
+  flags = flag.Watch ∷ flag.Fronts ∷ [];
 }
 pattern_of verb.Gen = record {
   word = codes "gen";
@@ -61,7 +61,7 @@ pattern_of verb.Gen = record {
   stores = product.Plan ∷ product.Certificate ∷ [];
   options = [];
   counts = count.Workers ∷ count.Budget ∷ [];
-  flags = [];
+  flags = flag.Fronts ∷ [];
 }
 pattern_of verb.Judge = record {
   word = codes "judge";
@@ -223,6 +223,7 @@ count_needs count.Frozen = Some role.Plan
 -- the word of an option that has no value
 abbrev pub flag_word : Flag → List ℕ
 flag_word flag.Watch = codes "--watch"
+flag_word flag.Fronts = codes "--fronts"
 
 -- a zero stands before other digits
 abbrev pub has_leading_zero : List ℕ → Bool

@@ -122,6 +122,8 @@ pub enum Count {
 pub enum Flag {
     /// The improvements of a search are printed as well.
     Watch,
+    /// A search begins with what fronts show.
+    Fronts,
 }
 
 /// What the words of a command are: its own word, then a number for each of `leads`, a name for each file that it reads and for each that
@@ -191,7 +193,7 @@ impl Verb {
                 stores: &[Product::Plan, Product::Certificate],
                 options: &[Role::Params, Role::Plates],
                 counts: &[Count::Workers, Count::Budget],
-                flags: &[Flag::Watch],
+                flags: &[Flag::Watch, Flag::Fronts],
             },
             Verb::Gen => Form {
                 word: "gen",
@@ -201,7 +203,7 @@ impl Verb {
                 stores: &[Product::Plan, Product::Certificate],
                 options: &[],
                 counts: &[Count::Workers, Count::Budget],
-                flags: &[],
+                flags: &[Flag::Fronts],
             },
             Verb::Judge => Form {
                 word: "judge",
@@ -367,6 +369,7 @@ pub(crate) fn flag_word(flag: Flag) -> &'static str
 {
     match flag {
         Flag::Watch => "--watch",
+        Flag::Fronts => "--fronts",
     }
 }
 

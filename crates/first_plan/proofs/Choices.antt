@@ -1,5 +1,5 @@
-use Rattle.std.proofs.Common.{◌≤◌, ℕ, List, subst}
-use Rattle.std.specs.Prelude.{Option, Some, None, IfSome, Result, Ok, Err, MatchResult}
+use Rattle.std.proofs.Common.{◌≤◌, ℕ, List, arith, subst}
+use Rattle.std.specs.Prelude.{Option, Some, None, IfNone, IfSome, Result, Ok, Err, MatchResult}
 use Rattle.std.specs.Result.{result_ok}
 use Rattle.glass_base.specs.Problem.{Problem}
 use Rattle.cut_model.specs.declared.steps.Step.{Step}
@@ -28,3 +28,17 @@ pub shorter_is_first : (b : Problem) (drafted : Result Trace ℕ) (found better 
 shorter_is_first b drafted found None is complete best = tt
 shorter_is_first b (Ok trace) found (Some better) is complete best = is_first b better.steps.items trace.steps.items complete is best.as_short_as_first
 shorter_is_first b (Err number) found (Some better) is complete best = is_first_without b number better.steps.items is complete
+
+-- the better of a first plan and another trace is a first plan
+pub better_is_first : (b : Problem) (first other better : Option Trace) → IfSome first (λ trace. IsFirstPlan b trace.steps.items) → IfNone first ((number : ℕ) × HasNoDraft b number)
+    → IfSome better (λ trace. IsComplete b trace.steps.items) → IsBetterOf b first other better → IfSome better (λ trace. IsFirstPlan b trace.steps.items)
+better_is_first b first other None plan none complete best = tt
+better_is_first b None other (Some better) plan none complete best = is_first_without b none.0 better.steps.items none.1 complete
+better_is_first b (Some first) other (Some better) plan none complete best =
+    record { complete = complete; no_longer = λ drafted is. omega (arith, best.as_short_as_first, plan.no_longer drafted is) }
+
+-- there is none only where there was no first plan
+pub better_is_none : (b : Problem) (first other better : Option Trace) → IfNone first ((number : ℕ) × HasNoDraft b number) → IsBetterOf b first other better
+    → IfNone better ((number : ℕ) × HasNoDraft b number)
+better_is_none b first other None none best = subst (λ (o : Option Trace). IfNone o ((number : ℕ) × HasNoDraft b number)) best.0 none
+better_is_none b first other (Some better) none best = tt

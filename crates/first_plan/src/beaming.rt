@@ -29,14 +29,60 @@ fn checked(instance: &Instance, map: &DefectMap, found: Option<Found>) -> Option
 }
 
 /// The trace that was found, if one was.
-fn trace_in(found: Option<Found>) -> Option<Trace>
+pub(crate) fn trace_in(found: Option<Found>) -> Option<Trace>
     ensures { result ≡ option_map (λ found. found.trace) found }
 {
     Some(found?.trace)
 }
 
-/// The better trace of two beams that has a step for each item and meets the rules, if they find one: of a narrow beam, which takes a
-/// sixteenth of the ticks, and of a wide one.
+/// The loss in mm² of what was found, if something was.
+pub(crate) fn loss_in(found: &Option<Found>) -> Option<u64>
+    ensures { result ≡ option_map (λ found. found.loss) found.now }
+{
+    match found {
+        Some(found) => Some(found.loss),
+        None => None,
+    }
+}
+
+/// How many ticks of all the narrow beam has.
+fn narrow_part(ticks: u64) -> u64 {
+    ticks / 16
+}
+
+/// What a narrow beam finds, where its trace has a step for each item and meets the rules. It takes a sixteenth of the ticks.
+pub(crate) fn narrow_plan(
+    alloc: Global,
+    instance: &Instance,
+    map: &DefectMap,
+    beams: &Beams,
+    ticks: u64,
+) -> Result<Option<Found>, Memory>
+    requires map { map.now ≡ instance.now.defects }
+    ensures { IfOk result (λ found. IfSome found (λ found. IsComplete instance.now found.trace.steps.items)) }
+{
+    let found = beams.first(alloc, instance, narrow_part(ticks))?;
+    Ok(checked(instance, map, found))
+}
+
+/// What a wide beam finds with the other ticks, where the narrow one lost so much, if its trace has a step for each item and meets the rules.
+pub(crate) fn wide_plan(
+    alloc: Global,
+    instance: &Instance,
+    map: &DefectMap,
+    beams: &Beams,
+    lost: Option<u64>,
+    ticks: u64,
+) -> Result<Option<Trace>, Memory>
+    requires map { map.now ≡ instance.now.defects }
+    ensures { IfOk result (λ found. IfSome found (λ trace. IsComplete instance.now trace.steps.items)) }
+{
+    let wide = ticks.saturating_sub(narrow_part(ticks));
+    let found = beams.second(alloc, instance, lost, wide)?;
+    Ok(trace_in(checked(instance, map, found)))
+}
+
+/// The better trace of two beams that has a step for each item and meets the rules, if they find one: of a narrow beam, and of a wide one.
 pub(crate) fn beam_plan(
     alloc: Global,
     instance: &Instance,
@@ -48,14 +94,8 @@ pub(crate) fn beam_plan(
     ensures { IfOk result (λ found. IfSome found (λ trace. IsComplete instance.now trace.steps.items)) }
 {
     let beams = Beams::new(alloc, instance)?;
-    let narrow = ticks / 16;
-    let first = beams.first(alloc, instance, narrow)?;
-    let first = checked(instance, map, first);
-    let lost = match &first {
-        Some(found) => Some(found.loss),
-        None => None,
-    };
-    let second = beams.second(alloc, instance, lost, ticks.saturating_sub(narrow))?;
-    let second = checked(instance, map, second);
-    Ok(better_of(instance, trace_in(first), trace_in(second)))
+    let narrow = narrow_plan(alloc, instance, map, &beams, ticks)?;
+    let lost = loss_in(&narrow);
+    let wide = wide_plan(alloc, instance, map, &beams, lost, ticks)?;
+    Ok(better_of(instance, trace_in(narrow), wide))
 }

@@ -17,7 +17,7 @@ use plan_draft::draft;
 use std::alloc::Global;
 
 /// The effort of the beams for so many items, in ticks of about 30 ns: one second up to 100 items, eight for 800.
-fn effort(items: usize) -> u64 {
+pub(crate) fn effort(items: usize) -> u64 {
     let many = items as u64;
     if many <= 100 {
         30_000_000
@@ -44,6 +44,22 @@ fn shorter(instance: &Instance, found: Option<Trace>, drafted: Result<Trace, u32
     }
 }
 
+/// The first plan: that of the beams or the draft.
+pub(crate) fn first_of(
+    instance: &Instance,
+    found: Option<Trace>,
+    drafted: Result<Trace, u32>,
+) -> Option<Trace>
+    requires problem { IsProblem instance.now }
+    requires found { IfSome found (λ trace. IsComplete instance.now trace.steps.items) }
+    requires drafted { MatchResult drafted (λ trace. IsDraft instance.now trace.steps.items) (HasNoDraft instance.now) }
+    requires complete { IfOk drafted (λ trace. IsComplete instance.now trace.steps.items) }
+    ensures plan { IfSome result (λ trace. IsFirstPlan instance.now trace.steps.items) }
+    ensures none { IfNone result ((number : ℕ) × HasNoDraft instance.now number) }
+{
+    shorter(instance, found, drafted)
+}
+
 /// A first plan: a trace with a step for each item that meets the rules and takes no more glass than the draft. There is none
 /// only where there is no draft; a draft that is missing does not mean that there is no first plan.
 ///
@@ -61,5 +77,5 @@ pub fn first_plan(
     let ticks = effort(instance.items().len());
     let found = beam_plan(alloc, instance, map, ticks)?;
     let drafted = draft(alloc, instance, map)?;
-    Ok(shorter(instance, found, drafted))
+    Ok(first_of(instance, found, drafted))
 }

@@ -12,7 +12,7 @@ use loss_area::length;
 use plan_trace::laws::traces_keep_their_kinds;
 
 /// How much glass a trace takes that has a step for each item and meets the rules, in mm.
-fn length_of_plan(instance: &Instance, trace: &Trace) -> u64
+pub(crate) fn length_of_plan(instance: &Instance, trace: &Trace) -> u64
     requires problem { IsProblem instance.now }
     requires complete { IsComplete instance.now trace.now.steps.items }
     ensures { result ≡ length_of instance.now trace.now.steps.items }

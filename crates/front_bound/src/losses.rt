@@ -14,11 +14,11 @@ use std::alloc::Global;
 pub const LABELS: u64 = 1_000_000_000;
 
 /// Longer than every plan, in mm.
-const LONGEST: u64 = 5_000_000_000;
+pub const LONGEST: u64 = 5_000_000_000;
 
-/// The loss of a plan of this length, in mm².
+/// The loss in mm² of a plan of this length, which is at most `LONGEST`, in mm.
 #[tactic(auto, using(plan_box::proofs::LeastLengths::height_times))]
-fn loss_of_length(instance: &Instance, length: u64) -> u64
+pub fn loss_of_length(instance: &Instance, length: u64) -> u64
     requires { length ≤ 5000000000 }
     ensures { result ≡ instance.now.params.height * length - area_of instance.now.items }
 {

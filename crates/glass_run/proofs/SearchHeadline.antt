@@ -11,6 +11,7 @@ use Rattle.plan_box.specs.Ranges.{Ranges}
 use Rattle.cert_log.specs.declared.certificate.Certificate.{Certificate}
 use Rattle.cert_log.specs.Good.{IsGood, least_of, open_bounds}
 use Rattle.cert_log.proofs.GoodNodes.{good_counts, no_larger_than_full}
+use Rattle.cert_log.proofs.Versions.{has_version}
 use Rattle.run_frame.specs.Answers.{Answer}
 use Rattle.glass_run.specs.Commands.{Answers, AnswersInstance, cert_name, plan_name}
 use Rattle.command_line.specs.Grammar.{Line, count_in, flag_in}
@@ -29,7 +30,7 @@ use Rattle.command_line.specs.declared.grammar.Verb.TheVariants as verb
 use Rattle.run_frame.specs.declared.status.Status.{Status}
 use Rattle.run_frame.specs.declared.status.Status.TheVariants as status
 use Rattle.glass_run.proofs.Headlines.{Says, completed_says, rules_of}
-use Rattle.run_search.proofs.StoredTexts.{CanBeRead, is_text, second_floor, second_version, verified}
+use Rattle.run_search.proofs.StoredTexts.{CanBeRead, is_text, verified, verified_or}
 use Rattle.run_frame.proofs.Statuses.{IsRefused}
 
 -- a run that ended as a search did what its answer says
@@ -112,7 +113,7 @@ no_open b c budget depth good spent is enough some =
 
 -- both commands answer so
 plans_by : (search : Verb) → IsSearch search → (line : Line) (texts : Texts) (b : Problem) (answer : Answer) → AnswersInstance search line texts b answer →
-    PlansWithin b (count_in line count.Budget) (flag_in line flag.Watch) (plan_name line) (cert_name line) answer
+    PlansWithin b (count_in line count.Budget) (flag_in line flag.Watch) (flag_in line flag.Fronts) (plan_name line) (cert_name line) answer
 plans_by verb.Draft is line texts b answer h = absurd is
 plans_by verb.Plan is line texts b answer h = h
 plans_by verb.Gen is line texts b answer h = h
@@ -146,7 +147,7 @@ can_be_read b budget c plan problem work found =
     record {
       problem = problem;
       said = found.said.plan_is;
-      text = is_text b c problem found.good (second_version c found.version) (omega (arith, found.in_budget, most, work)) found.said.reading.begins.head;
+      text = is_text b c problem found.good (has_version c.floor c (found.version, refl)) (omega (arith, found.in_budget, most, work)) found.said.reading.begins.head;
       plan_is = found.plan_is;
       good = found.good;
     }
@@ -155,7 +156,7 @@ stores_search : (line : Line) (held : Contents) (old new : World) (answer : Answ
     Stands answer.stores old.shelf.contents new.shelf.contents → Prints answer.lines old.paper new.paper → StoresSearch line held old new result
 stores_search line held old new answer result search searches of end is s stored prints =
     let budget = count_in line count.Budget in
-    let plans : PlansWithin s.b budget (flag_in line flag.Watch) (plan_name line) (cert_name line) answer = plans_by search searches line s.texts s.b answer (subst (λ (v : Verb). AnswersInstance v line s.texts s.b answer) of s.answers) in
+    let plans : PlansWithin s.b budget (flag_in line flag.Watch) (flag_in line flag.Fronts) (plan_name line) (cert_name line) answer = plans_by search searches line s.texts s.b answer (subst (λ (v : Verb). AnswersInstance v line s.texts s.b answer) of s.answers) in
     elim plans [
       | inl p ↦
           let found = p.1.found in
@@ -172,8 +173,16 @@ stores_search line held old new answer result search searches of end is s stored
             prints = subst (λ (a : Answer). Prints a.lines old.paper new.paper) p.1.answer_is prints;
             improvements = p.1.improvements;
             good = found.good;
-            accepted = accepts_good s.b (root_ranges s.b) c.loss c found.good (second_floor c found.version);
-            verified = verified s.b p.1.plan c (can_be_read s.b budget c p.1.plan (rules_of line.verb line s.texts s.b s.reads.instance_is) p.0 found) (second_floor c found.version);
+            accepted = accepts_or s.b (root_ranges s.b) c.loss c found.good;
+            verified = verified_or s.b p.1.plan c (can_be_read s.b budget c p.1.plan (rules_of line.verb line s.texts s.b s.reads.instance_is) p.0 found);
+            unasked = λ off.
+                let none = p.1.unasked off in (
+                  none,
+                  record {
+                    checked = accepts_good s.b (root_ranges s.b) c.loss c found.good none;
+                    verified = verified s.b p.1.plan c (can_be_read s.b budget c p.1.plan (rules_of line.verb line s.texts s.b s.reads.instance_is) p.0 found) none;
+                  },
+                );
             readable = found.readable;
             plan_is = found.plan_is;
             to_beat = found.to_beat;

@@ -1,5 +1,5 @@
 -- What a user may conclude from how a run ended.
-use Rattle.std.specs.Prelude.{◌≡◌, ◌≢◌, ◌↔◌, ◌⊎◌, ◌+◌, ◌-◌, ◌^◌, ◌<◌, ◌≤◌, ℕ, List, length, Option, Some, None, Ok, option_map, codes}
+use Rattle.std.specs.Prelude.{◌≡◌, ◌≢◌, ◌↔◌, ◌⊎◌, ◌+◌, ◌-◌, ◌^◌, ◌<◌, ◌≤◌, ℕ, List, length, Option, Some, None, Ok, option_map, codes, false}
 use Rattle.glass_base.specs.Problem.{Problem}
 use Rattle.glass_base.specs.declared.role.Role.TheVariants as role
 use Rattle.glass_io.specs.Told.{Contents, SameContents, Stored}
@@ -128,6 +128,11 @@ IsSearchEnd _ = ⊥
 abbrev pub MissesFloor : Certificate → Verdict → Type 0
 MissesFloor c verdict = (found : ℕ) × (found < c.floor) × (verdict ≡ Verdict.Refuse 1 (Why.WrongFloor c.floor found))
 
+-- a check of the certificate accepts it, and so does `verify` of the two texts, if there is a plan, and else of the certificate alone
+pub record IsAcceptedAgain (b : Problem) (plan : Option Forest) (certificate : Certificate) : Type 0 where
+  pub checked : (verdict : Verdict) → CheckAnswers b (root_ranges b) certificate.loss certificate verdict → verdict ≡ Verdict.Accept certificate.bound certificate.left
+  pub verified : (answer : Answer) → Verifies b (option_map (solution_text b) plan) (cert_text certificate) answer → answer ≡ accepted_answer certificate
+
 -- what a search found is stored and printed
 pub record StoresSearch (line : Line) (held : Contents) (old new : World) (result : Status) : Type 0 where
   pub texts : Texts
@@ -141,10 +146,11 @@ pub record StoresSearch (line : Line) (held : Contents) (old new : World) (resul
   pub stored : Stands (planned b (plan_name line) (cert_name line) certificate plan told).stores old.shelf.contents new.shelf.contents
   pub prints : Prints (search_lines certificate (option_map neighbour_count plan) told) old.paper new.paper
   pub good : IsGood b (root_ranges b) certificate.loss certificate
-  -- a check of it accepts it
-  pub accepted : (verdict : Verdict) → CheckAnswers b (root_ranges b) certificate.loss certificate verdict → verdict ≡ Verdict.Accept certificate.bound certificate.left
-  -- `verify` of the two texts, if there is a plan, and else of the certificate alone, accepts them, and prints this bound and this number of open boxes
-  pub verified : (answer : Answer) → Verifies b (option_map (solution_text b) plan) (cert_text certificate) answer → answer ≡ accepted_answer certificate
+  -- a check of it accepts it, and `verify` of the two texts, if there is a plan, and else of the certificate alone, accepts them, and prints this bound and
+  -- this number of open boxes; with `--fronts` they may not show its floor again: never where that is 0, as without `--fronts`
+  pub accepted : (verdict : Verdict) → CheckAnswers b (root_ranges b) certificate.loss certificate verdict → (verdict ≡ Verdict.Accept certificate.bound certificate.left) ⊎ MissesFloor certificate verdict
+  pub verified : (answer : Answer) → Verifies b (option_map (solution_text b) plan) (cert_text certificate) answer → (answer ≡ accepted_answer certificate) ⊎ NotShown certificate answer
+  pub unasked : flag_in line flag.Fronts ≡ false → (certificate.floor ≡ 0) × IsAcceptedAgain b plan certificate
   -- both texts are no longer than those that are read
   pub readable : AreReadable (option_map (solution_text b) plan) (cert_text certificate)
   -- a printed plan is lawful and has the printed loss

@@ -27,7 +27,7 @@ pub fn missing_drafts_are_true()
 
 /// Where `plan` or `gen` ends with `optimal`, `stopped` or `infeasible`: a printed plan is lawful and has the printed loss, and OUT holds its text;
 /// CERT holds the text of a certificate that is right for the box of all plans, so that a check accepts it, and `verify` of the two stored texts accepts them
-/// with the printed bound and the printed number of open boxes; every lawful plan loses at least the printed bound; the status is that of the certificate:
+/// with the printed bound and the printed number of open boxes, or, with `--fronts`, does not show its floor again; every lawful plan loses at least the printed bound; the status is that of the certificate:
 /// `optimal` or `infeasible` exactly where no box is left open, by whether there is a plan; `stopped` only where exactly the budgeted number of boxes was
 /// closed or split; the plan is never worse than the draft. No box was split that is refuted, or whose bound reaches the loss of the plan with which the
 /// search began, if it began with one; that is never above the draft's. Where improvements are printed, the first one is that loss, and the last one is

@@ -42,7 +42,8 @@ fn reply_by_search<R: Threads + Wait + Sync, G: Gate + Sync>(
     match line.verb {
         Verb::Plan | Verb::Gen => {
             let watch = line.flag(Flag::Watch);
-            plan_instance(rt, alloc, instance, workers, budget, watch, gate)
+            let fronts = line.flag(Flag::Fronts);
+            plan_instance(rt, alloc, instance, workers, budget, watch, fronts, gate)
         }
         Verb::Resume => {
             let plan = text_of_role(texts, Role::Plan);
@@ -150,8 +151,8 @@ fn run_line<R: Threads + Wait + Sync, F: Files, S: Sink, G: Gate + Sync>(
 /// `draft` stores the plan of the draft of a batch, on plates without defects. `plan` searches for a plan that loses little, closing or splitting
 /// as many boxes as `--budget=` says at the most, with as many workers as `--workers=` says; it stores the best plan and the certificate of the
 /// search, and prints how the search ended, the loss, the bound on the loss of every lawful plan, the number of plates, and how many boxes were
-/// handled and are open; with `--watch` also the losses of the plans that it came by. `gen` does the same with an instance that is drawn from
-/// numbers. `resume` goes on from a certificate, `freeze` plans anew what stands behind the first plates of a plan. `judge` judges anybody's
+/// handled and are open; with `--watch` also the losses of the plans that it came by; with `--fronts` it begins with what fronts show. `gen` does the same with an instance that is
+/// drawn from numbers. `resume` goes on from a certificate, `freeze` plans anew what stands behind the first plates of a plan. `judge` judges anybody's
 /// solution file: it prints the loss of a lawful plan, or the first rule that the plan breaks. `verify` checks a plan and a certificate, and
 /// `convert` names the causes in one. `sheet` stores by which instructions a table cuts a plan, and `replay` follows such instructions.
 ///

@@ -29,6 +29,7 @@ usage: glass COMMAND ..
 behind them, in any order:
   --params=FILE  --plates=FILE    other parameters, plates of different widths (not with gen)
   --budget=N  --workers=N         how many boxes, 100000; how many threads, 4 (plan, gen, resume, freeze)
+  --fronts                        begins with what fronts show: mostly optimal for few stacks (plan, gen)
   --watch                         the losses on the way as well (plan)
   --frozen=K                      the first K plates are cut already (verify)
 

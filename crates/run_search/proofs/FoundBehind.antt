@@ -22,7 +22,7 @@ use Rattle.plan_freeze.proofs.Forests.{joined_fits}
 use Rattle.plan_freeze.proofs.FrozenLaw.{rest_is_planned, rest_loses, tail_lawful, whole_is_found}
 use Rattle.cert_log.specs.declared.certificate.Certificate.{Certificate}
 use Rattle.cert_log.specs.declared.history.History.{History}
-use Rattle.cert_log.specs.Good.{IsGood, Reaches}
+use Rattle.cert_log.specs.Good.{IsGood, IsVersion, Reaches, version_for}
 use Rattle.cert_log.specs.Lawful.{loss_of}
 use Rattle.cert_log.specs.Outcomes.{IsHead}
 use Rattle.cert_log.specs.Texts.{cert_text, head_of}
@@ -44,7 +44,7 @@ use Rattle.plan_csv.proofs.ReadAgain.{read_again}
 use Rattle.cut_model.specs.declared.broken.Broken.{Broken}
 use Rattle.run_search.specs.inner.Searches.{Certifies, IsFoundBehind, IsHistoryFrom}
 use Rattle.run_checks.proofs.RaisedBounds.{loss_small, raises_some}
-use Rattle.run_search.proofs.Searched.{known}
+use Rattle.run_search.proofs.Searched.{known, names_causes, of_search}
 use Rattle.run_search.proofs.StoredTexts.{both_said, cert_short, is_text, second_version}
 
 -- its best loss is known
@@ -61,16 +61,16 @@ found_from b plan budget h c best problem is certifies head most has =
     let good = subst (λ (o : Option ℕ). IsGood b (root_ranges b) o c) (sym loss) certifies.good in
     record {
       good = good;
-      version = certifies.version;
+      version = subst (λ (n : ℕ). IsVersion (version_for n) c) is.no_floor certifies.version.0;
       lawful = of.0;
       loss_is = loss ∙ known_best ∙ ap Some (sym of.1);
-      readable = cert_short b c budget problem good certifies.version head certifies.in_budget most;
+      readable = cert_short b c budget problem good (names_causes h.floor c certifies.version) head certifies.in_budget most;
       bounds = bounds_each_plan b 0 (loss_of h.best) c problem certifies.good;
       in_budget = certifies.in_budget;
       spent = certifies.spent;
       to_beat = is.to_beat;
       searched = certifies.searched;
-      of_search = record { history = h; lawful = is.lawful; handled_is = certifies.handled_is; left_is = certifies.left_is; loss_is = loss };
+      of_search = of_search b budget is.to_beat h c is.lawful certifies;
       no_greater = is.no_greater;
       no_worse = omega (arith, of.1, is.lawful.best_first, is.no_greater);
     }

@@ -86,7 +86,7 @@ joined_version named j has joined =
 pub record HasSearched (b : Problem) (budget to_beat : ℕ) (c named : Certificate) (h : History) (parts : List Certificate) (j : Certificate) : Type 0 where
   pub names : IsConverted b c named
   pub named_version : HasVersion named
-  pub lawful : IsLawful b (course_from (left_boxes_of b names.good.tree) to_beat budget) h
+  pub lawful : IsLawful b (course_from (left_boxes_of b names.good.tree) to_beat budget named.floor) h
   pub right : AreGood b (loss_of h.best) (left_boxes_of b names.good.tree) parts
   pub searched : AreSearched b to_beat (left_boxes_of b names.good.tree) parts
   pub nodes : sum_by (λ (x : Certificate). length x.nodes.items) parts ≡ length h.log.items + length h.left.items
@@ -99,14 +99,14 @@ pub record HasSearched (b : Problem) (budget to_beat : ℕ) (c named : Certifica
 
 -- the parts of such a search, put together
 pub searched_on : (b : Problem) (budget to_beat : ℕ) (c named : Certificate) (h : History) (boxes : List PlainBox) (parts : List Certificate) (loss : Option ℕ) (j : Certificate) → (names : IsConverted b c named) → HasVersion named
-    → boxes ≡ left_boxes_of b names.good.tree → loss ≡ loss_of h.best → IsLawful b (course_from boxes to_beat budget) h → AreGood b (loss_of h.best) boxes parts → AreSearched b to_beat boxes parts
+    → boxes ≡ left_boxes_of b names.good.tree → loss ≡ loss_of h.best → IsLawful b (course_from boxes to_beat budget named.floor) h → AreGood b (loss_of h.best) boxes parts → AreSearched b to_beat boxes parts
     → sum_by (λ (x : Certificate). length x.nodes.items) parts ≡ length h.log.items + length h.left.items → sum_by (λ (x : Certificate). x.left) parts ≡ length h.left.items
     → IsJoined named parts loss j → KeepsRight named parts loss j → length j.nodes.items + length parts ≡ length named.nodes.items + sum_by (λ (x : Certificate). length x.nodes.items) parts
     → IsHead (head_of j) → IsNumber (length j.nodes.items) → HasSearched b budget to_beat c named h parts j
 searched_on b budget to_beat c named h boxes parts loss j names has are is lawful right searched nodes left joined keeps count head few = record {
   names = names;
   named_version = has;
-  lawful = subst (λ (xs : List PlainBox). IsLawful b (course_from xs to_beat budget) h) are lawful;
+  lawful = subst (λ (xs : List PlainBox). IsLawful b (course_from xs to_beat budget named.floor) h) are lawful;
   right = subst (λ (xs : List PlainBox). AreGood b (loss_of h.best) xs parts) are right;
   searched = subst (λ (xs : List PlainBox). AreSearched b to_beat xs parts) are searched;
   nodes = nodes;
@@ -173,7 +173,7 @@ module _ (b : Problem) (budget to_beat : ℕ) (plan : Option Forest) (c named : 
         searched = s.searched;
         no_greater = at_most;
         history = h;
-        lawful = s.lawful;
+        lawful = subst (λ (n : ℕ). IsLawful b (course_from (left_boxes_of b s.names.good.tree) to_beat budget n) h) (sym s.joined.floor_is) s.lawful;
         handled_is = all_handled;
         left_is = omega (arith, s.joined.left_is, s.left);
         in_budget = omega (arith, all_handled, s.lawful.in_budget);

@@ -25,18 +25,19 @@ use Rattle.best_board.specs.declared.entry.Entry.{Entry}
 use Rattle.cert_log.specs.declared.certificate.Certificate.{Certificate}
 use Rattle.cert_log.specs.declared.history.History.{History}
 use Rattle.cert_log.specs.declared.history.Left.{Left}
-use Rattle.cert_log.specs.Good.{AreGood, IsGood, IsVersion, Reaches}
+use Rattle.cert_log.specs.Good.{AreGood, IsGood, IsVersion, IsVersionFor, Reaches, version_for}
 use Rattle.cert_log.specs.Lawful.{IsLawful, loss_of, no_loss, trace_loss}
 use Rattle.cert_log.specs.Outcomes.{IsHead}
 use Rattle.cert_log.specs.Splits.{AreSearched, IsSearched}
 use Rattle.cert_log.specs.Texts.{head_of}
 use Rattle.cert_log.proofs.Covers.{bounds_each_plan}
 use Rattle.cert_log.proofs.GoodNodes.{good_counts}
+use Rattle.cert_log.proofs.Versions.{has_version, two_or_three}
 use Rattle.box_workers.specs.Runs.{first_loss}
-use Rattle.run_search.specs.Plans.{AreTold, HasLoss, course, handled}
+use Rattle.run_search.specs.Plans.{AreTold, HasLoss, IsOfSearch, course, handled}
 use Rattle.run_checks.specs.Checks.{root_ranges}
 use Rattle.run_search.specs.inner.Searches.{AreWatched, Certifies, IsHistory, IsNoGreater, IsSaidByItsText, IsShortToo, IsToldFound, IsWatchedHistory}
-use Rattle.run_search.proofs.StoredTexts.{both_said, cert_short, is_text, second_version}
+use Rattle.run_search.proofs.StoredTexts.{both_said, cert_short, is_text}
 
 -- a number that is a loss
 pub known : (n : ℕ) → n < no_loss → loss_of n ≡ Some n
@@ -95,8 +96,8 @@ taken c d (x ∷ []) e = cc e
 taken c d (x ∷ y ∷ rest) e = cc e
 
 -- the certificate of a lawful history, where it is the only one
-certified_one : (b : Problem) (budget to_beat : ℕ) (h : History) (c : Certificate) → IsLawful b (course b to_beat budget) h
-    → IsGood b (root_ranges b) (loss_of h.best) c → IsSearched b to_beat (root_ranges b) c → IsVersion 2 c
+certified_one : (b : Problem) (budget to_beat : ℕ) (h : History) (c : Certificate) → IsLawful b (course b to_beat budget h.floor) h
+    → IsGood b (root_ranges b) (loss_of h.best) c → IsSearched b to_beat (root_ranges b) c → IsVersionFor h.floor c
     → length c.nodes.items ≡ length h.log.items + length h.left.items → c.left ≡ length h.left.items → Certifies b budget to_beat h c
 certified_one b budget to_beat h c lawful good searched version nodes left =
     let counts = good_counts b (root_ranges b) (loss_of h.best) c good in
@@ -116,15 +117,29 @@ certified_one b budget to_beat h c lawful good searched version nodes left =
     left_some (x ∷ xs) some e = cc e
 
 -- the certificate of a lawful history from one box
-pub certified : (b : Problem) (budget to_beat : ℕ) (h : History) (d : Certificate) (cs rest : List Certificate) → IsLawful b (course b to_beat budget) h
-    → AreGood b (loss_of h.best) (course b to_beat budget).boxes cs → AreSearched b to_beat (course b to_beat budget).boxes cs
+pub certified : (b : Problem) (budget to_beat : ℕ) (h : History) (d : Certificate) (cs rest : List Certificate) → IsLawful b (course b to_beat budget h.floor) h
+    → AreGood b (loss_of h.best) (course b to_beat budget h.floor).boxes cs → AreSearched b to_beat (course b to_beat budget h.floor).boxes cs
     → sum_by (λ (x : Certificate). length x.nodes.items) cs ≡ length h.log.items + length h.left.items → sum_by (λ (x : Certificate). x.left) cs ≡ length h.left.items
-    → All (IsVersion 2) cs → cs ≡ rest ++ d ∷ [] → Certifies b budget to_beat h d
+    → All (IsVersionFor h.floor) cs → cs ≡ rest ++ d ∷ [] → Certifies b budget to_beat h d
 certified b budget to_beat h d [] rest lawful good searched nodes left version from = absurd good
 certified b budget to_beat h d (c ∷ x ∷ cs) rest lawful good searched nodes left version from = absurd good.1
 certified b budget to_beat h d (c ∷ []) rest lawful good searched nodes left version from =
     subst (Certifies b budget to_beat h) (sym (taken c d rest (sym from)))
-    (certified_one b budget to_beat h c lawful good.0 searched.0 (All-head (IsVersion 2) c [] version) (omega (arith, nodes)) (omega (arith, left)))
+    (certified_one b budget to_beat h c lawful good.0 searched.0 (All-head (IsVersionFor h.floor) c [] version) (omega (arith, nodes)) (omega (arith, left)))
+
+-- the certificate of a lawful history is of a search
+pub of_search : (b : Problem) (budget to_beat : ℕ) (h : History) (c : Certificate) → IsLawful b (course b to_beat budget h.floor) h → Certifies b budget to_beat h c → IsOfSearch b to_beat budget c
+of_search b budget to_beat h c lawful certifies = record {
+  history = h;
+  lawful = subst (λ (n : ℕ). IsLawful b (course b to_beat budget n) h) (sym certifies.version.1) lawful;
+  handled_is = certifies.handled_is;
+  left_is = certifies.left_is;
+  loss_is = certifies.good.loss_is;
+}
+
+-- it names the causes
+pub names_causes : (floor : ℕ) (c : Certificate) → IsVersionFor floor c → 2 ≤ c.version
+names_causes floor c is = omega (arith, is.0.0, two_or_three floor)
 
 -- what the search found, and its improvements
 pub found : (b : Problem) (budget : ℕ) (watch : Bool) (h : History) (c : Certificate) (plan : Option Forest) (told : Option (List ℕ)) → IsProblem b → budget ≤ 10000000 → (is : IsHistory b budget h)
@@ -136,16 +151,16 @@ found b budget watch h c plan told problem most is certifies has said short head
     record {
       found = record {
         good = good;
-        version = certifies.version;
+        version = subst (λ (n : ℕ). IsVersion (version_for n) c) (sym certifies.version.1) certifies.version.0;
         plan_is = subst (λ (o : Option ℕ). HasLoss b o plan) (sym loss) has;
-        said = both_said b plan c said (is_text b c problem good (second_version c certifies.version) (omega (arith, certifies.in_budget, most)) head);
-        readable = record { plan_short = short; cert_short = cert_short b c budget problem good certifies.version head certifies.in_budget most };
+        said = both_said b plan c said (is_text b c problem good (has_version h.floor c certifies.version) (omega (arith, certifies.in_budget, most)) head);
+        readable = record { plan_short = short; cert_short = cert_short b c budget problem good (names_causes h.floor c certifies.version) head certifies.in_budget most };
         bounds = bounds_each_plan b 0 (loss_of h.best) c problem certifies.good;
         in_budget = certifies.in_budget;
         spent = certifies.spent;
         to_beat = is.to_beat;
         searched = certifies.searched;
-        of_search = record { history = h; lawful = is.lawful; handled_is = certifies.handled_is; left_is = certifies.left_is; loss_is = loss };
+        of_search = of_search b budget is.to_beat h c is.lawful certifies;
         no_greater = λ draft drafted. (at_most draft drafted, (is.no_greater drafted.0 drafted.1).1);
         no_worse = λ draft drafted. subst (λ (o : Option ℕ). Reaches o (plan_loss b draft)) (sym loss) (reaches draft drafted);
       };
@@ -165,7 +180,7 @@ found b budget watch h c plan told problem most is certifies has said short head
         subst (λ (o : Option ℕ). Reaches o (plan_loss b draft)) (sym (known h.best (omega (arith, is.lawful.best_first, k.1)))) (omega (arith, is.lawful.best_first, a))
 
 -- there is a certificate for the box of all plans
-pub no_certificate : (b : Problem) (budget to_beat : ℕ) (h : History) (cs : List Certificate) → AreGood b (loss_of h.best) (course b to_beat budget).boxes cs → cs ≡ [] → ⊥
+pub no_certificate : (b : Problem) (budget to_beat : ℕ) (h : History) (cs : List Certificate) → AreGood b (loss_of h.best) (course b to_beat budget h.floor).boxes cs → cs ≡ [] → ⊥
 no_certificate b budget to_beat h [] good e = good
 no_certificate b budget to_beat h (c ∷ cs) good e = cc e
 
@@ -175,13 +190,13 @@ from_both (Ok x) P Q R p q f = f x p q
 from_both (Err e) P Q R p q f = tt
 
 -- a lawful history that goes on from the first plan, and its improvements
-pub from_first : (b : Problem) (budget : ℕ) (watch : Bool) (first : Option Trace) (loss : ℕ) (h : History) (list : Option (Listed Entry)) → IfSome first (λ t. IsFirstPlan b t.steps.items)
-    → IfNone first ((number : ℕ) × HasNoDraft b number) → loss ≡ first_loss b first → IfSome first (λ _. loss < no_loss) → IsLawful b (course b (first_loss b first) budget) h
+pub from_first : (b : Problem) (budget : ℕ) (watch : Bool) (first : Option Trace) (loss floor : ℕ) (h : History) (list : Option (Listed Entry)) → IfSome first (λ t. IsFirstPlan b t.steps.items)
+    → IfNone first ((number : ℕ) × HasNoDraft b number) → loss ≡ first_loss b first → IfSome first (λ _. loss < no_loss) → IsLawful b (course b (first_loss b first) budget floor) h
     → AreWatched b (first_loss b first) h.best watch list → IsWatchedHistory b budget watch h list
-from_first b budget watch first loss h list plan none is small lawful watched = record {
+from_first b budget watch first loss floor h list plan none is small lawful watched = record {
   history = record {
     to_beat = first_loss b first;
-    lawful = lawful;
+    lawful = subst (λ (n : ℕ). IsLawful b (course b (first_loss b first) budget n) h) (sym lawful.floor_is) lawful;
     no_greater = no_greater b first plan none (subst (λ (n : ℕ). IfSome first (λ _. n < no_loss)) is small);
   };
   watched = watched;

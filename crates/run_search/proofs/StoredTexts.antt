@@ -58,10 +58,10 @@ plan_short b plan problem good =
     let short = short_text b plan problem (writable b plan problem good) in omega (arith, short, good.few, problem.few_items)
 
 -- the text of a certificate of a search is no longer than one that is read
-pub cert_short : (b : Problem) (c : Certificate) (budget : ℕ) → IsProblem b → IsGood b (root_ranges b) c.loss c → IsVersion 2 c → IsHead (head_of c) → handled c ≤ budget → budget ≤ 10000000
+pub cert_short : (b : Problem) (c : Certificate) (budget : ℕ) → IsProblem b → IsGood b (root_ranges b) c.loss c → 2 ≤ c.version → IsHead (head_of c) → handled c ≤ budget → budget ≤ 10000000
     → length (cert_text c) ≤ limit_of role.Cert
-cert_short b c budget problem good version head in_budget most =
-    let short = short_texts b c.loss c problem good (omega (arith, version.0)) head in omega (arith, short, in_budget, most)
+cert_short b c budget problem good names head in_budget most =
+    let short = short_texts b c.loss c problem good names head in omega (arith, short, in_budget, most)
 
 few_steps : (steps : ℕ) → steps ≤ 800 → (node : Node) → StepBelow steps node → StepBelow 800 node
 few_steps steps few (Node.Split step v) below = omega arith

@@ -9,7 +9,7 @@ use Rattle.cut_model.specs.Tree.{Forest, neighbour_count}
 use Rattle.plan_box.specs.Frames.{frame_of}
 use Rattle.plan_box.specs.Ranges.{PlainBox, root_of}
 use Rattle.cert_log.specs.declared.certificate.Certificate.{Certificate}
-use Rattle.cert_log.specs.Good.{IsGood, IsVersion, Reaches}
+use Rattle.cert_log.specs.Good.{IsGood, IsVersion, Reaches, version_for}
 use Rattle.cert_log.specs.declared.history.History.{History}
 use Rattle.cert_log.specs.Lawful.{Course, IsLawful as IsLawfulHistory, loss_of as known_loss, no_loss}
 use Rattle.cert_log.specs.Splits.{IsSearched}
@@ -34,19 +34,19 @@ HasLoss b None None = Unit {0}
 HasLoss b (Some loss) (Some plan) = IsLawful b plan × (loss_of b plan ≡ loss)
 HasLoss b _ _ = ⊥
 
--- a search from these boxes, that is to beat this loss and may handle so many boxes
-abbrev pub course_from : List PlainBox → ℕ → ℕ → Course
-course_from boxes to_beat budget = record { boxes = boxes; first = to_beat; budget = budget }
+-- a search from these boxes, that is to beat this loss, may handle so many boxes, and has this floor
+abbrev pub course_from : List PlainBox → ℕ → ℕ → ℕ → Course
+course_from boxes to_beat budget floor = record { boxes = boxes; first = to_beat; budget = budget; floor = floor }
 
 -- one from the box of all plans
-abbrev pub course : Problem → ℕ → ℕ → Course
-course b to_beat budget = course_from (root_of (frame_of b) 0 ∷ []) to_beat budget
+abbrev pub course : Problem → ℕ → ℕ → ℕ → Course
+course b to_beat budget floor = course_from (root_of (frame_of b) 0 ∷ []) to_beat budget floor
 
 -- the certificate is that of a lawful history of a search of all plans, in which each box was handled once or is left open: it tells of as many
 -- boxes as were handled, and of those that were left
 pub record IsOfSearch (b : Problem) (to_beat budget : ℕ) (c : Certificate) : Type 0 where
   pub history : History
-  pub lawful : IsLawfulHistory b (course b to_beat budget) history
+  pub lawful : IsLawfulHistory b (course b to_beat budget c.floor) history
   pub handled_is : handled c ≡ length history.log.items
   pub left_is : c.left ≡ length history.left.items
   pub loss_is : c.loss ≡ known_loss history.best
@@ -60,7 +60,8 @@ pub record AreReadable (plan_text : Option (List ℕ)) (cert : List ℕ) : Type 
 pub record IsFound (b : Problem) (budget : ℕ) (c : Certificate) (plan : Option Forest) : Type 0 where
   -- the certificate is right for the box that holds every lawful plan, and for the loss of the plan; each closed box has its cause
   pub good : IsGood b (root_ranges b) c.loss c
-  pub version : IsVersion 2 c
+  -- its version is 2, or 3 where it has a floor
+  pub version : IsVersion (version_for c.floor) c
   pub plan_is : HasLoss b c.loss plan
   -- the texts of both, if there is a plan, are read again as this plan and this certificate
   pub said : SayBoth b (option_map (solution_text b) plan) (cert_text c) plan c
@@ -155,17 +156,19 @@ planned b out cert c plan told = record {
 abbrev pub most_work : ℕ
 most_work = 160000000
 
--- what a search found is stored under these names and told, with its improvements where they are watched
-pub record Plans (b : Problem) (budget : ℕ) (watch : Bool) (out cert : List ℕ) (answer : Answer) : Type 0 where
+-- what a search found is stored under these names and told, with its improvements where they are watched; where fronts are not asked, it has
+-- no floor
+pub record Plans (b : Problem) (budget : ℕ) (watch fronts : Bool) (out cert : List ℕ) (answer : Answer) : Type 0 where
   pub certificate : Certificate
   pub plan : Option Forest
   pub told : Option (List ℕ)
   pub found : IsFound b budget certificate plan
   pub improvements : AreTold b found.to_beat certificate.loss watch told
+  pub unasked : fronts ≡ false → certificate.floor ≡ 0
   pub answer_is : answer ≡ planned b out cert certificate plan told
 
 -- the answer to an instance: what a search found, or a refusal where that would be too much work
-abbrev pub PlansWithin : Problem → ℕ → Bool → List ℕ → List ℕ → Answer → Type 0
-PlansWithin b budget watch out cert answer =
-    ((length b.items * budget ≤ most_work) × Plans b budget watch out cert answer)
+abbrev pub PlansWithin : Problem → ℕ → Bool → Bool → List ℕ → List ℕ → Answer → Type 0
+PlansWithin b budget watch fronts out cert answer =
+    ((length b.items * budget ≤ most_work) × Plans b budget watch fronts out cert answer)
     ⊎ ((most_work < length b.items * budget) × (answer ≡ bad_input role.Batch 9 (length b.items) budget))

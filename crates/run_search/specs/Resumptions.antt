@@ -45,7 +45,7 @@ pub record IsResumed (b : Problem) (budget : ℕ) (plan : Option Forest) (c j : 
   pub no_greater : IsAtMost (Some to_beat) (loss_in b plan)
   -- they are those of a lawful history of a search from the open boxes, in which each box was handled once or is left open
   pub history : History
-  pub lawful : IsLawfulHistory b (course_from (left_boxes_of b names.good.tree) to_beat budget) history
+  pub lawful : IsLawfulHistory b (course_from (left_boxes_of b names.good.tree) to_beat budget j.floor) history
   pub handled_is : handled j ≡ handled c + length history.log.items
   pub left_is : j.left ≡ length history.left.items
   -- no more boxes were closed or split than the budget says beside those of the certificate, and exactly so many where one is left open

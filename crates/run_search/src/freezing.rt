@@ -21,6 +21,7 @@ use cert_log::{Certificate, History, write_cert};
 use command_line::Product;
 use cut_model::{Plan, plates_used};
 use defect_map::DefectMap;
+use first_plan::Start;
 use glass_base::{Instance, Memory, Role, Run, append};
 use plan_csv::{read_plan, write_plan};
 use plan_freeze::{frozen_loss, glue, rest};
@@ -58,7 +59,8 @@ fn history_behind<R: Threads + Wait + Sync, G: Gate + Sync>(
     let map = DefectMap::new(alloc, instance)?;
     let first = Some(trace_of(alloc, instance, plan)?);
     let _loss = first_loss(instance, &first);
-    history_from(rt, alloc, instance, &map, first, workers, budget, gate)
+    let start = Start { first, floor: 0 };
+    history_from(rt, alloc, instance, &map, start, workers, budget, gate)
 }
 
 /// What a search finds that goes on from a lawful plan.

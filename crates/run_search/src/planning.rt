@@ -1,14 +1,16 @@
 //! What `plan` and `gen` answer to an instance.
 
-ghost use Rattle.std.specs.Prelude.{◌≡◌, ◌≤◌, ◌*◌, ◌++◌, ◌∷◌, [], ℕ, List, All, IfOk, IfSome, OnOk, length, map, option_map};
+ghost use Rattle.std.specs.Prelude.{◌≡◌, ◌≤◌, ◌*◌, ◌++◌, ◌∷◌, [], ℕ, List, All, IfNone, IfOk, IfSome, OnOk, false, length, map, option_map};
 ghost use Rattle.cut_model.specs.Tree.{count, neighbour_count, tree};
 ghost use Rattle.plan_box.specs.Frames.{frame_of};
 ghost use Rattle.plan_box.specs.Ranges.{PlainBox};
-ghost use Rattle.cert_log.specs.Good.{HasVersion};
+ghost use Rattle.cert_log.specs.Good.{HasVersion, IsFloor};
 ghost use Rattle.cert_log.specs.Lawful.{IsBest, IsLawful, loss_of as known_loss, numbered};
 ghost use Rattle.cert_log.specs.Outcomes.{IsHead};
 ghost use Rattle.cert_log.specs.Texts.{cert_text, head_of};
 ghost use Rattle.box_workers.specs.Runs.{IsFirst, first_loss as first_loss_of};
+ghost use Rattle.first_plan.specs.FirstPlans.{IsFirstPlan};
+ghost use Rattle.plan_draft.specs.Drafts.{HasNoDraft};
 ghost use Rattle.run_search.specs.Plans.{HasLoss, PlansWithin, course, course_from, ending as ending_of, ending_word as ending_word_of, handled as handled_of, plan_stores, planned};
 ghost use Rattle.run_frame.specs.Forms.{answer_in, store_in};
 ghost use Rattle.run_search.specs.inner.Searches.{AreWatched, Certifies, IsSaidByItsText, IsShortToo, IsToldFound, IsWatchedHistory, losses_in};
@@ -19,9 +21,9 @@ use best_board::Entry;
 use box_workers::{Gate, first_loss, search, search_watched, start_boxes};
 use cert_log::{Certificate, History, Node, assemble, write_cert};
 use command_line::Product;
-use cut_model::{Plan, Trace, plates_used};
+use cut_model::{Plan, plates_used};
 use defect_map::DefectMap;
-use first_plan::first_plan;
+use first_plan::{Start, first_plan, start_by_fronts};
 use glass_base::{Instance, Memory, Role, Run, append};
 use plan_box::PlanBox;
 use plan_csv::write_plan;
@@ -51,35 +53,37 @@ pub(crate) struct Searched {
     improvements: Option<Run<Entry>>,
 }
 
-/// A search that goes on from these boxes, and from this trace, or from none.
-fn search_of_starts<R: Threads + Wait + Sync, G: Gate + Sync>(
+/// A search of these boxes.
+fn search_of_boxes<R: Threads + Wait + Sync, G: Gate + Sync>(
     rt: &R,
     alloc: Global,
     instance: &Instance,
     map: &DefectMap,
-    start: Run<PlanBox>,
-    first: Option<Trace>,
+    boxes: Run<PlanBox>,
+    start: Start,
     workers: u32,
     budget: u32,
     watch: bool,
     gate: &G,
 ) -> Result<Searched, Memory>
     requires map { map.now ≡ instance.now.defects }
-    requires starts { (1 ≤ length start.items) × (length start.items ≤ 160000000) }
-    requires ids { numbered 0 start.items }
-    requires frames { All (λ (x : PlainBox). x.frame ≡ frame_of instance.now) start.items }
-    requires first { IsFirst instance.now first }
+    requires boxes { (1 ≤ length boxes.items) × (length boxes.items ≤ 160000000) }
+    requires ids { numbered 0 boxes.items }
+    requires frames { All (λ (x : PlainBox). x.frame ≡ frame_of instance.now) boxes.items }
+    requires first { IsFirst instance.now start.first }
+    requires floor { IsFloor instance.now start.floor }
     requires workers { (1 ≤ workers) × (workers ≤ 8) }
     requires budget { (1 ≤ budget) × (budget ≤ 10000000) }
-    ensures lawful { IfOk result (λ s. IsLawful instance.now (course_from start.items (first_loss_of instance.now first) budget) s.history) }
-    ensures watched { IfOk result (λ s. AreWatched instance.now (first_loss_of instance.now first) s.history.best watch s.improvements) }
+    ensures lawful { IfOk result (λ s. IsLawful instance.now (course_from boxes.items (first_loss_of instance.now start.first) budget start.floor) s.history) }
+    ensures watched { IfOk result (λ s. AreWatched instance.now (first_loss_of instance.now start.first) s.history.best watch s.improvements) }
 {
+    let Start { first, floor } = start;
     let loss = first_loss(instance, &first);
     gate.sees(loss);
-    let (shared, mut seat) = SharedBest::new(alloc, loss, u64::from(budget))?;
+    let (shared, mut seat) = SharedBest::with_floor(alloc, loss, u64::from(budget), floor)?;
     if watch {
         let (history, list) = search_watched(
-            rt, alloc, instance, map, start, first, workers, &shared, &mut seat, gate,
+            rt, alloc, instance, map, boxes, first, workers, &shared, &mut seat, gate,
         )?;
         return Ok(Searched {
             history,
@@ -87,7 +91,7 @@ fn search_of_starts<R: Threads + Wait + Sync, G: Gate + Sync>(
         });
     }
     let history = search(
-        rt, alloc, instance, map, start, first, workers, &shared, &mut seat, gate,
+        rt, alloc, instance, map, boxes, first, workers, &shared, &mut seat, gate,
     )?;
     Ok(Searched {
         history,
@@ -95,85 +99,108 @@ fn search_of_starts<R: Threads + Wait + Sync, G: Gate + Sync>(
     })
 }
 
-/// The history of a search that goes on from these boxes, and from this trace, or from none.
-pub(crate) fn history_of_starts<R: Threads + Wait + Sync, G: Gate + Sync>(
+/// The history of a search of these boxes.
+pub(crate) fn history_of_boxes<R: Threads + Wait + Sync, G: Gate + Sync>(
     rt: &R,
     alloc: Global,
     instance: &Instance,
     map: &DefectMap,
-    start: Run<PlanBox>,
-    first: Option<Trace>,
+    boxes: Run<PlanBox>,
+    start: Start,
     workers: u32,
     budget: u32,
     gate: &G,
 ) -> Result<History, Memory>
     requires map { map.now ≡ instance.now.defects }
-    requires starts { (1 ≤ length start.items) × (length start.items ≤ 160000000) }
-    requires ids { numbered 0 start.items }
-    requires frames { All (λ (x : PlainBox). x.frame ≡ frame_of instance.now) start.items }
-    requires first { IsFirst instance.now first }
+    requires boxes { (1 ≤ length boxes.items) × (length boxes.items ≤ 160000000) }
+    requires ids { numbered 0 boxes.items }
+    requires frames { All (λ (x : PlainBox). x.frame ≡ frame_of instance.now) boxes.items }
+    requires first { IsFirst instance.now start.first }
+    requires floor { IsFloor instance.now start.floor }
     requires workers { (1 ≤ workers) × (workers ≤ 8) }
     requires budget { (1 ≤ budget) × (budget ≤ 10000000) }
-    ensures { IfOk result (λ h. IsLawful instance.now (course_from start.items (first_loss_of instance.now first) budget) h) }
+    ensures { IfOk result (λ h. IsLawful instance.now (course_from boxes.items (first_loss_of instance.now start.first) budget start.floor) h) }
 {
     let Searched {
         history,
         improvements: _,
-    } = search_of_starts(
-        rt, alloc, instance, map, start, first, workers, budget, false, gate,
+    } = search_of_boxes(
+        rt, alloc, instance, map, boxes, start, workers, budget, false, gate,
     )?;
     Ok(history)
 }
 
-/// A search of all plans that goes on from this trace, or from none.
+/// A search of all plans.
 fn search_from<R: Threads + Wait + Sync, G: Gate + Sync>(
     rt: &R,
     alloc: Global,
     instance: &Instance,
     map: &DefectMap,
-    first: Option<Trace>,
+    start: Start,
     workers: u32,
     budget: u32,
     watch: bool,
     gate: &G,
 ) -> Result<Searched, Memory>
     requires map { map.now ≡ instance.now.defects }
-    requires first { IsFirst instance.now first }
+    requires first { IsFirst instance.now start.first }
+    requires floor { IsFloor instance.now start.floor }
     requires workers { (1 ≤ workers) × (workers ≤ 8) }
     requires budget { (1 ≤ budget) × (budget ≤ 10000000) }
-    ensures lawful { IfOk result (λ s. IsLawful instance.now (course instance.now (first_loss_of instance.now first) budget) s.history) }
-    ensures watched { IfOk result (λ s. AreWatched instance.now (first_loss_of instance.now first) s.history.best watch s.improvements) }
+    ensures lawful { IfOk result (λ s. IsLawful instance.now (course instance.now (first_loss_of instance.now start.first) budget start.floor) s.history) }
+    ensures watched { IfOk result (λ s. AreWatched instance.now (first_loss_of instance.now start.first) s.history.best watch s.improvements) }
 {
-    let start = start_boxes(alloc, instance)?;
-    search_of_starts(
-        rt, alloc, instance, map, start, first, workers, budget, watch, gate,
+    let boxes = start_boxes(alloc, instance)?;
+    search_of_boxes(
+        rt, alloc, instance, map, boxes, start, workers, budget, watch, gate,
     )
 }
 
-/// The history of a search of all plans that goes on from this trace, or from none.
+/// The history of a search of all plans.
 pub(crate) fn history_from<R: Threads + Wait + Sync, G: Gate + Sync>(
     rt: &R,
     alloc: Global,
     instance: &Instance,
     map: &DefectMap,
-    first: Option<Trace>,
+    start: Start,
     workers: u32,
     budget: u32,
     gate: &G,
 ) -> Result<History, Memory>
     requires map { map.now ≡ instance.now.defects }
-    requires first { IsFirst instance.now first }
+    requires first { IsFirst instance.now start.first }
+    requires floor { IsFloor instance.now start.floor }
     requires workers { (1 ≤ workers) × (workers ≤ 8) }
     requires budget { (1 ≤ budget) × (budget ≤ 10000000) }
-    ensures { IfOk result (λ h. IsLawful instance.now (course instance.now (first_loss_of instance.now first) budget) h) }
+    ensures { IfOk result (λ h. IsLawful instance.now (course instance.now (first_loss_of instance.now start.first) budget start.floor) h) }
 {
-    let start = start_boxes(alloc, instance)?;
-    history_of_starts(
-        rt, alloc, instance, map, start, first, workers, budget, gate,
+    let boxes = start_boxes(alloc, instance)?;
+    history_of_boxes(
+        rt, alloc, instance, map, boxes, start, workers, budget, gate,
     )
 }
 
-/// A search that goes on from the first plan, where there is one.
+/// What a search begins with: the first plan, and where fronts are asked, what they show.
+fn start_of(
+    alloc: Global,
+    instance: &Instance,
+    map: &DefectMap,
+    fronts: bool,
+) -> Result<Start, Memory>
+    requires map { map.now ≡ instance.now.defects }
+    ensures plan { IfOk result (λ start. IfSome start.first (λ trace. IsFirstPlan instance.now trace.steps.items)) }
+    ensures none { IfOk result (λ start. IfNone start.first ((number : ℕ) × HasNoDraft instance.now number)) }
+    ensures floor { IfOk result (λ start. IsFloor instance.now start.floor) }
+    ensures unasked { IfOk result (λ start. fronts ≡ false → start.floor ≡ 0) }
+{
+    if fronts {
+        return start_by_fronts(alloc, instance, map);
+    }
+    let first = first_plan(alloc, instance, map)?;
+    Ok(Start { first, floor: 0 })
+}
+
+/// A search that begins with what is known before it.
 fn search_with<R: Threads + Wait + Sync, G: Gate + Sync>(
     rt: &R,
     alloc: Global,
@@ -182,17 +209,19 @@ fn search_with<R: Threads + Wait + Sync, G: Gate + Sync>(
     workers: u32,
     budget: u32,
     watch: bool,
+    fronts: bool,
     gate: &G,
 ) -> Result<Searched, Memory>
     requires map { map.now ≡ instance.now.defects }
     requires workers { (1 ≤ workers) × (workers ≤ 8) }
     requires budget { (1 ≤ budget) × (budget ≤ 10000000) }
-    ensures { IfOk result (λ s. IsWatchedHistory instance.now budget watch s.history s.improvements) }
+    ensures history { IfOk result (λ s. IsWatchedHistory instance.now budget watch s.history s.improvements) }
+    ensures unasked { IfOk result (λ s. fronts ≡ false → s.history.floor ≡ 0) }
 {
-    let first = first_plan(alloc, instance, map)?;
-    let _loss = first_loss(instance, &first);
+    let start = start_of(alloc, instance, map, fronts)?;
+    let _loss = first_loss(instance, &start.first);
     search_from(
-        rt, alloc, instance, map, first, workers, budget, watch, gate,
+        rt, alloc, instance, map, start, workers, budget, watch, gate,
     )
 }
 
@@ -204,14 +233,18 @@ fn search_for<R: Threads + Wait + Sync, G: Gate + Sync>(
     workers: u32,
     budget: u32,
     watch: bool,
+    fronts: bool,
     gate: &G,
 ) -> Result<Searched, Memory>
     requires workers { (1 ≤ workers) × (workers ≤ 8) }
     requires budget { (1 ≤ budget) × (budget ≤ 10000000) }
-    ensures { IfOk result (λ s. IsWatchedHistory instance.now budget watch s.history s.improvements) }
+    ensures history { IfOk result (λ s. IsWatchedHistory instance.now budget watch s.history s.improvements) }
+    ensures unasked { IfOk result (λ s. fronts ≡ false → s.history.floor ≡ 0) }
 {
     let map = DefectMap::new(alloc, instance)?;
-    search_with(rt, alloc, instance, &map, workers, budget, watch, gate)
+    search_with(
+        rt, alloc, instance, &map, workers, budget, watch, fronts, gate,
+    )
 }
 
 /// The certificate of a history.
@@ -220,8 +253,8 @@ pub(crate) fn certificate_of(
     instance: &Instance,
     history: &History,
 ) -> Result<Certificate, Memory>
-    requires { (budget : ℕ) × (to_beat : ℕ) × IsLawful instance.now (course instance.now to_beat budget) history.now }
-    ensures certifies { IfOk result (λ c. (budget to_beat : ℕ) → IsLawful instance.now (course instance.now to_beat budget) history.now → Certifies instance.now budget to_beat history.now c) }
+    requires { (budget : ℕ) × (to_beat : ℕ) × IsLawful instance.now (course instance.now to_beat budget history.now.floor) history.now }
+    ensures certifies { IfOk result (λ c. (budget to_beat : ℕ) → IsLawful instance.now (course instance.now to_beat budget history.now.floor) history.now → Certifies instance.now budget to_beat history.now c) }
     ensures head { IfOk result (λ c. IsHead (head_of c)) }
 {
     let mut certificates = assemble(alloc, instance, history)?;
@@ -264,16 +297,18 @@ fn find<R: Threads + Wait + Sync, G: Gate + Sync>(
     workers: u32,
     budget: u32,
     watch: bool,
+    fronts: bool,
     gate: &G,
 ) -> Result<Found, Memory>
     requires workers { (1 ≤ workers) × (workers ≤ 8) }
     requires budget { (1 ≤ budget) × (budget ≤ 10000000) }
     ensures found { IfOk result (λ found. IsToldFound instance.now budget watch found.certificate (option_map tree found.plan) (losses_in found.improvements)) }
+    ensures unasked { IfOk result (λ found. fronts ≡ false → found.certificate.floor ≡ 0) }
     ensures fits { IfOk result (λ found. FitsToo found.plan) }
 {
     // Read for its rules.
     let _items = instance.items();
-    let searched = search_for(rt, alloc, instance, workers, budget, watch, gate)?;
+    let searched = search_for(rt, alloc, instance, workers, budget, watch, fronts, gate)?;
     let certificate = certificate_of(alloc, instance, &searched.history)?;
     let plan = best_plan(alloc, instance, &searched.history)?;
     let Searched {
@@ -421,7 +456,7 @@ fn reply_with_found(alloc: Global, instance: &Instance, found: &Found) -> Result
 }
 
 /// The reply to an instance: the best plan that a search finds and its certificate, with its improvements where they are watched; or a refusal where the number of items times the
-/// budget is above 160,000,000.
+/// budget is above 160,000,000. Where fronts are asked, the search begins with what they show: with the best of three plans, and with a loss that no lawful plan is below.
 pub fn plan_instance<R: Threads + Wait + Sync, G: Gate + Sync>(
     rt: &R,
     alloc: Global,
@@ -429,17 +464,18 @@ pub fn plan_instance<R: Threads + Wait + Sync, G: Gate + Sync>(
     workers: u32,
     budget: u32,
     watch: bool,
+    fronts: bool,
     gate: &G,
 ) -> Result<Reply, Memory>
     requires workers { (1 ≤ workers) × (workers ≤ 8) }
     requires budget { (1 ≤ budget) × (budget ≤ 10000000) }
-    ensures { IfOk result (λ r. (name : Product → List ℕ) → PlansWithin instance.now budget watch (name Product.Plan) (name Product.Certificate) (answer_in name r)) }
+    ensures { IfOk result (λ r. (name : Product → List ℕ) → PlansWithin instance.now budget watch fronts (name Product.Plan) (name Product.Certificate) (answer_in name r)) }
 {
     let items = instance.items().len() as u64;
     if items * u64::from(budget) > MOST_WORK {
         let notice = bad_input(alloc, Role::Batch, 9, items, u64::from(budget))?;
         return Ok(reply_with(alloc, notice));
     }
-    let found = find(rt, alloc, instance, workers, budget, watch, gate)?;
+    let found = find(rt, alloc, instance, workers, budget, watch, fronts, gate)?;
     reply_with_found(alloc, instance, &found)
 }

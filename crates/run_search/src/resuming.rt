@@ -5,7 +5,7 @@ ghost use Rattle.glass_base.specs.declared.role.Role.TheVariants as role;
 ghost use Rattle.cut_model.specs.Tree.{tree};
 ghost use Rattle.plan_box.specs.Frames.{frame_of};
 ghost use Rattle.plan_box.specs.Ranges.{PlainBox};
-ghost use Rattle.cert_log.specs.Good.{HasVersion, IsGood};
+ghost use Rattle.cert_log.specs.Good.{HasVersion, IsFloor, IsGood};
 ghost use Rattle.cert_log.specs.Lawful.{IsLawful, numbered};
 ghost use Rattle.cert_log.specs.Texts.{cert_text};
 ghost use Rattle.cert_resume.specs.Joins.{IsAtMost};
@@ -16,7 +16,7 @@ ghost use Rattle.run_search.specs.Resumptions.{GoesOnWithin, IsResumed, Resumes,
 ghost use Rattle.run_frame.specs.Texts.{limit_of};
 ghost use Rattle.run_frame.specs.Forms.{answer_in};
 
-use crate::planning::{Found, MOST_WORK, best_plan, history_of_starts, reply_with_text};
+use crate::planning::{Found, MOST_WORK, best_plan, history_of_boxes, reply_with_text};
 use box_workers::{Gate, first_loss};
 use cert_check::reasoned;
 use cert_log::{History, assemble, best_loss, write_cert};
@@ -24,6 +24,7 @@ use cert_resume::{join, left_boxes};
 use command_line::Product;
 use cut_model::{Plan, Trace};
 use defect_map::DefectMap;
+use first_plan::Start;
 use glass_base::{Instance, Memory, Role, Run};
 use plan_box::PlanBox;
 use plan_trace::trace_of;
@@ -55,10 +56,12 @@ fn first_trace(
 }
 
 /// The history of a search in which nothing was open.
-fn history_of_none(alloc: Global, instance: &Instance, first: Option<Trace>) -> History
-    requires { IsFirst instance.now first }
-    ensures { (budget : ℕ) → IsLawful instance.now (course_from [] (first_loss_of instance.now first) budget) result }
+fn history_of_none(alloc: Global, instance: &Instance, start: Start) -> History
+    requires first { IsFirst instance.now start.first }
+    requires floor { IsFloor instance.now start.floor }
+    ensures { (budget : ℕ) → IsLawful instance.now (course_from [] (first_loss_of instance.now start.first) budget start.floor) result }
 {
+    let Start { first, floor } = start;
     let best = first_loss(instance, &first);
     History {
         starts: 0,
@@ -66,17 +69,18 @@ fn history_of_none(alloc: Global, instance: &Instance, first: Option<Trace>) -> 
         left: Run::new(alloc),
         plan: first,
         best,
+        floor,
     }
 }
 
-/// The history of a search that goes on from these boxes, of which there may be none, and from this trace, or from none.
-fn history_of_boxes<R: Threads + Wait + Sync, G: Gate + Sync>(
+/// The history of a search of these boxes, of which there may be none.
+fn history_of_open<R: Threads + Wait + Sync, G: Gate + Sync>(
     rt: &R,
     alloc: Global,
     instance: &Instance,
     map: &DefectMap,
     boxes: Run<PlanBox>,
-    first: Option<Trace>,
+    start: Start,
     workers: u32,
     budget: u32,
     gate: &G,
@@ -85,16 +89,17 @@ fn history_of_boxes<R: Threads + Wait + Sync, G: Gate + Sync>(
     requires few { length boxes.items ≤ 160000000 }
     requires ids { numbered 0 boxes.items }
     requires frames { All (λ (x : PlainBox). x.frame ≡ frame_of instance.now) boxes.items }
-    requires first { IsFirst instance.now first }
+    requires first { IsFirst instance.now start.first }
+    requires floor { IsFloor instance.now start.floor }
     requires workers { (1 ≤ workers) × (workers ≤ 8) }
     requires budget { (1 ≤ budget) × (budget ≤ 10000000) }
-    ensures { IfOk result (λ h. IsLawful instance.now (course_from boxes.items (first_loss_of instance.now first) budget) h) }
+    ensures { IfOk result (λ h. IsLawful instance.now (course_from boxes.items (first_loss_of instance.now start.first) budget start.floor) h) }
 {
     if boxes.is_empty() {
-        return Ok(history_of_none(alloc, instance, first));
+        return Ok(history_of_none(alloc, instance, start));
     }
-    history_of_starts(
-        rt, alloc, instance, map, boxes, first, workers, budget, gate,
+    history_of_boxes(
+        rt, alloc, instance, map, boxes, start, workers, budget, gate,
     )
 }
 
@@ -128,8 +133,12 @@ fn go_on<R: Threads + Wait + Sync, G: Gate + Sync>(
     let boxes = left_boxes(alloc, instance, &named)?;
     let first = first_trace(alloc, instance, &checked.plan)?;
     let _loss = first_loss(instance, &first);
-    let history = history_of_boxes(
-        rt, alloc, instance, map, boxes, first, workers, budget, gate,
+    let start = Start {
+        first,
+        floor: named.floor,
+    };
+    let history = history_of_open(
+        rt, alloc, instance, map, boxes, start, workers, budget, gate,
     )?;
     let parts = assemble(alloc, instance, &history)?;
     let _left = history.left.len();

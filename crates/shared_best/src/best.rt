@@ -80,12 +80,13 @@ impl Join<View> for Halves {
 }
 
 /// The best loss and the next ticket, which the seats of all workers share. Contracts see it as the `Words`: which they are, the first
-/// value of the best loss, and the budget.
+/// value of the best loss, the budget, and the floor.
 #[derive(Drop)]
 pub struct SharedBest {
     table: Table<u8, View, u64, TwoWords, Global>,
     first: u64,
     budget: u64,
+    floor: u64,
     ghost key: { table.shared.key ≡ first },
     ghost words: { (table.shared.table_id.words ≡ 32) × (table.shared.table_id.slots ≡ 0) },
 }
@@ -95,7 +96,7 @@ impl Model for SharedBest {
 
     ghost Value = { Words };
 
-    ghost view = { λ w. record { table = w.table.shared.table_id; first = w.first; budget = w.budget } };
+    ghost view = { λ w. record { table = w.table.shared.table_id; first = w.first; budget = w.budget; floor = w.floor } };
 }
 
 impl SharedBest {
@@ -104,10 +105,25 @@ impl SharedBest {
     ghost use Rattle.shared_best.specs.Seats.{IsSeatOf};
 
     /// Two words and their first seat, which has drawn and announced nothing. The best loss is `first`, in mm², or `NONE` where no plan
-    /// is known; the next ticket is 0; the seat may draw 2^62 tickets. `budget` is kept for those who ask, and bounds no draw. Only want
+    /// is known; the next ticket is 0; the seat may draw 2^62 tickets. `budget` is kept for those who ask, and bounds no draw. There is no floor: it is 0. Only want
     /// of memory is refused.
     pub fn new(alloc: Global, first: u64, budget: u64) -> Result<(SharedBest, Seat), Memory>
         ensures words { IfOk result (λ r. (r.0.first ≡ first) × (r.0.budget ≡ budget)) }
+        ensures floor { IfOk result (λ r. r.0.floor ≡ 0) }
+        ensures seat { IfOk result (λ r. IsSeatOf r.0 r.1 × (r.1.view ≡ newcomer first)) }
+    {
+        SharedBest::with_floor(alloc, first, budget, 0)
+    }
+
+    /// The same, with a floor, a loss in mm² that no plan is below: it is kept for those who ask, as the budget is.
+    pub fn with_floor(
+        alloc: Global,
+        first: u64,
+        budget: u64,
+        floor: u64,
+    ) -> Result<(SharedBest, Seat), Memory>
+        ensures words { IfOk result (λ r. (r.0.first ≡ first) × (r.0.budget ≡ budget)) }
+        ensures floor { IfOk result (λ r. r.0.floor ≡ floor) }
         ensures seat { IfOk result (λ r. IsSeatOf r.0 r.1 × (r.1.view ≡ newcomer first)) }
     {
         let mut words = [0; WORDS];
@@ -117,6 +133,7 @@ impl SharedBest {
             table,
             first,
             budget,
+            floor,
         };
         let seat = Seat {
             inner,
@@ -130,6 +147,13 @@ impl SharedBest {
         ensures { result ≡ self.now.budget }
     {
         self.budget
+    }
+
+    /// The floor: a loss in mm² that no plan is below, or 0.
+    pub fn floor(&self) -> u64
+        ensures { result ≡ self.now.floor }
+    {
+        self.floor
     }
 
     /// The best loss at this moment: at most the first value, all that this seat announced and what it saw before. Where the seat is
@@ -225,6 +249,7 @@ impl SharedBest {
             table,
             first: _,
             budget: _,
+            floor: _,
         } = self;
         let Seat {
             inner,

@@ -24,7 +24,7 @@ pub record Decides (b : Problem) (w : Words) (x : PlainBox) (s t : Seated) (old 
   pub first : seen ≤ w.first
   pub whole : IsWhole s.view → seen ≡ min w.first s.view.announced
   pub improves : Improves b x.ranges probed (looked s.view seen) t.view old new
-  pub is_act : IsAct b x.ranges seen new.loss act
+  pub is_act : IsAct b w.floor x.ranges seen new.loss act
   pub worker : new.worker ≡ old.worker
   pub log : new.log ≡ old.log
   pub left : new.left ≡ old.left

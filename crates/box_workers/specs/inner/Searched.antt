@@ -20,8 +20,8 @@ pub record HasSearched (b : Problem) (w : Words) (starts : ℕ) (boxes : List Pl
   pub begun : HasBegun b w starts boxes workers s seat old hand before
   pub ended : HasEnded b w starts before seat t hand new waiting
 
--- a history has the notes of a hand, the boxes that it left open and those that wait, and the better of its plan and the first one
-pub record Finishes (b : Problem) (n : ℕ) (k : Hand) (waiting : List PlainBox) (first : Option Trace) (h : History) : Type 0 where
+-- a history has this floor, the notes of a hand, the boxes that it left open and those that wait, and the better of its plan and the first one
+pub record Finishes (b : Problem) (n floor : ℕ) (k : Hand) (waiting : List PlainBox) (first : Option Trace) (h : History) : Type 0 where
   pub starts : h.starts ≡ n
   pub log : h.log ≡ k.log
   pub weighs : (weight : PlainBox → ℕ) → sum_by (λ (l : Left). weight l.bx) h.left.items ≡ sum_by (λ (l : Left). weight l.bx) k.left.items + sum_by weight waiting
@@ -29,3 +29,4 @@ pub record Finishes (b : Problem) (n : ℕ) (k : Hand) (waiting : List PlainBox)
   pub plan : IsBest b h.best h.plan
   pub best : h.best ≡ min (first_loss b first) k.loss
   pub small : first_loss b first ≤ no_loss
+  pub floor_is : h.floor ≡ floor

@@ -13,7 +13,7 @@ use Rattle.best_board.specs.declared.entry.Entry.{Entry}
 use Rattle.best_board.specs.Improvements.{AreImprovements, Found, found_in, last_loss}
 use Rattle.cert_log.specs.declared.certificate.Certificate.{Certificate}
 use Rattle.cert_log.specs.declared.history.History.{History}
-use Rattle.cert_log.specs.Good.{IsGood, IsVersion}
+use Rattle.cert_log.specs.Good.{IsGood, IsVersionFor}
 use Rattle.cert_log.specs.Lawful.{IsLawful, loss_of, no_loss, trace_loss}
 use Rattle.cert_log.specs.Outcomes.{IsHead}
 use Rattle.cert_log.specs.Splits.{IsSearched}
@@ -51,7 +51,7 @@ AreWatched b to_beat best true (Some list) =
 -- a lawful history of a search that may handle so many boxes
 pub record IsHistory (b : Problem) (budget : ℕ) (h : History) : Type 0 where
   pub to_beat : ℕ
-  pub lawful : IsLawful b (course b to_beat budget) h
+  pub lawful : IsLawful b (course b to_beat budget h.floor) h
   pub no_greater : IsNoGreater b to_beat
 
 -- such a history, and the improvements of the search, where they are watched
@@ -67,9 +67,10 @@ pub record IsToldFound (b : Problem) (budget : ℕ) (watch : Bool) (c : Certific
 -- a lawful history of a search that goes on from a plan, and is to beat a loss that is no greater
 pub record IsHistoryFrom (b : Problem) (plan : Forest) (budget : ℕ) (h : History) : Type 0 where
   pub to_beat : ℕ
-  pub lawful : IsLawful b (course b to_beat budget) h
+  pub lawful : IsLawful b (course b to_beat budget h.floor) h
   pub no_greater : to_beat ≤ plan_loss b plan
   pub known : to_beat < no_loss
+  pub no_floor : h.floor ≡ 0
 
 -- what a search found that plans anew what stands behind the first plates
 pub record IsFoundBehind (b : Problem) (plan : Forest) (k budget : ℕ) (c : Certificate) (best : Forest) : Type 0 where
@@ -84,7 +85,7 @@ pub record Certifies (b : Problem) (budget to_beat : ℕ) (h : History) (c : Cer
   pub good : IsGood b (root_ranges b) (loss_of h.best) c
   pub handled_is : handled c ≡ length h.log.items
   pub left_is : c.left ≡ length h.left.items
-  pub version : IsVersion 2 c
+  pub version : IsVersionFor h.floor c
   pub in_budget : handled c ≤ budget
   pub spent : 0 < c.left → handled c ≡ budget
   pub searched : IsSearched b to_beat (root_ranges b) c

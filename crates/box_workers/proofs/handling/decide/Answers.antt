@@ -45,6 +45,28 @@ returns-then-bound_at-threshold-clause-decides c =
       },
     )
 
+pub returns-then-reaches_floor-clause-decides : goal.returns-then-reaches_floor-clause-decides
+returns-then-reaches_floor-clause-decides c =
+    let l = c.look-seen.ensures in let i = c.improve-broken.ensures.improves in let same = c.improve-broken.ensures.same in (
+      c.look-seen.result,
+      i.0,
+      record {
+        valid = c.frame-frame.ensures.rules;
+        before = l.seen;
+        announced = l.announced;
+        first = l.first;
+        whole = l.whole;
+        improves = improves_from _ _ _ _ _ _ c.args.hand.now _ _ l.view refl refl i.1;
+        is_act = (
+            let r = c.reaches_floor.ensures.0 c.if-reaches_floor.true in let f = c.floor.ensures in
+            (c.min-threshold.ensures, c.in_default.ensures.first, omega (arith, r.0, f), omega (arith, r.1, f), r.2));
+        worker = same.1;
+        log = same.2;
+        left = same.3;
+        spares = same.4;
+      },
+    )
+
 pub choose-step-requires : goal.choose-step-requires
 choose-step-requires c =
     let i = c.improve-broken.ensures.improves in

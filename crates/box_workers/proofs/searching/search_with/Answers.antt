@@ -1,5 +1,6 @@
-use Rattle.std.proofs.Common.{rules}
+use Rattle.std.proofs.Common.{rules, ℕ, subst}
 use Rattle.std.proofs.lemmas.Result.{IfOk-weaker}
+use Rattle.box_workers.specs.inner.Searched.{Finishes}
 use Rattle.box_workers.proofs.Outcome.{all_announced, all_done, all_whole, all_lawful, all_shown}
 use Rattle.box_workers.proofs.searching.search_with.Goals as goal
 
@@ -26,9 +27,11 @@ returns-clause-seat g c =
 pub returns-clause-lawful : goal.returns-clause-lawful
 returns-clause-lawful g c =
     IfOk-weaker c.finish.result _ _ (λ h f. all_lawful c.args.instance.now c.args.shared.now c.args.start.items c.args.workers c.args.seat.now c.handle_all.new.seat c.in_ok-hand.hand c.handle_all.new.hand c.in_ok-waiting.waiting.items c.in_ok-waiting.ensures
-    c.requires.newcomer c.settle.new.seat c.settle.ensures.same c.args.first c.len-starts.result c.len-starts.ensures h f c.params-params.ensures.rules (search rules) c.settle.ensures.whole c.requires.ids c.requires.frames c.requires.loss) c.finish.ensures
+    c.requires.newcomer c.settle.new.seat c.settle.ensures.same c.args.first c.len-starts.result c.len-starts.ensures h
+    (subst (λ (m : ℕ). Finishes c.args.instance.now c.len-starts.result m c.handle_all.new.hand c.in_ok-waiting.waiting.items c.args.first h) c.floor-floor.ensures f) c.params-params.ensures.rules (search rules) c.settle.ensures.whole c.requires.ids c.requires.frames c.requires.loss c.requires.floor) c.finish.ensures
 
 pub returns-clause-shows : goal.returns-clause-shows
 returns-clause-shows g c =
     IfOk-weaker c.finish.result _ _ (λ h f. all_shown c.args.instance.now c.args.shared.now c.args.start.items c.args.workers c.args.seat.now c.handle_all.new.seat c.in_ok-hand.hand c.handle_all.new.hand c.in_ok-waiting.waiting.items c.in_ok-waiting.ensures
-    c.requires.newcomer c.settle.new.seat c.settle.ensures.same c.args.first c.len-starts.result c.len-starts.ensures h f c.params-params.ensures.rules (search rules) c.settle.ensures.whole c.requires.ids c.requires.frames c.requires.loss) c.finish.ensures
+    c.requires.newcomer c.settle.new.seat c.settle.ensures.same c.args.first c.len-starts.result c.len-starts.ensures h
+    (subst (λ (m : ℕ). Finishes c.args.instance.now c.len-starts.result m c.handle_all.new.hand c.in_ok-waiting.waiting.items c.args.first h) c.floor-floor.ensures f) c.params-params.ensures.rules (search rules) c.settle.ensures.whole c.requires.ids c.requires.frames c.requires.loss c.requires.floor) c.finish.ensures

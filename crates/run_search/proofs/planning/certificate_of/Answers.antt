@@ -15,12 +15,12 @@ pub unreachable-requires : goal.unreachable-requires
 unreachable-requires c =
     let b = c.args.instance.now in
     no_certificate b c.requires.0 c.requires.1 c.args.history.now c.in_ok-certificates.certificates.items
-    (c.in_ok-certificates.ensures.good (course b c.requires.1 c.requires.0) c.requires.2) (c.in_default.ensures.empty.0 refl)
+    (c.in_ok-certificates.ensures.good (course b c.requires.1 c.requires.0 c.args.history.now.floor) c.requires.2) (c.in_default.ensures.empty.0 refl)
 
 pub returns-clause-certifies : goal.returns-clause-certifies
 returns-clause-certifies c = λ budget to_beat lawful.
     let b = c.args.instance.now in
-    let s = course b to_beat budget in
+    let s = course b to_beat budget c.args.history.now.floor in
     certified b budget to_beat c.args.history.now c.in-Some.certificate c.in_ok-certificates.certificates.items c.pop.new.self.items lawful
     (c.in_ok-certificates.ensures.good s lawful) (c.in_ok-certificates.ensures.searched s lawful)
     c.in_ok-certificates.ensures.nodes c.in_ok-certificates.ensures.left c.in_ok-certificates.ensures.version c.in-Some.ensures.last

@@ -18,6 +18,7 @@ returns g c =
         told = losses_in found.improvements;
         found = c.in_ok-found.ensures.found.found;
         improvements = c.in_ok-found.ensures.found.improvements;
+        unasked = c.in_ok-found.ensures.unasked;
         answer_is = is names;
       },
     ))

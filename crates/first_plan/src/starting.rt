@@ -1,0 +1,99 @@
+//! What a search begins with that asks what fronts show.
+
+ghost use Rattle.std.specs.Prelude.{◌≡◌, ◌≤◌, ℕ, IfNone, IfOk, IfSome};
+ghost use Rattle.cut_model.specs.Lawful.{IsLawful};
+ghost use Rattle.cut_model.specs.Loss.{loss_of};
+ghost use Rattle.cut_model.specs.Steps.{length_of};
+ghost use Rattle.cut_model.specs.Tree.{Forest};
+ghost use Rattle.first_plan.specs.FirstPlans.{IsFirstPlan};
+ghost use Rattle.front_course.specs.Claims.{LosesAtLeast};
+ghost use Rattle.glass_base.specs.Problem.{IsProblem};
+ghost use Rattle.plan_draft.specs.Drafts.{HasNoDraft};
+ghost use Rattle.plan_trace.specs.Claims.{IsComplete};
+
+use crate::beaming::{loss_in, narrow_plan, trace_in, wide_plan};
+use crate::choosing::{effort, first_of};
+use crate::comparing::{better_of, length_of_plan};
+use cut_model::Trace;
+use defect_map::DefectMap;
+use front_bound::losses::{LABELS, LONGEST, loss_of_length};
+use front_bound::plans::{Shown, longest_with_plan};
+use glass_base::{Instance, Memory};
+use plan_beams::Beams;
+use plan_draft::draft;
+use std::alloc::Global;
+
+/// What a search begins with.
+#[derive(Drop)]
+pub struct Start {
+    /// A plan, where one is known.
+    pub first: Option<Trace>,
+    /// No lawful plan loses less, in mm²; 0 says nothing.
+    pub floor: u64,
+}
+
+/// The better of a first plan and another one, or the only one. Where both take the same glass it is the other one.
+fn improved(instance: &Instance, first: Option<Trace>, other: Option<Trace>) -> Option<Trace>
+    requires problem { IsProblem instance.now }
+    requires plan { IfSome first (λ trace. IsFirstPlan instance.now trace.steps.items) }
+    requires none { IfNone first ((number : ℕ) × HasNoDraft instance.now number) }
+    requires other { IfSome other (λ trace. IsComplete instance.now trace.steps.items) }
+    ensures plan { IfSome result (λ trace. IsFirstPlan instance.now trace.steps.items) }
+    ensures none { IfNone result ((number : ℕ) × HasNoDraft instance.now number) }
+{
+    better_of(instance, first, other)
+}
+
+/// How much glass a first plan takes, in mm, or `LONGEST` where there is none.
+fn length_of_first(instance: &Instance, first: &Option<Trace>) -> u64
+    requires problem { IsProblem instance.now }
+    requires plan { IfSome first.now (λ trace. IsFirstPlan instance.now trace.steps.items) }
+    ensures { result ≤ 5000000000 }
+{
+    match first {
+        Some(trace) => length_of_plan(instance, trace).min(LONGEST),
+        None => LONGEST,
+    }
+}
+
+/// The floor that a length shows, in mm². Where it is `LONGEST`, there is no plan of which to say anything, and it is 0.
+fn floor_of(instance: &Instance, length: u64) -> u64
+    requires shown { LosesAtLeast instance.now length }
+    requires most { length ≤ 5000000000 }
+    ensures { (plan : Forest) → IsLawful instance.now plan → result ≤ loss_of instance.now plan }
+{
+    if length < LONGEST {
+        loss_of_length(instance, length)
+    } else {
+        0
+    }
+}
+
+/// What a search begins with: a first plan, as `first_plan` promises it, that is the best of the draft, of those that two beams find, and of one that is looked for along fronts; and
+/// the greatest floor that fronts show. Where a plan reaches the floor, no other one is looked for, since none is better.
+///
+/// The effort is counted and not timed, so that the same instance has the same start on each machine. Where there are many fronts it may take minutes and gigabytes; where there are
+/// too many, or where there is no way to cut the items at all, the floor is 0. It fails only where memory runs out.
+pub fn start_by_fronts(alloc: Global, instance: &Instance, map: &DefectMap) -> Result<Start, Memory>
+    requires map { map.now ≡ instance.now.defects }
+    ensures plan { IfOk result (λ start. IfSome start.first (λ trace. IsFirstPlan instance.now trace.steps.items)) }
+    ensures none { IfOk result (λ start. IfNone start.first ((number : ℕ) × HasNoDraft instance.now number)) }
+    ensures floor { IfOk result (λ start. (plan : Forest) → IsLawful instance.now plan → start.floor ≤ loss_of instance.now plan) }
+{
+    let ticks = effort(instance.items().len());
+    let beams = Beams::new(alloc, instance)?;
+    let narrow = narrow_plan(alloc, instance, map, &beams, ticks)?;
+    let lost = loss_in(&narrow);
+    let drafted = draft(alloc, instance, map)?;
+    let first = first_of(instance, trace_in(narrow), drafted);
+    let most = length_of_first(instance, &first);
+    let Shown { length, plan } = longest_with_plan(alloc, instance, map, most, LABELS)?;
+    let floor = floor_of(instance, length);
+    let best = improved(instance, first, plan);
+    if length_of_first(instance, &best) <= length {
+        return Ok(Start { first: best, floor });
+    }
+    let wide = wide_plan(alloc, instance, map, &beams, lost, ticks)?;
+    let first = improved(instance, best, wide);
+    Ok(Start { first, floor })
+}
