@@ -20,12 +20,14 @@ use Rattle.box_bound.specs.declared.kept.Kept.{Kept}
 use Rattle.box_bound.specs.Kept.{late}
 use Rattle.box_bound.specs.Leastings.{Leastings, IsFor}
 use Rattle.box_bound.proofs.Writing.{whole_count}
+use Rattle.cert_log.specs.declared.history.Act.{Act}
+use Rattle.cert_log.specs.declared.history.Cause.{Cause}
 use Rattle.cert_log.specs.Lawful.{no_loss, trace_loss}
 use Rattle.shared_best.specs.declared.view.View.{View}
 use Rattle.shared_best.specs.Words.{lowered}
 use Rattle.box_workers.specs.declared.hand.Hand.{Hand}
-use Rattle.box_workers.specs.Handling.{Probes, IsProbed, told, IsPlanAfter}
-use Rattle.box_workers.specs.inner.Deciding.{Improves}
+use Rattle.box_workers.specs.Handling.{IsAct, Probes, IsProbed, told, IsPlanAfter}
+use Rattle.box_workers.specs.inner.Deciding.{ClosesBy, Improves}
 
 not_less : (m n : ℕ) → n ≤ m → nat_lt m n ≡ false
 not_less m n h = grind (arith, nat_tests)
@@ -88,3 +90,11 @@ no_point b x seen probed loss bounded frame box some unrefuted is below bound_is
       | inl found ↦ (let e = found.1 in omega arith)
       | inr none ↦ none.0 (record { not_refuted = unrefuted; decided = whole; meets = point_meets b x.ranges point unrefuted })
     ]
+
+-- a box that is not refuted is closed rightly by what it is closed by
+pub closed_as : (b : Problem) (floor told_floor : ℕ) (rs : List Ranges) (seen loss least threshold : ℕ) (cause : Cause) → told_floor ≡ floor → threshold ≡ min seen loss → ¬ IsRefuted b rs → least ≡ bound b rs
+    → ClosesBy least told_floor threshold cause → IsAct b floor rs seen loss (Act.Closed cause threshold)
+closed_as b floor told_floor rs seen loss least threshold (Cause.Reason r) same least_is sound is by = absurd by
+closed_as b floor told_floor rs seen loss least threshold Cause.Bound same least_is sound is by = (least_is, sound, omega (arith, is, by))
+closed_as b floor told_floor rs seen loss least threshold Cause.Floor same least_is sound is by = (least_is, sound, omega (arith, same, by.0), omega (arith, same, by.1), by.2)
+closed_as b floor told_floor rs seen loss least threshold Cause.Unsaid same least_is sound is by = absurd by

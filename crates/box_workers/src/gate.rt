@@ -11,6 +11,9 @@ pub trait Gate {
 
     /// A plan of this loss in mm² is known; `u64::MAX` is none. A gate that does not say otherwise takes no notice.
     fn sees(&self, _loss: u64) {}
+
+    /// Before boxes, fronts are looked at: so many of all in one of several passes. A gate that does not say otherwise takes no notice.
+    fn looks(&self, _done: usize, _all: usize) {}
 }
 
 /// A gate that does nothing.

@@ -1,5 +1,5 @@
 //! The handling of one box.
-ghost use Rattle.std.specs.Prelude.{◌≡◌, ℕ, ◌≤◌, ◌<◌, ◌↔◌, length, IfOk, IfErr, IsTrue};
+ghost use Rattle.std.specs.Prelude.{◌≡◌, ℕ, ◌≤◌, ◌<◌, ◌↔◌, length, IfOk, IfErr, IsTrue, MatchOption};
 ghost use Rattle.plan_box.specs.Decisions.{is_free, IsPoint};
 ghost use Rattle.plan_box.specs.Frames.{frame_of};
 ghost use Rattle.plan_box.specs.Reasons.{IsRefuted};
@@ -11,7 +11,7 @@ ghost use Rattle.shared_best.specs.Words.{share};
 ghost use Rattle.box_workers.specs.Handling.{IsIdle, Gives, Answers};
 ghost use Rattle.box_workers.specs.inner.Hands.{CanKeep, IsNoted};
 ghost use Rattle.box_workers.specs.inner.Spares.{HasRoomFor};
-ghost use Rattle.box_workers.specs.inner.Deciding.{Improves, Decides};
+ghost use Rattle.box_workers.specs.inner.Deciding.{ClosesBy, Improves, Decides};
 
 use crate::hand::{Hand, keep, prepare};
 use box_bound::{Leasts, bound_at, broken_at, choose_at, refuted_at};
@@ -95,6 +95,19 @@ fn reaches_floor(floor: u64, loss: u64) -> bool
     0 < floor && loss <= floor && loss < NONE
 }
 
+/// By what a box is closed that is not refuted: by its bound, or for the floor, where that reaches the loss that is to be beaten.
+fn closing_cause(bound: u64, floor: u64, loss: u64) -> Option<Cause>
+    ensures { MatchOption result (bound < loss) (ClosesBy bound floor loss) }
+{
+    if bound >= loss {
+        Some(Cause::Bound)
+    } else if reaches_floor(floor, loss) {
+        Some(Cause::Floor)
+    } else {
+        None
+    }
+}
+
 /// What is to be done with a box, by what is seen and probed now. It is closed for the first reason by which it is refuted; else, after
 /// its probe, by its bound, or by the floor, where that reaches the lesser of what was seen and the hand's loss; else it is split.
 fn decide(
@@ -131,17 +144,9 @@ fn decide(
     }
     let broken = improve(instance, map, shared, seat, hand, bx);
     let threshold = seen.min(hand.loss);
-    if bound_at(instance, &hand.leasts, bx) >= threshold {
-        return Act::Closed {
-            threshold,
-            cause: Cause::Bound,
-        };
-    }
-    if reaches_floor(shared.floor(), threshold) {
-        return Act::Closed {
-            threshold,
-            cause: Cause::Floor,
-        };
+    let bound = bound_at(instance, &hand.leasts, bx);
+    if let Some(cause) = closing_cause(bound, shared.floor(), threshold) {
+        return Act::Closed { threshold, cause };
     }
     let (step, var) = choose(&hand.leasts, bx, broken);
     Act::Split { step, var }

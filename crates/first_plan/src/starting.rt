@@ -18,6 +18,7 @@ use cut_model::Trace;
 use defect_map::DefectMap;
 use front_bound::losses::{LABELS, LONGEST, loss_of_length};
 use front_bound::plans::{Shown, longest_with_plan};
+use front_bound::watch::Watch;
 use glass_base::{Instance, Memory};
 use plan_beams::Beams;
 use plan_draft::draft;
@@ -73,8 +74,13 @@ fn floor_of(instance: &Instance, length: u64) -> u64
 /// the greatest floor that fronts show. Where a plan reaches the floor, no other one is looked for, since none is better.
 ///
 /// The effort is counted and not timed, so that the same instance has the same start on each machine. Where there are many fronts it may take minutes and gigabytes; where there are
-/// too many, or where there is no way to cut the items at all, the floor is 0. It fails only where memory runs out.
-pub fn start_by_fronts(alloc: Global, instance: &Instance, map: &DefectMap) -> Result<Start, Memory>
+/// too many, or where there is no way to cut the items at all, the floor is 0. How far that is, is told to `watch`. It fails only where memory runs out.
+pub fn start_by_fronts<W: Watch>(
+    alloc: Global,
+    instance: &Instance,
+    map: &DefectMap,
+    watch: &W,
+) -> Result<Start, Memory>
     requires map { map.now ≡ instance.now.defects }
     ensures plan { IfOk result (λ start. IfSome start.first (λ trace. IsFirstPlan instance.now trace.steps.items)) }
     ensures none { IfOk result (λ start. IfNone start.first ((number : ℕ) × HasNoDraft instance.now number)) }
@@ -87,7 +93,7 @@ pub fn start_by_fronts(alloc: Global, instance: &Instance, map: &DefectMap) -> R
     let drafted = draft(alloc, instance, map)?;
     let first = first_of(instance, trace_in(narrow), drafted);
     let most = length_of_first(instance, &first);
-    let Shown { length, plan } = longest_with_plan(alloc, instance, map, most, LABELS)?;
+    let Shown { length, plan } = longest_with_plan(alloc, instance, map, most, LABELS, watch)?;
     let floor = floor_of(instance, length);
     let best = improved(instance, first, plan);
     if length_of_first(instance, &best) <= length {

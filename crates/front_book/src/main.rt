@@ -25,6 +25,7 @@ use cut_model::Trace;
 use defect_map::DefectMap;
 use front_bound::bounds::{is_no_shorter, longest_shown};
 use front_bound::plans::longest_with_plan;
+use front_bound::watch::Nobody;
 use glass_base::Instance;
 use glass_gen::generate;
 use loss_area::length;
@@ -71,7 +72,7 @@ fn length_of_plan(instance: &Instance, trace: &Trace) -> u64
 /// The loss of which it is shown that no lawful plan loses less, and that of the plan along the fronts.
 fn losses_of(alloc: Global, instance: &Instance) -> anyhow::Result<String> {
     let map = DefectMap::new(alloc, instance)?;
-    let shown = longest_with_plan(alloc, instance, &map, most_of(instance), LIMIT)?;
+    let shown = longest_with_plan(alloc, instance, &map, most_of(instance), LIMIT, &Nobody)?;
     let least = loss_at(instance, shown.length);
     let Some(plan) = shown.plan else {
         return Ok(format!(in alloc; "{least} none")?);

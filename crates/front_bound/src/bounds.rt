@@ -11,12 +11,13 @@ use crate::levels::to_go;
 use crate::pools::Pool;
 use crate::runs::least_reached;
 use crate::table::{Table, levels_of};
+use crate::watch::{Nobody, Watch};
 use front_course::laws::courses_bound_losses;
 use glass_base::{Instance, Memory};
 use std::alloc::Global;
 
 /// For how many labels a front counts: by the memory and the time that its row takes.
-const LABELS_A_FRONT: u64 = 10_000;
+const LABELS_A_FRONT: u64 = 50_000;
 
 /// By how much a length is first raised, in mm.
 const FIRST_STEP: u64 = 8;
@@ -34,7 +35,12 @@ fn base_of(table: &Table) -> u64 {
 }
 
 /// All fronts of an instance, with what is known of them, where they count for no more than `limit` labels.
-pub fn table_of(alloc: Global, instance: &Instance, limit: u64) -> Result<Table, Halt>
+pub fn table_of<W: Watch>(
+    alloc: Global,
+    instance: &Instance,
+    limit: u64,
+    watch: &W,
+) -> Result<Table, Halt>
     ensures { IfOk result (IsTable instance.now) }
 {
     let shape = shape_of(alloc, instance, limit / LABELS_A_FRONT)?;
@@ -53,6 +59,7 @@ pub fn table_of(alloc: Global, instance: &Instance, limit: u64) -> Result<Table,
         tops.as_slice(),
         &mut pool,
         cover,
+        watch,
     )?;
     if levels.is_empty() || to_go(levels.as_slice(), 0) != 0 {
         return Err(Halt::Limit);
@@ -79,7 +86,7 @@ fn is_shown(
     if length == 0 {
         return Ok(true);
     }
-    let least = least_reached(alloc, instance, &table.lend(), length - 1, limit)?;
+    let least = least_reached(alloc, instance, &table.lend(), length - 1, limit, &Nobody)?;
     if least < length {
         return Ok(false);
     }
@@ -95,14 +102,14 @@ fn is_shown_at_all(
 ) -> Result<bool, Halt>
     ensures { IfOk result (λ shown. shown ≡ true → NoCourseShorter instance.now length) }
 {
-    let table = table_of(alloc, instance, limit)?;
+    let table = table_of(alloc, instance, limit, &Nobody)?;
     let shown = is_shown(alloc, instance, &table, length, limit)?;
     Ok(shown)
 }
 
 /// Whether it is shown that no lawful plan is shorter than a length, in mm: a plan's length is where its last plate's residual begins, with all plates before
 /// that in one line. `false` says that it was not shown: a plan may be shorter, or more than `limit` labels would be looked at in one of the searches, or there are more fronts than one for each
-/// 10,000 of them. So `limit` bounds time and memory.
+/// 50,000 of them. So `limit` bounds time and memory.
 pub fn is_no_shorter(
     alloc: Global,
     instance: &Instance,
@@ -121,12 +128,13 @@ pub fn is_no_shorter(
 }
 
 /// The greatest length up to `most` of which it is shown that no course is shorter.
-pub fn longest(
+pub fn longest<W: Watch>(
     alloc: Global,
     instance: &Instance,
     table: &Table,
     most: u64,
     limit: u64,
+    watch: &W,
 ) -> Result<u64, Halt>
     requires { IsTable instance.now table.now }
     ensures shown { IfOk result (NoCourseShorter instance.now) }
@@ -136,7 +144,7 @@ pub fn longest(
     let mut next = base_of(table).min(most);
     let mut step = FIRST_STEP;
     for _ in 0..ROUNDS {
-        let least = match least_reached(alloc, instance, &table.lend(), next, limit) {
+        let least = match least_reached(alloc, instance, &table.lend(), next, limit, watch) {
             Ok(least) => least,
             Err(Halt::Limit) => return Ok(shown),
             Err(Halt::Memory) => return Err(Halt::Memory),
@@ -156,13 +164,13 @@ fn longest_of_all(alloc: Global, instance: &Instance, most: u64, limit: u64) -> 
     ensures shown { IfOk result (NoCourseShorter instance.now) }
     ensures most { IfOk result (λ least. least ≤ most) }
 {
-    let table = table_of(alloc, instance, limit)?;
-    let shown = longest(alloc, instance, &table, most, limit)?;
+    let table = table_of(alloc, instance, limit, &Nobody)?;
+    let shown = longest(alloc, instance, &table, most, limit, &Nobody)?;
     Ok(shown)
 }
 
 /// The greatest length up to `most`, in mm, of which it is shown that no lawful plan is shorter: searches within a growing length, the last of which comes to
-/// an end. Where more than `limit` labels would be looked at in one of them, it is what those before have shown; where there are more fronts than one for each 10,000 of
+/// an end. Where more than `limit` labels would be looked at in one of them, it is what those before have shown; where there are more fronts than one for each 50,000 of
 /// them, it is 0, which says nothing.
 pub fn longest_shown(
     alloc: Global,

@@ -64,15 +64,15 @@ pub fn side_before(instance: &Instance, side: &Label, plate: u32, left: u32) -> 
     }
 }
 
-/// The side at which the last plate of a shortest course ends.
-pub fn last_side(instance: &Instance, sides: &[Label]) -> Option<Side> {
+/// The least length from `from` on at which a course ends, and the side at which its last plate does.
+pub fn last_side(instance: &Instance, sides: &[Label], from: u64) -> Option<(u64, Side)> {
     let mut found = None;
     let mut least = u64::MAX;
     for side in sides {
         let length = end_by(instance, side, u64::MAX);
-        if length < least {
+        if from <= length && length < least {
             least = length;
-            found = Some(side_before(instance, side, u32::MAX, 0));
+            found = Some((length, side_before(instance, side, u32::MAX, 0)));
         }
     }
     found

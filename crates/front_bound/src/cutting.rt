@@ -17,6 +17,9 @@ use defect_map::DefectMap;
 use glass_base::{Instance, Item, Run};
 use std::alloc::Global;
 
+/// So often a cell is moved to the right, out of a defect.
+const SHIFTS: u32 = 8;
+
 /// What a plan is looked for in.
 #[derive(Clone, Copy)]
 pub struct Task<'a> {
@@ -188,7 +191,79 @@ fn cut_cell(
     }
 }
 
-/// Appends the steps of a band whose cells these are, the last one first; whether they are clear of defects.
+/// Where a cell can begin that meets a defect where it would stand, behind the one of them that ends first, with a waste before it.
+fn begin_behind(task: &Task<'_>, spot: &Spot, left: u32, wide: u32) -> Option<u32> {
+    let at = &spot.step;
+    let right = at.e.saturating_add(wide);
+    let least = left.saturating_add(task.instance.params().waste);
+    let mut found = None;
+    let mut begin = u32::MAX;
+    for defect in task.instance.defects() {
+        if defect.plate == spot.plate
+            && defect.x0 < right
+            && at.e < defect.x1
+            && defect.y0 < at.d
+            && at.c < defect.y1
+        {
+            begin = begin.min(defect.x1.max(least));
+            found = Some(begin);
+        }
+    }
+    found
+}
+
+/// The same, where no more than `spare` goes before it: all of that where less than a waste would be left of it.
+fn begin_within(task: &Task<'_>, spot: &Spot, left: u32, wide: u32, spare: u32) -> Option<u32> {
+    let most = left.saturating_add(spare);
+    let begin = begin_behind(task, spot, left, wide)?;
+    if begin > most {
+        return None;
+    }
+    if most - begin < task.instance.params().waste {
+        return Some(most);
+    }
+    Some(begin)
+}
+
+/// Appends the steps of a cell, behind a waste of no more than `spare` where it would meet a defect; where it begins, if there is such a cell, clear of defects.
+fn cut_cell_behind(
+    task: &Task<'_>,
+    steps: &mut Run<Step>,
+    cell: &Part,
+    spot: &Spot,
+    spare: u32,
+) -> Result<Option<u32>, Halt> {
+    let mut at = *spot;
+    for _ in 0..SHIFTS {
+        let many = steps.len();
+        if cut_cell(task, steps, cell, &at)? {
+            return Ok(Some(at.step.e));
+        }
+        for _ in many..steps.len() {
+            let _step = steps.pop();
+        }
+        let Some(begin) = begin_within(task, &at, spot.step.e, cell.size, spare) else {
+            return Ok(None);
+        };
+        if begin <= at.step.e {
+            return Ok(None);
+        }
+        at.step.e = begin;
+    }
+    Ok(None)
+}
+
+/// How wide some cells are together.
+fn width_of(cells: &[Part]) -> u32 {
+    let mut width: u32 = 0;
+    for cell in cells {
+        width = width.saturating_add(cell.size);
+    }
+    width
+}
+
+/// Appends the steps of a band whose cells these are, the last one first; whether they were found clear of defects. What the cells leave of the band goes before those that would
+/// meet a defect.
 fn cut_cells(
     task: &Task<'_>,
     steps: &mut Run<Step>,
@@ -196,12 +271,15 @@ fn cut_cells(
     spot: Spot,
 ) -> Result<bool, Halt> {
     let mut at = spot;
+    let used = at.step.e.saturating_add(width_of(cells));
+    let mut spare = at.step.b.saturating_sub(used);
     for cell in cells.iter().rev() {
-        if !cut_cell(task, steps, cell, &at)? {
+        let Some(begin) = cut_cell_behind(task, steps, cell, &at, spare)? else {
             return Ok(false);
-        }
+        };
+        spare = spare.saturating_sub(begin.saturating_sub(at.step.e));
         at.step.kind = 3;
-        at.step.e = at.step.e.saturating_add(cell.size);
+        at.step.e = begin.saturating_add(cell.size);
     }
     Ok(true)
 }

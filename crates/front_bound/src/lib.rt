@@ -36,3 +36,4 @@ mod slack;
 mod stairs;
 mod strips;
 mod table;
+pub mod watch;

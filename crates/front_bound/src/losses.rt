@@ -10,7 +10,7 @@ use crate::bounds::longest_shown;
 use glass_base::{Instance, Memory};
 use std::alloc::Global;
 
-/// How many labels are looked at in one search; there may be a front for each 10,000 of them. It bounds time, to minutes, and memory, to some gigabytes.
+/// How many labels are looked at in one search; there may be a front for each 50,000 of them. It bounds time, to minutes, and memory, to some gigabytes.
 pub const LABELS: u64 = 1_000_000_000;
 
 /// Longer than every plan, in mm.

@@ -21,6 +21,7 @@ use crate::sets::SizeSet;
 use crate::sides::offer_ends;
 use crate::strips::{Limits, strips_from};
 use crate::table::Fronts;
+use crate::watch::Watch;
 use glass_base::Instance;
 use std::alloc::Global;
 
@@ -299,12 +300,13 @@ fn least_end(instance: &Instance, sides: &[Label], most: u64) -> u64
 }
 
 /// The right sides at which strips can end, front by front, as far as they and what is to go are within `most`.
-pub fn sides_within(
+pub fn sides_within<W: Watch>(
     alloc: Global,
     instance: &Instance,
     fronts: &Fronts<'_>,
     most: u64,
     limit: u64,
+    watch: &W,
 ) -> Result<Pool, Halt>
     requires some { 1 < length fronts.now.rows.now }
     requires fronts { AreFronts instance.now fronts.now }
@@ -324,6 +326,7 @@ pub fn sides_within(
     };
     sides.offer(first, &start)?;
     for done in 0..first {
+        watch.looks(done, first);
         handle_row(
             instance,
             fronts,
@@ -338,12 +341,13 @@ pub fn sides_within(
 }
 
 /// A length that no course is below, as far as what is known of all fronts tells: the least one up to `most`, or more than that where none is so short.
-pub fn least_reached(
+pub fn least_reached<W: Watch>(
     alloc: Global,
     instance: &Instance,
     fronts: &Fronts<'_>,
     most: u64,
     limit: u64,
+    watch: &W,
 ) -> Result<u64, Halt>
     requires { AreFronts instance.now fronts.now }
     ensures { IfOk result (NoCourseShorter instance.now) }
@@ -351,6 +355,6 @@ pub fn least_reached(
     if fronts.rows.len() <= 1 {
         return Ok(0);
     }
-    let sides = sides_within(alloc, instance, fronts, most, limit)?;
+    let sides = sides_within(alloc, instance, fronts, most, limit, watch)?;
     Ok(least_end(instance, sides.labels(0), most.saturating_add(1)))
 }

@@ -15,6 +15,7 @@ use crate::moves::Move;
 use crate::pools::Pool;
 use crate::rows::{Row, links_of};
 use crate::stairs::{ends_behind, with_itself};
+use crate::watch::Watch;
 use glass_base::Instance;
 use std::alloc::Global;
 
@@ -222,13 +223,14 @@ fn add_level(
 }
 
 /// All rows with what is known of them, for classes of strips that end at these widths.
-pub fn levels_of(
+pub fn levels_of<W: Watch>(
     alloc: Global,
     instance: &Instance,
     rows: &[Row],
     tops: &[u32],
     pool: &mut Pool,
     cover: u64,
+    watch: &W,
 ) -> Result<Vec<Level>, Halt>
     requires pool { length pool.old ≡ length rows.now }
     requires lattice { IsLattice instance.now rows.now }
@@ -239,7 +241,8 @@ pub fn levels_of(
 {
     let mut levels = Vec::new(alloc);
     let mut hint = 0;
-    for _ in 0..rows.len() {
+    for done in 0..rows.len() {
+        watch.looks(done, rows.len());
         add_level(
             alloc,
             instance,

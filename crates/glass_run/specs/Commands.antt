@@ -1,5 +1,5 @@
 -- What each command answers to what stands under the names of its files.
-use Rattle.std.specs.Prelude.{◌≡◌, ◌⊎◌, ℕ, List, Option, None}
+use Rattle.std.specs.Prelude.{◌⊎◌, ℕ, List, Option, None}
 use Rattle.glass_base.specs.Problem.{Problem}
 use Rattle.glass_base.specs.declared.role.Role.TheVariants as role
 use Rattle.glass_io.specs.Told.{Contents}

@@ -41,8 +41,8 @@ pub(crate) fn tell_commands(rt: &impl Eprint) {
     let _told = eprint!(rt; "{COMMANDS}");
 }
 
-/// A gate for programs, which is patient, and where that is wanted tells every few seconds how far the search is: how many boxes of the
-/// budget were taken, and the best loss that was seen.
+/// A gate for programs, which is patient, and where that is wanted tells every few seconds how far the search is: how many fronts of this pass were looked at, and
+/// then how many boxes of the budget were taken, and the best loss that was seen.
 #[derive(Drop)]
 pub struct TellingGate<'a, R> {
     rt: &'a R,
@@ -83,21 +83,18 @@ impl<'a, R: Clock + Eprint> TellingGate<'a, R> {
         };
     }
 
-    /// Tells how far the search is, where a line is due. Only the worker that sets the next time tells it.
-    fn tell_if_due(&self, begun: Instant, boxes: u64) {
+    /// Whether a line is due. Of several workers only the one that sets the next time is told so.
+    fn is_due(&self, begun: Instant) -> bool {
         let Ok(elapsed) = begun.elapsed(self.rt) else {
-            return;
+            return false;
         };
         let due = self.due.load(Ordering::Relaxed);
         let next = elapsed.as_secs().saturating_add(SECONDS_BETWEEN_LINES);
-        if elapsed.as_secs() >= due
+        elapsed.as_secs() >= due
             && self
                 .due
                 .compare_exchange(due, next, Ordering::Relaxed, Ordering::Relaxed)
                 .is_ok()
-        {
-            self.tell(boxes);
-        }
     }
 }
 
@@ -106,8 +103,8 @@ impl<'a, R: Clock + Eprint> Gate for TellingGate<'a, R> {
         self.patient.pass(worker, id);
         if let Some(begun) = self.begun {
             let boxes = self.boxes.fetch_add(1, Ordering::Relaxed);
-            if boxes % BOXES_BETWEEN_LOOKS == 0 {
-                self.tell_if_due(begun, boxes);
+            if boxes % BOXES_BETWEEN_LOOKS == 0 && self.is_due(begun) {
+                self.tell(boxes);
             }
         }
     }
@@ -119,6 +116,14 @@ impl<'a, R: Clock + Eprint> Gate for TellingGate<'a, R> {
     fn sees(&self, loss: u64) {
         if loss < self.loss.load(Ordering::Relaxed) {
             self.loss.store(loss, Ordering::Relaxed);
+        }
+    }
+
+    fn looks(&self, done: usize, all: usize) {
+        if let Some(begun) = self.begun {
+            if self.is_due(begun) {
+                let _told = eprintln!(self.rt; "{done} of {all} fronts looked at");
+            }
         }
     }
 }

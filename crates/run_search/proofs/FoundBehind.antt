@@ -1,11 +1,8 @@
 -- What a search finds that goes on from a plan, and what stands behind the first plates of one.
-use Rattle.std.proofs.Common.{◌≡◌, ℕ, ◌<◌, ◌≤◌, ◌+◌, ◌*◌, ◌^◌, List, arith, refl, sym, ap, ◌∙◌, subst, Option, Some, None}
-use Rattle.std.specs.Prelude.{IfOk, IfSome, Ok, Err, Result, length, option_map}
+use Rattle.std.proofs.Common.{◌≡◌, ℕ, ◌<◌, ◌≤◌, ◌+◌, ◌*◌, ◌^◌, List, arith, refl, sym, ap, ◌∙◌, subst, Option, Some}
+use Rattle.std.specs.Prelude.{IfOk, IfSome, Ok, Err, Result, length}
 use Rattle.std.proofs.lemmas.List.Elements.{All-weaker}
-use Rattle.std.proofs.Math.Nat.{mul-le-mul_left, mul-le-mul_right}
-use Rattle.glass_base.specs.Plates.{Before}
 use Rattle.glass_base.specs.Problem.{Problem, IsProblem}
-use Rattle.glass_base.proofs.PlateLemmas.{before_within}
 use Rattle.cut_model.specs.Lawful.{IsLawful as IsLawfulPlan}
 use Rattle.cut_model.specs.Loss.{loss_of as plan_loss}
 use Rattle.cut_model.specs.declared.plan.Plan.{Plan}
@@ -13,13 +10,11 @@ use Rattle.cut_model.specs.Families.{families_of}
 use Rattle.cut_model.specs.Fits.{Fits}
 use Rattle.cut_model.specs.Rules.{AddsUp, KeepsCutRules}
 use Rattle.cut_model.specs.Tree.{Forest, count, neighbour_count, tree}
-use Rattle.loss_area.proofs.Balance.{balance}
 use Rattle.plan_freeze.specs.Claims.{IsFrozen}
-use Rattle.plan_freeze.specs.Frozen.{BeginsWith, first_plates, joined, later_plates}
+use Rattle.plan_freeze.specs.Frozen.{first_plates, joined, later_plates}
 use Rattle.plan_freeze.specs.Rests.{IsRest, frozen_loss}
-use Rattle.plan_freeze.proofs.CallsLeft.{plates_within}
 use Rattle.plan_freeze.proofs.Forests.{joined_fits}
-use Rattle.plan_freeze.proofs.FrozenLaw.{rest_is_planned, rest_loses, tail_lawful, whole_is_found}
+use Rattle.plan_freeze.proofs.FrozenLaw.{rest_is_planned, rest_loses, whole_is_found}
 use Rattle.cert_log.specs.declared.certificate.Certificate.{Certificate}
 use Rattle.cert_log.specs.declared.history.History.{History}
 use Rattle.cert_log.specs.Good.{IsGood, IsVersion, Reaches, version_for}
@@ -30,12 +25,10 @@ use Rattle.cert_log.proofs.Covers.{bounds_each_plan}
 use Rattle.run_frame.specs.Answers.{Answer}
 use Rattle.run_search.specs.Freezes.{Freezes, FreezesPlan, FreezesSaid, IsFoundFrom, frozen_planned}
 use Rattle.run_search.specs.Freezes.FreezesPlan.{broken_plan}
-use Rattle.run_checks.specs.FrozenChecks.{loss_behind}
 use Rattle.run_plans.specs.Judgements.{unlawful}
 use Rattle.run_search.specs.Plans.{HasLoss}
 use Rattle.run_checks.specs.Checks.{root_ranges}
 use Rattle.run_checks.specs.Said.{SayBoth}
-use Rattle.run_checks.specs.inner.Checked.{IsRightBehind}
 use Rattle.run_plans.specs.Breaches.{IsBreachIfAny}
 use Rattle.plan_csv.specs.Solutions.{solution_text}
 use Rattle.plan_csv.specs.declared.bad_plan.BadPlan.{BadPlan}

@@ -1,5 +1,5 @@
 -- What `freeze` answers to an instance and the text of a plan.
-use Rattle.std.specs.Prelude.{◌≡◌, ◌⊎◌, ◌≤◌, ◌<◌, ◌+◌, ◌*◌, ℕ, List, [], ◌∷◌, length, option_map, Some, Ok, Err, Result}
+use Rattle.std.specs.Prelude.{◌≡◌, ◌⊎◌, ◌≤◌, ◌<◌, ◌*◌, ℕ, List, [], ◌∷◌, length, Some, Ok, Err, Result}
 use Rattle.glass_base.specs.Problem.{Problem}
 use Rattle.glass_base.specs.declared.role.Role.TheVariants as role
 use Rattle.cut_model.specs.declared.broken.Broken.{Broken}

@@ -24,6 +24,7 @@ use command_line::Product;
 use cut_model::{Plan, plates_used};
 use defect_map::DefectMap;
 use first_plan::{Start, first_plan, start_by_fronts};
+use front_bound::watch::Watch;
 use glass_base::{Instance, Memory, Role, Run, append};
 use plan_box::PlanBox;
 use plan_csv::write_plan;
@@ -180,12 +181,25 @@ pub(crate) fn history_from<R: Threads + Wait + Sync, G: Gate + Sync>(
     )
 }
 
+/// Tells a gate how far a search over fronts is.
+#[derive(Clone, Copy)]
+struct Telling<'a, G> {
+    gate: &'a G,
+}
+
+impl<'a, G: Gate> Watch for Telling<'a, G> {
+    fn looks(&self, done: usize, all: usize) {
+        self.gate.looks(done, all);
+    }
+}
+
 /// What a search begins with: the first plan, and where fronts are asked, what they show.
-fn start_of(
+fn start_of<G: Gate>(
     alloc: Global,
     instance: &Instance,
     map: &DefectMap,
     fronts: bool,
+    gate: &G,
 ) -> Result<Start, Memory>
     requires map { map.now ≡ instance.now.defects }
     ensures plan { IfOk result (λ start. IfSome start.first (λ trace. IsFirstPlan instance.now trace.steps.items)) }
@@ -194,7 +208,7 @@ fn start_of(
     ensures unasked { IfOk result (λ start. fronts ≡ false → start.floor ≡ 0) }
 {
     if fronts {
-        return start_by_fronts(alloc, instance, map);
+        return start_by_fronts(alloc, instance, map, &Telling { gate });
     }
     let first = first_plan(alloc, instance, map)?;
     Ok(Start { first, floor: 0 })
@@ -218,7 +232,7 @@ fn search_with<R: Threads + Wait + Sync, G: Gate + Sync>(
     ensures history { IfOk result (λ s. IsWatchedHistory instance.now budget watch s.history s.improvements) }
     ensures unasked { IfOk result (λ s. fronts ≡ false → s.history.floor ≡ 0) }
 {
-    let start = start_of(alloc, instance, map, fronts)?;
+    let start = start_of(alloc, instance, map, fronts, gate)?;
     let _loss = first_loss(instance, &start.first);
     search_from(
         rt, alloc, instance, map, start, workers, budget, watch, gate,

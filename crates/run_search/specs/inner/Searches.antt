@@ -3,11 +3,9 @@ use Rattle.std.specs.Prelude.{◌≡◌, ◌≤◌, ◌<◌, ◌*◌, ℕ, lengt
 use Rattle.glass_base.specs.Problem.{Problem}
 use Rattle.glass_base.specs.Run.{Listed}
 use Rattle.glass_base.specs.declared.role.Role.TheVariants as role
-use Rattle.cut_model.specs.declared.plan.Plan.{Plan}
 use Rattle.cut_model.specs.declared.steps.Step.{Step}
-use Rattle.cut_model.specs.Fits.{Fits}
 use Rattle.cut_model.specs.Loss.{loss_of as plan_loss}
-use Rattle.cut_model.specs.Tree.{Forest, count, tree}
+use Rattle.cut_model.specs.Tree.{Forest, count}
 use Rattle.plan_draft.specs.Drafts.{IsDraft}
 use Rattle.best_board.specs.declared.entry.Entry.{Entry}
 use Rattle.best_board.specs.Improvements.{AreImprovements, Found, found_in, last_loss}

@@ -1,6 +1,6 @@
 use Rattle.std.proofs.Common.{rules, refl, ◌≤◌, arith}
 use Rattle.cert_log.specs.Lawful.{no_loss}
-use Rattle.box_workers.proofs.Probing.{finds_none, improves_from, no_point}
+use Rattle.box_workers.proofs.Probing.{closed_as, finds_none, improves_from, no_point}
 use Rattle.box_workers.proofs.Steps.{refuted_fails}
 use Rattle.box_workers.proofs.handling.decide.Goals as goal
 
@@ -25,8 +25,8 @@ returns-in-Some-clause-decides c =
       },
     )
 
-pub returns-then-bound_at-threshold-clause-decides : goal.returns-then-bound_at-threshold-clause-decides
-returns-then-bound_at-threshold-clause-decides c =
+pub returns-in-Some-closing_cause-clause-decides : goal.returns-in-Some-closing_cause-clause-decides
+returns-in-Some-closing_cause-clause-decides c =
     let l = c.look-seen.ensures in let i = c.improve-broken.ensures.improves in let same = c.improve-broken.ensures.same in (
       c.look-seen.result,
       i.0,
@@ -37,29 +37,7 @@ returns-then-bound_at-threshold-clause-decides c =
         first = l.first;
         whole = l.whole;
         improves = improves_from _ _ _ _ _ _ c.args.hand.now _ _ l.view refl refl i.1;
-        is_act = (c.min-threshold.ensures, c.in_default.ensures.first, (let t = c.if-bound_at-threshold.true in let e = c.bound_at.ensures in omega arith));
-        worker = same.1;
-        log = same.2;
-        left = same.3;
-        spares = same.4;
-      },
-    )
-
-pub returns-then-reaches_floor-clause-decides : goal.returns-then-reaches_floor-clause-decides
-returns-then-reaches_floor-clause-decides c =
-    let l = c.look-seen.ensures in let i = c.improve-broken.ensures.improves in let same = c.improve-broken.ensures.same in (
-      c.look-seen.result,
-      i.0,
-      record {
-        valid = c.frame-frame.ensures.rules;
-        before = l.seen;
-        announced = l.announced;
-        first = l.first;
-        whole = l.whole;
-        improves = improves_from _ _ _ _ _ _ c.args.hand.now _ _ l.view refl refl i.1;
-        is_act = (
-            let r = c.reaches_floor.ensures.0 c.if-reaches_floor.true in let f = c.floor.ensures in
-            (c.min-threshold.ensures, c.in_default.ensures.first, omega (arith, r.0, f), omega (arith, r.1, f), r.2));
+        is_act = closed_as _ _ c.floor.result _ _ _ c.bound_at-bound.result _ c.in-Some-closing_cause.cause c.floor.ensures c.min-threshold.ensures c.in_default.ensures.first c.bound_at-bound.ensures c.in-Some-closing_cause.ensures;
         worker = same.1;
         log = same.2;
         left = same.3;
@@ -70,7 +48,7 @@ returns-then-reaches_floor-clause-decides c =
 pub choose-step-requires : goal.choose-step-requires
 choose-step-requires c =
     let i = c.improve-broken.ensures.improves in
-    no_point c.args.instance.now c.args.bx.now c.look-seen.result i.0 c.improve-broken.new.hand.loss c.bound_at.result c.requires.frame c.frame-frame.ensures.rules c.params-params.ensures.rules.some c.in_default.ensures.first i.1.is_probed (let e = i.1.loss in omega arith) c.bound_at.ensures (let t = c.if-bound_at-threshold.false in let m = c.min-threshold.ensures in omega arith)
+    no_point c.args.instance.now c.args.bx.now c.look-seen.result i.0 c.improve-broken.new.hand.loss c.bound_at-bound.result c.requires.frame c.frame-frame.ensures.rules c.params-params.ensures.rules.some c.in_default.ensures.first i.1.is_probed (let e = i.1.loss in omega arith) c.bound_at-bound.ensures (let t = c.in_default-closing_cause.ensures in let m = c.min-threshold.ensures in omega arith)
 
 pub returns-clause-decides : goal.returns-clause-decides
 returns-clause-decides c =
@@ -84,7 +62,7 @@ returns-clause-decides c =
         first = l.first;
         whole = l.whole;
         improves = improves_from _ _ _ _ _ _ c.args.hand.now _ _ l.view refl refl i.1;
-        is_act = (c.in_default.ensures.first, (let t = c.if-bound_at-threshold.false in let e = c.bound_at.ensures in let m = c.min-threshold.ensures in omega arith), c.choose-step.ensures);
+        is_act = (c.in_default.ensures.first, (let t = c.in_default-closing_cause.ensures in let e = c.bound_at-bound.ensures in let m = c.min-threshold.ensures in omega arith), c.choose-step.ensures);
         worker = same.1;
         log = same.2;
         left = same.3;

@@ -3,7 +3,7 @@ use Rattle.front_course.specs.Claims.{NoCourseShorter}
 use Rattle.front_bound.proofs.bounds.longest.Given as goal
 
 abbrev pub invariant-loop : goal.invariant-loop
-invariant-loop l = record {
+invariant-loop g l = record {
   shown : NoCourseShorter l.instance l.shown;
   most : l.shown ≤ l.fn.most;
 }

@@ -5,7 +5,7 @@ use Rattle.front_bound.proofs.PoolRows.{kept_at}
 use Rattle.front_bound.proofs.runs.sides_within.Goals as goal
 
 pub loop-done-preserved : goal.loop-done-preserved
-loop-done-preserved c =
+loop-done-preserved g c =
     let first : ℕ = length c.args.fronts.now.rows.now - 1 in
     record {
       space = c.in_ok-handle_row.ensures.space;
@@ -16,4 +16,4 @@ loop-done-preserved c =
     }
 
 pub returns-clause-goes_on : goal.returns-clause-goes_on
-returns-clause-goes_on c = λ n some lt. c.loop-done.invariant.goes_on n (omega (arith, some, c.loop-done-test.false)) (omega (arith, lt))
+returns-clause-goes_on g c = λ n some lt. c.loop-done.invariant.goes_on n (omega (arith, some, c.loop-done-test.false)) (omega (arith, lt))

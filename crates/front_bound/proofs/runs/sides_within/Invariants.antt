@@ -6,7 +6,7 @@ use Rattle.front_bound.specs.inner.Sides.{SidesGoOn}
 use Rattle.front_bound.proofs.runs.sides_within.Given as goal
 
 abbrev pub invariant-loop-done : goal.invariant-loop-done
-invariant-loop-done l = record {
+invariant-loop-done g l = record {
   space : IsRoomy l.fronts.rows.now l.space;
   len : length l.sides ≡ length l.fronts.rows.now;
   held : HeldAt l.sides l.first 0 0;

@@ -1,4 +1,3 @@
-use Rattle.std.proofs.Common.{[]}
 use Rattle.cut_model.specs.Tree.{tree}
 use Rattle.command_line.specs.declared.grammar.Product.TheVariants as product
 use Rattle.run_frame.specs.Forms.{answer_in, notice_in}

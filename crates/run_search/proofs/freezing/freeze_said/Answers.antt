@@ -1,4 +1,3 @@
-use Rattle.std.proofs.Common.{[]}
 use Rattle.std.proofs.lemmas.Result.{IfOk-weaker}
 use Rattle.cut_model.specs.Tree.{tree}
 use Rattle.plan_csv.specs.PlanTexts.{plan_said}
