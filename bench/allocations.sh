@@ -1,5 +1,5 @@
 #!/usr/bin/env bash
-# Refuses each allocation of `plan`, `verify`, `resume`, `freeze` and `sheet` on an instance of one item in turn, and tells of each command
+# Refuses each allocation of `plan`, `verify`, `resume`, `freeze` and `sheet` on an instance of one item in turn, and of `gen --effort` on one of three, and tells of each command
 # how many were refused and how the runs ended: with status 8, each file that is stored being absent, as before or whole; or as ever, where
 # the program does without that memory. Anything else is printed and ends the script with 1. The program is built once, as `glass` builds it;
 # a library that is loaded before the system's counts the allocations and refuses one.
@@ -93,5 +93,6 @@ try_all plan "out.csv out.txt" plan one.csv none.csv out.csv out.txt --workers=1
 try_all verify "" verify one.csv none.csv plan.csv cert.txt
 try_all resume "out.csv out.txt" resume one.csv none.csv part.csv part.txt out.csv out.txt --workers=1
 try_all freeze "out.csv out.txt" freeze 1 three.csv none.csv two.csv out.csv out.txt --workers=1 --budget=5
+try_all effort "out.csv out.txt" gen 7 3 2 out.csv out.txt --workers=1 --budget=1 --effort=300
 try_all sheet "out.sheet" sheet one.csv none.csv plan.csv out.sheet
 exit $failed

@@ -14,6 +14,9 @@ pub trait Gate {
 
     /// Before boxes, fronts are looked at: so many of all in one of several passes. A gate that does not say otherwise takes no notice.
     fn looks(&self, _done: usize, _all: usize) {}
+
+    /// Before boxes, work is done for a better first plan: so many millions of ticks of so many were spent. A gate that does not say otherwise takes no notice.
+    fn spends(&self, _millions: u64, _of: u64) {}
 }
 
 /// A gate that does nothing.

@@ -50,7 +50,7 @@ pattern_of verb.Plan = record {
   without = [];
   stores = product.Plan ∷ product.Certificate ∷ [];
   options = role.Params ∷ role.Plates ∷ [];
-  counts = count.Workers ∷ count.Budget ∷ [];
+  counts = count.Workers ∷ count.Budget ∷ count.Effort ∷ [];
   flags = flag.Watch ∷ flag.Fronts ∷ [];
 }
 pattern_of verb.Gen = record {
@@ -60,7 +60,7 @@ pattern_of verb.Gen = record {
   without = [];
   stores = product.Plan ∷ product.Certificate ∷ [];
   options = [];
-  counts = count.Workers ∷ count.Budget ∷ [];
+  counts = count.Workers ∷ count.Budget ∷ count.Effort ∷ [];
   flags = flag.Fronts ∷ [];
 }
 pattern_of verb.Judge = record {
@@ -195,30 +195,35 @@ abbrev pub count_front : Count → List ℕ
 count_front count.Workers = codes "--workers="
 count_front count.Budget = codes "--budget="
 count_front count.Frozen = codes "--frozen="
+count_front count.Effort = codes "--effort="
 
 -- the greatest number that can be set; the least is 1
 abbrev pub count_most : Count → ℕ
 count_most count.Workers = 8
 count_most count.Budget = 10000000
 count_most count.Frozen = 1000
+count_most count.Effort = 1000000
 
--- the number where a line sets none: no plates are cut already
+-- the number where a line sets none: no plates are cut already, and no more work is done than for the usual first plan
 abbrev pub count_usual : Count → ℕ
 count_usual count.Workers = 4
 count_usual count.Budget = 100000
 count_usual count.Frozen = 0
+count_usual count.Effort = 0
 
 -- the least number that a line may have, whether it sets one or not
 abbrev pub count_least : Count → ℕ
 count_least count.Workers = 1
 count_least count.Budget = 1
 count_least count.Frozen = 0
+count_least count.Effort = 0
 
 -- the file without which this number says nothing, if there is one
 abbrev pub count_needs : Count → Option Role
 count_needs count.Workers = None
 count_needs count.Budget = None
 count_needs count.Frozen = Some role.Plan
+count_needs count.Effort = None
 
 -- the word of an option that has no value
 abbrev pub flag_word : Flag → List ℕ

@@ -115,6 +115,8 @@ pub enum Count {
     Budget,
     /// How many plates of a plan are cut already.
     Frozen,
+    /// How much work is done for a better first plan, in millions of ticks.
+    Effort,
 }
 
 /// An option that has no value.
@@ -192,7 +194,7 @@ impl Verb {
                 without: &[],
                 stores: &[Product::Plan, Product::Certificate],
                 options: &[Role::Params, Role::Plates],
-                counts: &[Count::Workers, Count::Budget],
+                counts: &[Count::Workers, Count::Budget, Count::Effort],
                 flags: &[Flag::Watch, Flag::Fronts],
             },
             Verb::Gen => Form {
@@ -202,7 +204,7 @@ impl Verb {
                 without: &[],
                 stores: &[Product::Plan, Product::Certificate],
                 options: &[],
-                counts: &[Count::Workers, Count::Budget],
+                counts: &[Count::Workers, Count::Budget, Count::Effort],
                 flags: &[Flag::Fronts],
             },
             Verb::Judge => Form {
@@ -327,6 +329,7 @@ pub(crate) fn count_front(count: Count) -> &'static str
         Count::Workers => "--workers=",
         Count::Budget => "--budget=",
         Count::Frozen => "--frozen=",
+        Count::Effort => "--effort=",
     }
 }
 
@@ -338,6 +341,7 @@ pub(crate) fn count_most(count: Count) -> u32
         Count::Workers => 8,
         Count::Budget => 10_000_000,
         Count::Frozen => 1000,
+        Count::Effort => 1_000_000,
     }
 }
 
@@ -349,6 +353,7 @@ pub(crate) fn count_usual(count: Count) -> u32
         Count::Workers => 4,
         Count::Budget => 100_000,
         Count::Frozen => 0,
+        Count::Effort => 0,
     }
 }
 
@@ -360,6 +365,7 @@ pub(crate) fn count_needs(count: Count) -> Option<Role>
         Count::Workers => None,
         Count::Budget => None,
         Count::Frozen => Some(Role::Plan),
+        Count::Effort => None,
     }
 }
 

@@ -14,3 +14,8 @@ IsNoLongerThanDraft b steps = (drafted : List Step) → IsDraft b drafted → le
 pub record IsFirstPlan (b : Problem) (steps : List Step) : Type 0 where
   pub complete : IsComplete b steps
   pub no_longer : IsNoLongerThanDraft b steps
+
+-- what more work makes of a first plan: a first plan too, that takes no more glass
+pub record IsImproved (b : Problem) (before steps : List Step) : Type 0 where
+  pub plan : IsFirstPlan b steps
+  pub no_longer : length_of b steps ≤ length_of b before

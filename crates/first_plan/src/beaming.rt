@@ -14,7 +14,7 @@ use plan_trace::meets;
 use std::alloc::Global;
 
 /// What a beam found, where its trace has a step for each item and meets the rules.
-fn checked(instance: &Instance, map: &DefectMap, found: Option<Found>) -> Option<Found>
+pub(crate) fn checked(instance: &Instance, map: &DefectMap, found: Option<Found>) -> Option<Found>
     requires map { map.now ≡ instance.now.defects }
     ensures { IfSome result (λ found. IsComplete instance.now found.trace.steps.items) }
 {

@@ -1,10 +1,12 @@
-//! A first plan: that of two beams, or the draft where that is shorter; and what a search begins with that asks what fronts show.
+//! A first plan: that of two beams, or the draft where that is shorter; a better one for more work; and what a search begins with that asks what fronts show.
 #![tactic(auto)]
 
 mod beaming;
 mod choosing;
 mod comparing;
+mod improving;
 mod starting;
 
 pub use choosing::first_plan;
+pub use improving::{Effort, Progress, Team, improve};
 pub use starting::{Start, start_by_fronts};

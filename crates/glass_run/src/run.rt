@@ -21,7 +21,7 @@ use run_frame::{
     NoReply, Reply, Status, Text, USAGE_LINE, deliver, fetch_files, read_fault_line, reply_with,
     text_of_role, text_or_empty,
 };
-use run_search::{freeze_text, plan_instance, resume_texts};
+use run_search::{Opening, freeze_text, plan_instance, resume_texts};
 use std::alloc::Global;
 use std::sync::Wait;
 use std::thread::Threads;
@@ -42,8 +42,11 @@ fn reply_by_search<R: Threads + Wait + Sync, G: Gate + Sync>(
     match line.verb {
         Verb::Plan | Verb::Gen => {
             let watch = line.flag(Flag::Watch);
-            let fronts = line.flag(Flag::Fronts);
-            plan_instance(rt, alloc, instance, workers, budget, watch, fronts, gate)
+            let opening = Opening {
+                fronts: line.flag(Flag::Fronts),
+                effort: line.count(Count::Effort),
+            };
+            plan_instance(rt, alloc, instance, workers, budget, watch, opening, gate)
         }
         Verb::Resume => {
             let plan = text_of_role(texts, Role::Plan);
@@ -151,7 +154,7 @@ fn run_line<R: Threads + Wait + Sync, F: Files, S: Sink, G: Gate + Sync>(
 /// `draft` stores the plan of the draft of a batch, on plates without defects. `plan` searches for a plan that loses little, closing or splitting
 /// as many boxes as `--budget=` says at the most, with as many workers as `--workers=` says; it stores the best plan and the certificate of the
 /// search, and prints how the search ended, the loss, the bound on the loss of every lawful plan, the number of plates, and how many boxes were
-/// handled and are open; with `--watch` also the losses of the plans that it came by; with `--fronts` it begins with what fronts show. `gen` does the same with an instance that is
+/// handled and are open; with `--watch` also the losses of the plans that it came by; with `--fronts` it begins with what fronts show, and with `--effort` with what more work finds. `gen` does the same with an instance that is
 /// drawn from numbers. `resume` goes on from a certificate, `freeze` plans anew what stands behind the first plates of a plan. `judge` judges anybody's
 /// solution file: it prints the loss of a lawful plan, or the first rule that the plan breaks. `verify` checks a plan and a certificate, and
 /// `convert` names the causes in one. `sheet` stores by which instructions a table cuts a plan, and `replay` follows such instructions.

@@ -30,6 +30,7 @@ behind them, in any order:
   --params=FILE  --plates=FILE    other parameters, plates of different widths (not with gen)
   --budget=N  --workers=N         how many boxes, 100000; how many threads, 4 (plan, gen, resume, freeze)
   --fronts                        begins with what fronts show: mostly optimal for few stacks (plan, gen)
+  --effort=N                      a better first plan for N million ticks: 300 are some ten seconds (plan, gen)
   --watch                         the losses on the way as well (plan)
   --frozen=K                      the first K plates are cut already (verify)
 
@@ -41,8 +42,8 @@ pub(crate) fn tell_commands(rt: &impl Eprint) {
     let _told = eprint!(rt; "{COMMANDS}");
 }
 
-/// A gate for programs, which is patient, and where that is wanted tells every few seconds how far the search is: how many fronts of this pass were looked at, and
-/// then how many boxes of the budget were taken, and the best loss that was seen.
+/// A gate for programs, which is patient, and where that is wanted tells every few seconds how far the search is: how many fronts of this pass were looked at, how
+/// much of the effort was spent, and then how many boxes of the budget were taken, and the best loss that was seen.
 #[derive(Drop)]
 pub struct TellingGate<'a, R> {
     rt: &'a R,
@@ -123,6 +124,17 @@ impl<'a, R: Clock + Eprint> Gate for TellingGate<'a, R> {
         if let Some(begun) = self.begun {
             if self.is_due(begun) {
                 let _told = eprintln!(self.rt; "{done} of {all} fronts looked at");
+            }
+        }
+    }
+
+    fn spends(&self, millions: u64, of: u64) {
+        if let Some(begun) = self.begun {
+            if self.is_due(begun) {
+                let loss = self.loss.load(Ordering::Relaxed);
+                let _told = eprintln!(self.rt;
+                    "{millions} of {of} million ticks spent, best loss {loss}"
+                );
             }
         }
     }

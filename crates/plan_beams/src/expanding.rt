@@ -1,12 +1,14 @@
 //! The children of a node.
 
+use crate::fitting::{note_bottoms, note_lefts};
 use crate::form::{Base, Form, Forms};
+use crate::keeping::{Keeper, Ledger};
 use crate::measure::Length;
 use crate::node::{Begins, Candidate, Node};
-use crate::placing::{left_of, place, waste_of};
+use crate::placing::place;
 use crate::scene::{Reach, Scene};
-use crate::strip::{OpenStrip, closed};
-use crate::task::{Ledger, Task};
+use crate::strip::{OpenStrip, ROOM, closed};
+use crate::task::Task;
 use glass_base::Memory;
 use std::alloc::Global;
 
@@ -22,6 +24,8 @@ pub struct Bench {
 #[derive(Drop)]
 struct Attempt {
     tries: Vec<Length>,
+    /// Places of bands and strips behind defects.
+    behind: Vec<Length>,
     /// Whether the plate takes a child.
     any: bool,
     /// Whether no child was passed over for its waste.
@@ -62,9 +66,9 @@ fn furthest(task: &Task, scene: &Scene) -> Length {
 }
 
 /// Puts a form into the open band, behind its last cell.
-fn put_cell(
+fn put_cell<K: Keeper>(
     task: &Task,
-    ledger: &mut Ledger,
+    ledger: &mut Ledger<K>,
     scene: &Scene,
     form: &mut Form,
     attempt: &mut Attempt,
@@ -77,57 +81,118 @@ fn put_cell(
     if least.b > furthest(task, scene) || least.d > task.sheet.high {
         return Ok(());
     }
-    if waste_of(task, scene, form, right, least) >= form.limit {
+    if ledger.kept.is_late(task, scene, form, right, least) {
         attempt.hope = false;
         return Ok(());
     }
-    let found = place(task, ledger, scene, form, right, &mut attempt.tries)?;
+    let found = place(task, ledger, scene, form, right, least, &mut attempt.tries)?;
     if let Some(reach) = found {
         attempt.any = true;
-        form.done = reach.b == scene.b && reach.d == scene.d;
+        form.done = !task.guide.loose && reach.b == scene.b && reach.d == scene.d;
     }
     Ok(())
 }
 
 /// Puts a form into a new band over the open one.
-fn put_band(
+fn put_band<K: Keeper>(
     task: &Task,
-    ledger: &mut Ledger,
+    ledger: &mut Ledger<K>,
     scene: &Scene,
     form: &mut Form,
     attempt: &mut Attempt,
 ) -> Result<(), Memory> {
-    let least = scene.b.max(scene.a + form.width);
-    let top = scene.c + form.height.max(task.sheet.min2);
-    if form.done || least > furthest(task, scene) || top > task.sheet.high {
+    let high = form.height.max(task.sheet.min2);
+    let least = Reach {
+        b: scene.b.max(scene.a + form.width),
+        d: scene.c + high,
+    };
+    if form.done || least.b > furthest(task, scene) || least.d > task.sheet.high {
         return Ok(());
     }
-    if left_of(task, scene) + (least - scene.a) * scene.c - scene.base.area >= form.limit {
+    if ledger.kept.is_late(task, scene, form, scene.a, least) {
         attempt.hope = false;
         return Ok(());
     }
-    let found = place(task, ledger, scene, form, scene.a, &mut attempt.tries)?;
+    let found = place(
+        task,
+        ledger,
+        scene,
+        form,
+        scene.a,
+        least,
+        &mut attempt.tries,
+    )?;
     if let Some(reach) = found {
         attempt.any = true;
-        form.done = reach.b == scene.b;
+        form.done = !task.guide.loose && reach.b == scene.b;
+    }
+    if task.guide.more && found != Some(least) {
+        return put_bands_behind(task, ledger, scene, form, high, attempt);
     }
     Ok(())
 }
 
-/// Whether a new strip is wide enough for a form that is not done.
-fn has_strip(task: &Task, scene: &Scene, form: &Form) -> bool {
-    !form.done && scene.a + form.width.max(task.sheet.min1) <= scene.wide
+/// Puts a form into new bands whose bottoms are above defects.
+fn put_bands_behind<K: Keeper>(
+    task: &Task,
+    ledger: &mut Ledger<K>,
+    scene: &Scene,
+    form: &Form,
+    high: Length,
+    attempt: &mut Attempt,
+) -> Result<(), Memory> {
+    note_bottoms(task.sheet, scene, scene.c, &mut attempt.behind)?;
+    for bottom in &attempt.behind {
+        let least = Reach {
+            b: scene.b,
+            d: *bottom + high,
+        };
+        if least.d <= task.sheet.high {
+            let over = Scene {
+                c: *bottom,
+                d: *bottom,
+                ..*scene
+            };
+            let found = place(
+                task,
+                ledger,
+                &over,
+                form,
+                scene.a,
+                least,
+                &mut attempt.tries,
+            )?;
+            if found.is_some() {
+                attempt.any = true;
+            }
+        }
+    }
+    Ok(())
 }
 
-/// Whether the glass left of a new strip is so much waste that a form is of no use there.
-fn is_strip_late(task: &Task, scene: &Scene, form: &Form) -> bool {
-    left_of(task, scene) - scene.base.area >= form.limit
+/// How far a new strip and its band reach at the least for a form.
+fn strip_reach(task: &Task, scene: &Scene, form: &Form) -> Reach {
+    Reach {
+        b: scene.a + form.width.max(task.sheet.min1),
+        d: form.height.max(task.sheet.min2),
+    }
+}
+
+/// Whether a new strip is wide enough for a form that is not done.
+fn has_strip(task: &Task, scene: &Scene, form: &Form) -> bool {
+    !form.done && strip_reach(task, scene, form).b <= scene.wide
+}
+
+/// Whether so much is lost left of a new strip that a form is of no use there.
+fn is_strip_late<K: Keeper>(task: &Task, kept: &K, scene: &Scene, form: &Form) -> bool {
+    let least = strip_reach(task, scene, form);
+    kept.is_late(task, scene, form, scene.a, least)
 }
 
 /// Puts a form into a new strip.
-fn put_strip(
+fn put_strip<K: Keeper>(
     task: &Task,
-    ledger: &mut Ledger,
+    ledger: &mut Ledger<K>,
     scene: &Scene,
     form: &Form,
     attempt: &mut Attempt,
@@ -135,13 +200,51 @@ fn put_strip(
     if !has_strip(task, scene, form) {
         return Ok(());
     }
-    if is_strip_late(task, scene, form) {
+    if is_strip_late(task, &ledger.kept, scene, form) {
         attempt.hope = false;
         return Ok(());
     }
-    let found = place(task, ledger, scene, form, scene.a, &mut attempt.tries)?;
+    let least = strip_reach(task, scene, form);
+    let found = place(
+        task,
+        ledger,
+        scene,
+        form,
+        scene.a,
+        least,
+        &mut attempt.tries,
+    )?;
     if found.is_some() {
         attempt.any = true;
+    }
+    if task.guide.more && found != Some(least) {
+        return put_strips_behind(task, ledger, scene, form, attempt);
+    }
+    Ok(())
+}
+
+/// Puts a form into new strips whose left sides are right of defects.
+fn put_strips_behind<K: Keeper>(
+    task: &Task,
+    ledger: &mut Ledger<K>,
+    scene: &Scene,
+    form: &Form,
+    attempt: &mut Attempt,
+) -> Result<(), Memory> {
+    note_lefts(task.sheet, scene, scene.a, &mut attempt.behind)?;
+    for left in &attempt.behind {
+        let right = Scene {
+            a: *left,
+            b: *left,
+            ..*scene
+        };
+        let least = strip_reach(task, &right, form);
+        if least.b <= scene.wide {
+            let found = place(task, ledger, &right, form, *left, least, &mut attempt.tries)?;
+            if found.is_some() {
+                attempt.any = true;
+            }
+        }
     }
     Ok(())
 }
@@ -150,9 +253,10 @@ impl Bench {
     pub fn new(alloc: Global, widest: Length) -> Result<Bench, Memory> {
         Ok(Bench {
             forms: Forms::new(alloc, widest)?,
-            strip: OpenStrip::new(alloc),
+            strip: OpenStrip::new(alloc)?,
             attempt: Attempt {
-                tries: Vec::new(alloc),
+                tries: Vec::with_capacity(alloc, ROOM)?,
+                behind: Vec::with_capacity(alloc, ROOM)?,
                 any: false,
                 hope: true,
             },
@@ -161,19 +265,17 @@ impl Bench {
 
     /// Offers the children of a node: cells in its band, bands in its strip, strips on its plate, and where none of these finds
     /// a place and none was passed over, strips on the next plate.
-    pub fn expand(
+    pub fn expand<K: Keeper>(
         &mut self,
         task: &Task,
-        ledger: &mut Ledger,
+        ledger: &mut Ledger<K>,
         arena: &[Node],
         parent: Option<u32>,
         base: &Base,
     ) -> Result<(), Memory> {
-        self.forms.note(task, ledger, base)?;
+        self.forms.note(task, &ledger.kept, base)?;
         let forms = self.forms.list.len() as u64;
-        ledger
-            .ticks
-            .spend((forms.wrapping_mul(3) / 2).wrapping_add(40));
+        ledger.ticks.spend(ledger.kept.ticks_for(forms));
         self.attempt.any = false;
         self.attempt.hope = true;
         let mut next = 0;
@@ -197,10 +299,10 @@ impl Bench {
     }
 
     /// Offers strips on a plate that a node begins.
-    fn begin_plate(
+    fn begin_plate<K: Keeper>(
         &mut self,
         task: &Task,
-        ledger: &mut Ledger,
+        ledger: &mut Ledger<K>,
         parent: Option<u32>,
         base: &Base,
         plate: u16,
@@ -218,10 +320,10 @@ impl Bench {
     }
 
     /// Offers the children on a node's own plate; `next` is the strip beside its own.
-    fn stay(
+    fn stay<K: Keeper>(
         &mut self,
         task: &Task,
-        ledger: &mut Ledger,
+        ledger: &mut Ledger<K>,
         arena: &[Node],
         next: &Scene,
     ) -> Result<(), Memory> {
@@ -237,7 +339,12 @@ impl Bench {
     }
 
     /// Offers cells in the open band.
-    fn put_cells(&mut self, task: &Task, ledger: &mut Ledger, next: &Scene) -> Result<(), Memory> {
+    fn put_cells<K: Keeper>(
+        &mut self,
+        task: &Task,
+        ledger: &mut Ledger<K>,
+        next: &Scene,
+    ) -> Result<(), Memory> {
         let node = &next.base.node;
         let scene = Scene {
             begins: Begins::Cell,
@@ -256,7 +363,12 @@ impl Bench {
     }
 
     /// Offers bands in the open strip.
-    fn put_bands(&mut self, task: &Task, ledger: &mut Ledger, next: &Scene) -> Result<(), Memory> {
+    fn put_bands<K: Keeper>(
+        &mut self,
+        task: &Task,
+        ledger: &mut Ledger<K>,
+        next: &Scene,
+    ) -> Result<(), Memory> {
         let node = &next.base.node;
         let scene = Scene {
             begins: Begins::Band,
@@ -273,10 +385,13 @@ impl Bench {
         Ok(())
     }
 
-    /// Whether some form is to be tried in a new strip.
-    fn wants_strip(&self, task: &Task, strip: &Scene) -> bool {
+    /// Whether the defects of a new strip are to be looked at: some form is to be tried there, or they are looked at anyway.
+    fn wants_strip<K: Keeper>(&self, task: &Task, kept: &K, strip: &Scene) -> bool {
+        if kept.looks_at_idle_strips() {
+            return true;
+        }
         for form in &self.forms.list {
-            if has_strip(task, strip, form) && !is_strip_late(task, strip, form) {
+            if has_strip(task, strip, form) && !is_strip_late(task, kept, strip, form) {
                 return true;
             }
         }
@@ -284,13 +399,13 @@ impl Bench {
     }
 
     /// Offers the first cells of a new strip.
-    fn put_strips(
+    fn put_strips<K: Keeper>(
         &mut self,
         task: &Task,
-        ledger: &mut Ledger,
+        ledger: &mut Ledger<K>,
         strip: &Scene,
     ) -> Result<(), Memory> {
-        if self.wants_strip(task, strip) {
+        if self.wants_strip(task, &ledger.kept, strip) {
             self.strip.note_defects(
                 task.sheet,
                 strip.plate,

@@ -11,6 +11,9 @@ use glass_base::Memory;
 /// At most so many left sides are tried where a defect hinders a cell.
 const MOST_TRIES: usize = 8;
 
+/// At most so many places behind defects.
+const MOST_BEHIND: usize = 3;
+
 /// How far strip and band reach at least, before gaps and defects are looked at.
 fn first_reach(sheet: &Sheet, scene: &Scene, cell: &Cell) -> Reach {
     let lift = if cell.lifted {
@@ -65,5 +68,44 @@ pub fn note_tries(
     tries.sort_unstable();
     tries.dedup();
     tries.truncate(MOST_TRIES);
+    Ok(())
+}
+
+/// Notes the first few bottoms of a band above the defects that reach above `bottom`, from the lowest on: at the least with a waste under them.
+pub fn note_bottoms(
+    sheet: &Sheet,
+    scene: &Scene,
+    bottom: Length,
+    bottoms: &mut Vec<Length>,
+) -> Result<(), Memory> {
+    bottoms.clear();
+    for defect in scene.defects {
+        if bottom < defect.y1 {
+            bottoms.push(defect.y1.max(bottom + sheet.waste))?;
+        }
+    }
+    bottoms.sort_unstable();
+    bottoms.dedup();
+    bottoms.truncate(MOST_BEHIND);
+    Ok(())
+}
+
+/// Notes the first few left sides of a strip right of the defects that reach right of `left`, from left to right: at the least with a waste before them, and where no defect is cut.
+pub fn note_lefts(
+    sheet: &Sheet,
+    scene: &Scene,
+    left: Length,
+    lefts: &mut Vec<Length>,
+) -> Result<(), Memory> {
+    lefts.clear();
+    for defect in scene.defects {
+        let side = defect.x1.max(left + sheet.waste);
+        if left < defect.x1 && !scene.is_crossed_x(side) {
+            lefts.push(side)?;
+        }
+    }
+    lefts.sort_unstable();
+    lefts.dedup();
+    lefts.truncate(MOST_BEHIND);
     Ok(())
 }

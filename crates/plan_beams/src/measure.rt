@@ -54,6 +54,11 @@ impl Amount {
 
     /// More than any waste.
     pub const FAR: Amount = Amount(1 << 50);
+
+    /// More than any key, and how many bits keys have.
+    pub const TOP: Amount = Amount(1 << 62);
+
+    pub const BITS: u32 = 62;
 }
 
 impl Add for Amount {

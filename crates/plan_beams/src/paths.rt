@@ -16,7 +16,7 @@ pub struct Path {
 }
 
 /// The least wasteful of these candidates that is below `best`.
-fn least_of(list: &[Candidate], best: Amount) -> Option<Candidate> {
+pub fn least_of(list: &[Candidate], best: Amount) -> Option<Candidate> {
     let mut least = best;
     let mut found = None;
     for candidate in list {
@@ -42,20 +42,12 @@ fn nodes_from(alloc: Global, arena: &[Node], last: Node) -> Result<Vec<Node>, Me
     Ok(nodes)
 }
 
-/// The path to the best of these candidates that hold all items, if one has less waste than `best`.
-pub fn path_of(
-    alloc: Global,
-    best: Amount,
-    list: &[Candidate],
-    arena: &[Node],
-) -> Result<Option<Path>, Memory> {
-    match least_of(list, best) {
-        Some(last) => Ok(Some(Path {
-            nodes: nodes_from(alloc, arena, last.node)?,
-            loss: last.waste,
-        })),
-        None => Ok(None),
-    }
+/// The path to a candidate that holds all items.
+pub fn path_to(alloc: Global, last: Candidate, arena: &[Node]) -> Result<Path, Memory> {
+    Ok(Path {
+        nodes: nodes_from(alloc, arena, last.node)?,
+        loss: last.waste,
+    })
 }
 
 /// The step of a node's lower item, in a strip up to `b` and a band up to `d`.

@@ -2,19 +2,15 @@
 
 use crate::fitting::{fit, note_tries};
 use crate::form::Form;
+use crate::keeping::{Keeper, Ledger};
 use crate::measure::{Amount, Length};
 use crate::node::{Candidate, Node};
 use crate::scene::{Cell, Reach, Scene};
-use crate::task::{Ledger, Task};
+use crate::task::Task;
 use glass_base::Memory;
 
-/// What a free place of the open strip is charged, in 1/1024 mm² of waste for each mm²: right of the band where an item may
-/// fit, there where none can, and above the band.
-const RIGHT: Amount = Amount(102);
-
+/// What a free place right of the band is charged where no item can fit, in 1/1024 mm² of waste for each mm².
 const RIGHT_SMALL: Amount = Amount(512);
-
-const ABOVE: Amount = Amount(10);
 
 /// The glass left of the strip.
 pub fn left_of(task: &Task, scene: &Scene) -> Amount {
@@ -29,16 +25,29 @@ pub fn waste_of(task: &Task, scene: &Scene, form: &Form, e: Length, reach: Reach
     left_of(task, scene) + below_band + in_band - (scene.base.area + form.area)
 }
 
+/// What the free place above the band is charged.
+fn above_of(task: &Task, scene: &Scene, reach: Reach) -> Amount {
+    task.guide.above * ((reach.b - scene.a) * (task.sheet.high - reach.d))
+}
+
 /// What the free places of the open strip are charged.
 fn charge_of(task: &Task, scene: &Scene, form: &Form, e: Length, reach: Reach) -> Amount {
     let free = reach.b - (e + form.width);
     let rate = if free < task.sheet.small {
         RIGHT_SMALL
     } else {
-        RIGHT
+        task.guide.right
     };
-    rate * (free * (reach.d - scene.c))
-        + ABOVE * ((reach.b - scene.a) * (task.sheet.high - reach.d))
+    rate * (free * (reach.d - scene.c)) + above_of(task, scene, reach)
+}
+
+/// What a child with at least this reach is charged at the least, and its waste, together in 1/1024 mm²: with `b` and `d` both grow together, and what the last item loses is more than its charges.
+pub fn least_key(task: &Task, scene: &Scene, form: &Form, e: Length, least: Reach) -> Amount {
+    let free = least.b - (e + form.width);
+    let small = RIGHT_SMALL * Amount(u64::from(free.0));
+    let usual = task.guide.right * Amount(u64::from(free.max(task.sheet.small).0));
+    let right = small.min(usual) * Amount(u64::from((least.d - scene.c).0));
+    Amount(1024) * waste_of(task, scene, form, e, least) + right + above_of(task, scene, least)
 }
 
 /// The waste and the charge of a child. With all items nothing is charged, and the waste is the loss.
@@ -80,9 +89,9 @@ fn node_of(scene: &Scene, form: &Form, cell: &Cell, reach: Reach, items: u16) ->
 }
 
 /// Offers a child; it is dropped where it is of no use.
-fn offer(
+fn offer<K: Keeper>(
     task: &Task,
-    ledger: &mut Ledger,
+    ledger: &mut Ledger<K>,
     scene: &Scene,
     form: &Form,
     cell: &Cell,
@@ -91,7 +100,7 @@ fn offer(
     let more = if form.above.is_some() { 2 } else { 1 };
     let items = scene.base.node.items.saturating_add(more);
     let (waste, charge) = weigh(task, scene, form, cell.e, reach, items);
-    if waste >= form.limit {
+    if !ledger.kept.is_of_use(form, waste, charge) {
         return Ok(());
     }
     ledger.ticks.spend(4);
@@ -104,13 +113,13 @@ fn offer(
         waste,
         mix: scene.base.mix.wrapping_add(form.mix),
     };
-    ledger.offer(&candidate)
+    ledger.kept.offer(&candidate)
 }
 
 /// Puts a cell at `e` where that is lawful, and tells how far strip and band then reach.
-fn try_at(
+fn try_at<K: Keeper>(
     task: &Task,
-    ledger: &mut Ledger,
+    ledger: &mut Ledger<K>,
     scene: &Scene,
     form: &Form,
     e: Length,
@@ -131,9 +140,9 @@ fn try_at(
 }
 
 /// Puts a cell at the first of these left sides where that is lawful.
-fn try_first(
+fn try_first<K: Keeper>(
     task: &Task,
-    ledger: &mut Ledger,
+    ledger: &mut Ledger<K>,
     scene: &Scene,
     form: &Form,
     tries: &[Length],
@@ -149,9 +158,9 @@ fn try_first(
 
 /// Puts a cell at `e`, or where a defect hinders it further right and lifted; tells how far strip and band reach at the last
 /// place that was found.
-pub fn place(
+fn place_first<K: Keeper>(
     task: &Task,
-    ledger: &mut Ledger,
+    ledger: &mut Ledger<K>,
     scene: &Scene,
     form: &Form,
     e: Length,
@@ -169,4 +178,65 @@ pub fn place(
     }
     let lifted = try_at(task, ledger, scene, form, e, true)?;
     Ok(lifted.or(right))
+}
+
+/// Puts a cell at each of these left sides where that is lawful, and lifted too where it is one item; tells how far strip and band reach at the first place that was found, or at `found`.
+fn try_all<K: Keeper>(
+    task: &Task,
+    ledger: &mut Ledger<K>,
+    scene: &Scene,
+    form: &Form,
+    tries: &[Length],
+    found: Option<Reach>,
+) -> Result<Option<Reach>, Memory> {
+    let mut first = found;
+    for e in tries {
+        first = first.or(try_at(task, ledger, scene, form, *e, false)?);
+        if form.above.is_none() {
+            first = first.or(try_at(task, ledger, scene, form, *e, true)?);
+        }
+    }
+    Ok(first)
+}
+
+/// Puts a cell at `e`, and where a defect shifts strip or band, so that they reach further than `least`, at all places further right and lifted too; tells how far strip and
+/// band reach at the first place that was found.
+fn place_everywhere<K: Keeper>(
+    task: &Task,
+    ledger: &mut Ledger<K>,
+    scene: &Scene,
+    form: &Form,
+    e: Length,
+    least: Reach,
+    tries: &mut Vec<Length>,
+) -> Result<Option<Reach>, Memory> {
+    let plain = try_at(task, ledger, scene, form, e, false)?;
+    if plain == Some(least) || scene.defects.is_empty() {
+        return Ok(plain);
+    }
+    ledger.ticks.spend_half(scene.defects.len());
+    note_tries(task.sheet, scene, e, form.width, tries)?;
+    let found = try_all(task, ledger, scene, form, tries.as_slice(), plain)?;
+    if form.above.is_some() {
+        return Ok(found);
+    }
+    let lifted = try_at(task, ledger, scene, form, e, true)?;
+    Ok(found.or(lifted))
+}
+
+/// Puts a cell at `e`, where strip and band reach as far as `least` at the least, or around the defects that hinder it; tells how far they reach at one of the places that were found.
+pub fn place<K: Keeper>(
+    task: &Task,
+    ledger: &mut Ledger<K>,
+    scene: &Scene,
+    form: &Form,
+    e: Length,
+    least: Reach,
+    tries: &mut Vec<Length>,
+) -> Result<Option<Reach>, Memory> {
+    if task.guide.more {
+        place_everywhere(task, ledger, scene, form, e, least, tries)
+    } else {
+        place_first(task, ledger, scene, form, e, tries)
+    }
 }

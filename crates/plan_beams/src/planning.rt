@@ -1,37 +1,26 @@
-//! Two beams, of which the second one goes by what the first one found.
+//! Two beams, of which the second one goes by what the first one found; and wide beams behind them.
 
-use crate::measure::{Amount, Length};
-use crate::paths::trace_of;
-use crate::searching::beam;
+use crate::crew::Crew;
+use crate::guide::{Guide, rate_of, tolerance_for};
+use crate::measure::Amount;
+use crate::paths::{Path, trace_of};
+use crate::schedule::{guide_of, widest};
+use crate::searching::{beam, widest_of};
 use crate::sheet::Sheet;
 use crate::stock::Stock;
 use crate::task::Task;
+use crate::watch::Watch;
+use crate::wide::wide_beam;
 use cut_model::Trace;
 use glass_base::{Instance, Memory};
 use std::alloc::Global;
+use std::thread::Threads;
 
 /// The share of loss that the first beam expects, in 1/1024 of the items' area.
 const FIRST_RATE: u64 = 102;
 
 /// What the second beam expects of the share that the first one lost, in 1/1024.
 const SECOND_SHARE: u64 = 717;
-
-/// The tolerance in mm with which fronts are compared, and up to how many items there is none.
-const TOLERANCE: u32 = 20;
-
-const FEW_ITEMS: usize = 60;
-
-/// What differs from beam to beam.
-#[derive(Clone, Copy)]
-struct Guide {
-    /// The loss that is expected of an area, in 1/1024.
-    rate: u64,
-    /// The loss of the best plan so far.
-    best: Amount,
-    /// How much worse a front may be and still be taken as no worse, in mm.
-    tolerance: u32,
-    ticks: u64,
-}
 
 /// A trace that a beam found, and the loss in mm² that it counted. Nothing is promised of either.
 #[derive(Drop)]
@@ -40,12 +29,32 @@ pub struct Found {
     pub loss: u64,
 }
 
-/// The loss that the second beam expects of an area, in 1/1024, where the first one lost so much.
-fn second_rate(lost: u64, area: u64) -> u64 {
-    let glass = lost.saturating_add(area);
-    lost.saturating_mul(SECOND_SHARE)
-        .checked_div(glass)
-        .unwrap_or(FIRST_RATE)
+/// A wide beam that is to lose less than a plan that is known. Wide beams are numbered from 0 on; the number says by which of six guides one goes, and how wide its levels are at
+/// the most.
+#[derive(Clone, Copy)]
+pub struct WideBeam {
+    pub number: u32,
+    /// What the best plan so far loses, in mm².
+    pub lost: u64,
+    pub ticks: u64,
+}
+
+/// What a wide beam found, if it found something, and the ticks that it took.
+#[derive(Drop)]
+pub struct Widely {
+    pub found: Option<Found>,
+    pub ticks: u64,
+}
+
+/// The trace of a path, with its loss.
+fn found_on(alloc: Global, path: Option<Path>) -> Result<Option<Found>, Memory> {
+    match path {
+        Some(path) => Ok(Some(Found {
+            trace: trace_of(alloc, path.nodes.as_slice())?,
+            loss: path.loss.0,
+        })),
+        None => Ok(None),
+    }
 }
 
 /// Two beams over partial traces of one instance.
@@ -65,28 +74,25 @@ impl Beams {
         })
     }
 
-    /// The best trace of a beam, if it finds one.
+    /// The best trace of a beam that is to lose less than `best`, if it finds one.
     fn find(
         &self,
         alloc: Global,
         instance: &Instance,
         guide: Guide,
+        best: Amount,
+        ticks: u64,
     ) -> Result<Option<Found>, Memory> {
-        let stock = Stock::new(alloc, instance, guide.rate)?;
+        let stock = Stock::new(alloc, instance, &guide)?;
         let task = Task {
             sheet: &self.sheet,
             stock: &stock,
-            best: guide.best,
-            tolerance: Length(guide.tolerance),
-            ticks: guide.ticks,
+            guide,
+            best,
+            ticks,
+            widest: widest_of(stock.items),
         };
-        let Some(path) = beam(alloc, &task)? else {
-            return Ok(None);
-        };
-        Ok(Some(Found {
-            trace: trace_of(alloc, path.nodes.as_slice())?,
-            loss: path.loss.0,
-        }))
+        found_on(alloc, beam(alloc, &task)?)
     }
 
     /// The best trace of the first beam, a narrow one whose loss tells what to expect, if it finds one.
@@ -96,16 +102,16 @@ impl Beams {
         instance: &Instance,
         ticks: u64,
     ) -> Result<Option<Found>, Memory> {
-        let guide = Guide {
-            rate: FIRST_RATE,
-            best: Amount::FAR,
-            tolerance: TOLERANCE,
+        self.find(
+            alloc,
+            instance,
+            Guide::usual(FIRST_RATE),
+            Amount::FAR,
             ticks,
-        };
-        self.find(alloc, instance, guide)
+        )
     }
 
-    /// The best trace of the second beam, a wide one that is to lose less than the first one lost, in mm², if it finds one.
+    /// The best trace of the second beam, a wider one that is to lose less than the first one lost, in mm², if it finds one.
     pub fn second(
         &self,
         alloc: Global,
@@ -113,22 +119,45 @@ impl Beams {
         lost: Option<u64>,
         ticks: u64,
     ) -> Result<Option<Found>, Memory> {
-        let items = instance.items().len();
-        let tolerance = if items <= FEW_ITEMS { 0 } else { TOLERANCE };
-        let guide = match lost {
-            Some(lost) => Guide {
-                rate: second_rate(lost, instance.area()),
-                best: Amount(lost),
-                tolerance,
-                ticks,
-            },
-            None => Guide {
-                rate: FIRST_RATE,
-                best: Amount::FAR,
-                tolerance,
-                ticks,
-            },
+        let (rate, best) = match lost {
+            Some(lost) => (
+                rate_of(SECOND_SHARE, lost, instance.area()).unwrap_or(FIRST_RATE),
+                Amount(lost),
+            ),
+            None => (FIRST_RATE, Amount::FAR),
         };
-        self.find(alloc, instance, guide)
+        let usual = Guide::usual(rate);
+        let guide = Guide {
+            tolerance: tolerance_for(instance, usual.tolerance),
+            ..usual
+        };
+        self.find(alloc, instance, guide, best, ticks)
+    }
+
+    /// The best trace of a wide beam, if it finds one, and the ticks that it took. Each of its levels is spread over the crew's threads; what is found does not hang on them. How
+    /// many ticks were spent is told to `watch` after each level.
+    pub fn wide<R: Threads + Sync, W: Watch>(
+        &self,
+        alloc: Global,
+        crew: &Crew<R>,
+        instance: &Instance,
+        beam: WideBeam,
+        watch: &W,
+    ) -> Result<Widely, Memory> {
+        let guide = guide_of(instance, beam.number, beam.lost);
+        let stock = Stock::new(alloc, instance, &guide)?;
+        let task = Task {
+            sheet: &self.sheet,
+            stock: &stock,
+            guide,
+            best: Amount(beam.lost),
+            ticks: beam.ticks,
+            widest: widest(beam.number),
+        };
+        let (path, ticks) = wide_beam(alloc, crew, &task, watch)?;
+        Ok(Widely {
+            found: found_on(alloc, path)?,
+            ticks,
+        })
     }
 }

@@ -80,8 +80,15 @@ pub struct Scene<'s> {
     pub cells: &'s [Cell],
 }
 
+impl Scene<'_> {
+    /// Whether the upright line at `x` runs through a defect.
+    pub fn is_crossed_x(&self, x: Length) -> bool {
+        self.defects.iter().any(|defect| defect.is_crossed_x(x))
+    }
+}
+
 /// How far the strip and the band have to reach for a cell: the least right side and the least upper side that are lawful.
-#[derive(Clone, Copy)]
+#[derive(Clone, Copy, PartialEq, Eq)]
 pub struct Reach {
     pub b: Length,
     pub d: Length,

@@ -1,40 +1,120 @@
 //! How many items of each stack the nodes of a level have cut.
 
+use crate::node::{Node, Part};
 use glass_base::Memory;
 use std::alloc::Global;
 
 /// The numbers of items that are cut of each stack, for the nodes of one level.
 #[derive(Drop)]
-pub struct Seats {
+struct Seats {
     /// The level's first node, by its place in the arena.
     first: usize,
     /// The numbers, node by node.
     places: Vec<u16>,
 }
 
+/// The same for three levels, by their numbers of items modulo 3.
+#[derive(Drop)]
+pub struct Seating {
+    levels: [Seats; 3],
+    /// The numbers of the node that was seated last.
+    last: Vec<u16>,
+}
+
 impl Seats {
-    pub fn new(alloc: Global) -> Seats {
+    fn new(alloc: Global) -> Seats {
         Seats {
             first: 0,
             places: Vec::new(alloc),
         }
     }
 
-    /// Begins a level whose first node has this place in the arena.
-    pub fn begin(&mut self, first: usize) {
-        self.first = first;
-        self.places.clear();
+    /// The numbers of a node, by its place in the arena, where there are so many stacks.
+    fn of(&self, node: usize, stacks: usize) -> Option<&[u16]> {
+        let from = node.saturating_sub(self.first).saturating_mul(stacks);
+        self.places.get(from..from.saturating_add(stacks))
+    }
+}
+
+/// The numbers of the node before this one, where there is one.
+fn parent_seat<'l>(levels: &'l [Seats; 3], node: &Node, stacks: usize) -> Option<&'l [u16]> {
+    let more = if node.above.is_some() { 2 } else { 1 };
+    let level = usize::from(node.items.saturating_sub(more)) % 3;
+    levels[level].of(node.parent? as usize, stacks)
+}
+
+/// Counts one more item of a stack.
+fn count(seat: &mut [u16], part: Part) {
+    if let Some(place) = seat.get_mut(usize::from(part.stack)) {
+        *place = place.saturating_add(1);
+    }
+}
+
+/// Notes the numbers of a node.
+fn fill_seat(levels: &[Seats; 3], node: &Node, seat: &mut [u16]) {
+    match parent_seat(levels, node, seat.len()) {
+        Some(parent) => {
+            for (place, other) in seat.iter_mut().zip(parent.iter()) {
+                *place = *other;
+            }
+        }
+        None => seat.fill(0),
+    }
+    count(seat, node.part);
+    if let Some(above) = node.above {
+        count(seat, above);
+    }
+}
+
+impl Seating {
+    /// Nobody is seated, and of so many stacks nothing is cut.
+    pub fn new(alloc: Global, stacks: usize) -> Result<Seating, Memory> {
+        Ok(Seating {
+            levels: [Seats::new(alloc), Seats::new(alloc), Seats::new(alloc)],
+            last: vec![in alloc; 0; stacks]?,
+        })
     }
 
-    /// Notes the numbers of the level's next node.
-    pub fn note(&mut self, places: &[u16]) -> Result<(), Memory> {
-        self.places.extend_from_slice(places)?;
+    /// Begins a level whose first node has this place in the arena.
+    pub fn begin(&mut self, level: usize, first: usize) {
+        let seats = &mut self.levels[level % 3];
+        seats.first = first;
+        seats.places.clear();
+    }
+
+    /// The level's first node, by its place in the arena.
+    pub fn first(&self, level: usize) -> usize {
+        self.levels[level % 3].first
+    }
+
+    /// Notes that the level's first node has another place now.
+    pub fn moves(&mut self, level: usize, first: u32) {
+        self.levels[level % 3].first = first as usize;
+    }
+
+    /// Notes how many items of each stack the level's next node has cut.
+    pub fn seat(&mut self, level: usize, stacks: usize, node: &Node) -> Result<(), Memory> {
+        self.last.resize(stacks, 0)?;
+        fill_seat(&self.levels, node, self.last.as_mut_slice());
+        self.levels[level % 3]
+            .places
+            .extend_from_slice(self.last.as_slice())?;
         Ok(())
     }
 
-    /// The numbers of a node, by its place in the arena, where there are so many stacks.
-    pub fn of(&self, node: usize, stacks: usize) -> Option<&[u16]> {
-        let from = node.saturating_sub(self.first).saturating_mul(stacks);
-        self.places.get(from..from.saturating_add(stacks))
+    /// Notes the numbers of a node of the next level in a list of its own, which has a place for each stack.
+    pub fn fill(&self, node: &Node, seat: &mut [u16]) {
+        fill_seat(&self.levels, node, seat);
+    }
+
+    /// Notes the numbers of the level's next nodes.
+    pub fn extend(&mut self, level: usize, places: &[u16]) -> Result<(), Memory> {
+        self.levels[level % 3].places.extend_from_slice(places)?;
+        Ok(())
+    }
+
+    /// The numbers of the node that was seated last, and before that of none.
+    pub fn last(&self) -> &[u16] {
+        self.last.as_slice()
     }
 }

@@ -2,6 +2,7 @@
 
 ghost use Rattle.std.specs.Prelude.{◌<◌, length};
 
+use crate::guide::Guide;
 use crate::measure::{Amount, Length};
 use glass_base::{Instance, Memory};
 use std::alloc::Global;
@@ -63,12 +64,14 @@ fn draw_mix(state: &mut u64) -> u64 {
     high.wrapping_add(middle).wrapping_add(third / 65_536)
 }
 
-/// What an item of this area is worth that so much area stands behind. `rate` is the loss that is expected of an area in
-/// 1/1024, `mean` the mean area of a stack.
-fn value_of(area: u64, behind: u64, rate: u64, mean: u64) -> u64 {
-    let rest = behind.wrapping_mul(2).wrapping_add(area).wrapping_mul(1024);
-    let share = rest.checked_div(mean.wrapping_mul(2)).unwrap_or(0);
-    let loss = rate.wrapping_mul(area) / 1024;
+/// What an item of this area is worth that so much area stands behind, where `mean` is the mean area of a stack.
+fn value_of(area: u64, behind: u64, guide: &Guide, mean: u64) -> u64 {
+    let rest = behind.wrapping_mul(2).wrapping_add(area);
+    let share = rest
+        .wrapping_mul(guide.even)
+        .checked_div(mean.wrapping_mul(2))
+        .unwrap_or(0);
+    let loss = guide.rate.wrapping_mul(area) / 1024;
     loss.wrapping_mul(share.wrapping_add(512))
 }
 
@@ -77,7 +80,7 @@ fn pieces_of(
     alloc: Global,
     instance: &Instance,
     positions: &[u32],
-    rate: u64,
+    guide: &Guide,
     mean: u64,
 ) -> Result<Vec<Piece>, Memory> {
     let items = instance.items();
@@ -90,7 +93,7 @@ fn pieces_of(
                 length: Length(item.length),
                 width: Length(item.width),
                 area: Amount(area),
-                value: Amount(value_of(area, behind, rate, mean)),
+                value: Amount(value_of(area, behind, guide, mean)),
             })?;
             behind = behind.wrapping_add(area);
         }
@@ -109,7 +112,7 @@ fn total_value(stacks: &[Stack]) -> Amount {
     total
 }
 
-fn stacks_of(alloc: Global, instance: &Instance, rate: u64) -> Result<Vec<Stack>, Memory> {
+fn stacks_of(alloc: Global, instance: &Instance, guide: &Guide) -> Result<Vec<Stack>, Memory> {
     let count = instance.stacks();
     let mean = instance
         .area()
@@ -119,7 +122,7 @@ fn stacks_of(alloc: Global, instance: &Instance, rate: u64) -> Result<Vec<Stack>
     let mut state = 12_345;
     let mut stacks = Vec::new(alloc);
     for number in 0..count {
-        let pieces = pieces_of(alloc, instance, instance.stack(number), rate, mean)?;
+        let pieces = pieces_of(alloc, instance, instance.stack(number), guide, mean)?;
         let mix = draw_mix(&mut state);
         stacks.push(Stack { pieces, mix })?;
     }
@@ -127,9 +130,9 @@ fn stacks_of(alloc: Global, instance: &Instance, rate: u64) -> Result<Vec<Stack>
 }
 
 impl Stock {
-    /// The items of an instance, where `rate` is the loss that is expected of an area, in 1/1024.
-    pub fn new(alloc: Global, instance: &Instance, rate: u64) -> Result<Stock, Memory> {
-        let stacks = stacks_of(alloc, instance, rate)?;
+    /// The items of an instance, and what they are worth for a beam that goes by `guide`.
+    pub fn new(alloc: Global, instance: &Instance, guide: &Guide) -> Result<Stock, Memory> {
+        let stacks = stacks_of(alloc, instance, guide)?;
         let value = total_value(stacks.as_slice());
         Ok(Stock {
             stacks,

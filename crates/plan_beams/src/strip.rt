@@ -8,6 +8,9 @@ use crate::ticks::Ticks;
 use glass_base::Memory;
 use std::alloc::Global;
 
+/// Room for so many is made at once, so that what one thread writes to is on cache lines of its own.
+pub const ROOM: usize = 64;
+
 /// The open strip of a node.
 #[derive(Drop)]
 pub struct OpenStrip {
@@ -33,12 +36,12 @@ pub fn closed(bands: &[Band]) -> &[Band] {
 }
 
 impl OpenStrip {
-    pub fn new(alloc: Global) -> OpenStrip {
-        OpenStrip {
-            bands: Vec::new(alloc),
-            cells: Vec::new(alloc),
-            defects: Vec::new(alloc),
-        }
+    pub fn new(alloc: Global) -> Result<OpenStrip, Memory> {
+        Ok(OpenStrip {
+            bands: Vec::with_capacity(alloc, ROOM)?,
+            cells: Vec::with_capacity(alloc, ROOM)?,
+            defects: Vec::with_capacity(alloc, ROOM)?,
+        })
     }
 
     /// Notes the bands of the strip in which a node's cell lies, and the cells of the open one.

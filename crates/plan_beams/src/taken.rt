@@ -2,21 +2,31 @@
 
 use crate::chains::Chains;
 use crate::measure::Length;
-use crate::node::{Candidate, Node};
+use crate::node::Candidate;
 use crate::ticks::Ticks;
 use glass_base::Memory;
 use std::alloc::Global;
 
-/// Nodes are found by the rest that their mixes leave by this prime.
-const BUCKETS: u64 = 32_749;
-
 /// At most so many nodes of a bucket are looked at.
 const MOST_LOOKS: u32 = 1000;
+
+/// The front of a candidate, and which items it holds: all by which others are compared with it.
+#[derive(Clone, Copy)]
+pub struct Front {
+    /// The sum over its items of the mixes of their stacks.
+    mix: u64,
+    plate: u16,
+    a: u16,
+    b: u16,
+    c: u16,
+    d: u16,
+    right: u16,
+}
 
 /// The nodes of a level that are taken.
 #[derive(Drop)]
 pub struct Taken {
-    list: Vec<Candidate>,
+    list: Vec<Front>,
     chains: Chains,
 }
 
@@ -25,39 +35,55 @@ fn is_no_more(one: u16, other: u16, tolerance: Length) -> bool {
     Length::from(one) <= Length::from(other) + tolerance
 }
 
-/// Whether the band of `one` and what lies in it reach no further than those of the other.
-fn is_band_no_more(one: &Node, other: &Node, tolerance: Length) -> bool {
-    if is_no_more(one.d, other.c, tolerance) {
-        return true;
+impl Front {
+    pub fn of(candidate: &Candidate) -> Front {
+        let node = &candidate.node;
+        Front {
+            mix: candidate.mix,
+            plate: node.plate,
+            a: node.a,
+            b: node.b,
+            c: node.c,
+            d: node.d,
+            right: node.right().short(),
+        }
     }
-    is_no_more(one.c, other.c, tolerance)
-        && is_no_more(one.d, other.d, tolerance)
-        && one.right() <= other.right() + tolerance
-}
 
-/// Whether the front of `one` is nowhere worse than that of the other, but for the tolerance.
-fn is_front_no_more(one: &Node, other: &Node, tolerance: Length) -> bool {
-    if one.plate != other.plate {
-        return one.plate < other.plate;
+    /// Whether its band and what lies in it reach no further than those of the other.
+    fn is_band_no_more(&self, other: &Front, tolerance: Length) -> bool {
+        if is_no_more(self.d, other.c, tolerance) {
+            return true;
+        }
+        is_no_more(self.c, other.c, tolerance)
+            && is_no_more(self.d, other.d, tolerance)
+            && is_no_more(self.right, other.right, tolerance)
     }
-    if is_no_more(one.b, other.a, tolerance) {
-        return true;
-    }
-    is_no_more(one.a, other.a, tolerance)
-        && is_no_more(one.b, other.b, tolerance)
-        && is_band_no_more(one, other, tolerance)
-}
 
-/// Whether `one` holds the same items as the other, and its front is nowhere worse but for the tolerance.
-fn dominates(one: &Candidate, other: &Candidate, tolerance: Length) -> bool {
-    one.mix == other.mix && is_front_no_more(&one.node, &other.node, tolerance)
+    /// Whether it is nowhere worse than the other, but for the tolerance.
+    fn is_no_more(&self, other: &Front, tolerance: Length) -> bool {
+        if self.plate != other.plate {
+            return self.plate < other.plate;
+        }
+        if is_no_more(self.b, other.a, tolerance) {
+            return true;
+        }
+        is_no_more(self.a, other.a, tolerance)
+            && is_no_more(self.b, other.b, tolerance)
+            && self.is_band_no_more(other, tolerance)
+    }
+
+    /// Whether it holds the same items as the other, and is nowhere worse but for the tolerance.
+    fn dominates(&self, other: &Front, tolerance: Length) -> bool {
+        self.mix == other.mix && self.is_no_more(other, tolerance)
+    }
 }
 
 impl Taken {
-    pub fn new(alloc: Global) -> Result<Taken, Memory> {
+    /// No nodes, in so many buckets.
+    pub fn new(alloc: Global, buckets: usize) -> Result<Taken, Memory> {
         Ok(Taken {
             list: Vec::new(alloc),
-            chains: Chains::new(alloc, BUCKETS as usize)?,
+            chains: Chains::new(alloc, buckets)?,
         })
     }
 
@@ -74,7 +100,7 @@ impl Taken {
     /// Whether a node of this bucket dominates a candidate.
     fn is_dominated(
         &self,
-        candidate: &Candidate,
+        front: &Front,
         bucket: usize,
         tolerance: Length,
         ticks: &mut Ticks,
@@ -86,7 +112,7 @@ impl Taken {
             };
             ticks.spend(u64::from(place) % 2);
             if let Some(taken) = self.list.get(place as usize) {
-                if dominates(taken, candidate, tolerance) {
+                if taken.dominates(front, tolerance) {
                     return true;
                 }
             }
@@ -95,19 +121,19 @@ impl Taken {
         false
     }
 
-    /// Takes a candidate where none that was taken dominates it, and tells whether it did.
+    /// Takes a candidate of this bucket where none that was taken dominates it, and tells whether it did.
     pub fn admit(
         &mut self,
-        candidate: &Candidate,
+        front: &Front,
+        bucket: usize,
         tolerance: Length,
         ticks: &mut Ticks,
     ) -> Result<bool, Memory> {
-        let bucket = (candidate.mix % BUCKETS) as usize;
-        if self.is_dominated(candidate, bucket, tolerance, ticks) {
+        if self.is_dominated(front, bucket, tolerance, ticks) {
             return Ok(false);
         }
         self.chains.push(bucket)?;
-        self.list.push(*candidate)?;
+        self.list.push(*front)?;
         Ok(true)
     }
 }

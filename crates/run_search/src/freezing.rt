@@ -13,9 +13,8 @@ ghost use Rattle.run_frame.specs.Forms.{answer_in, store_in};
 ghost use Rattle.run_search.specs.inner.Searches.{IsFoundBehind, IsHistoryFrom};
 
 use crate::lines::six_lines;
-use crate::planning::{
-    MOST_WORK, best_plan, certificate_of, ending, ending_word, handled, history_from,
-};
+use crate::planning::{MOST_WORK, best_plan, certificate_of, ending, ending_word, handled};
+use crate::searching::history_from;
 use box_workers::{Gate, first_loss};
 use cert_log::{Certificate, History, write_cert};
 use command_line::Product;

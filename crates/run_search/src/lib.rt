@@ -5,7 +5,10 @@ pub mod freezing;
 mod lines;
 pub mod planning;
 pub mod resuming;
+mod searching;
+mod starting;
 
 pub use freezing::freeze_text;
 pub use planning::plan_instance;
 pub use resuming::resume_texts;
+pub use starting::Opening;

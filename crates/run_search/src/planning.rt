@@ -17,20 +17,18 @@ ghost use Rattle.run_search.specs.inner.Searches.{AreWatched, Certifies, IsSaidB
 ghost use Rattle.run_checks.specs.Checks.{FitsToo};
 
 use crate::lines::search_lines;
+use crate::searching::{Searched, search_from};
+use crate::starting::{Opening, start_of};
 use best_board::Entry;
-use box_workers::{Gate, first_loss, search, search_watched, start_boxes};
+use box_workers::{Gate, first_loss};
 use cert_log::{Certificate, History, Node, assemble, write_cert};
 use command_line::Product;
 use cut_model::{Plan, plates_used};
 use defect_map::DefectMap;
-use first_plan::{Start, first_plan, start_by_fronts};
-use front_bound::watch::Watch;
 use glass_base::{Instance, Memory, Role, Run, append};
-use plan_box::PlanBox;
 use plan_csv::write_plan;
 use plan_trace::plan_of;
 use run_frame::{Output, Reply, Status, bad_input, reply_with};
-use shared_best::SharedBest;
 use std::alloc::Global;
 use std::sync::Wait;
 use std::thread::Threads;
@@ -47,173 +45,6 @@ pub(crate) struct Found {
     pub(crate) improvements: Option<Run<Entry>>,
 }
 
-/// What a search did, and its improvements, where they are watched.
-#[derive(Drop)]
-pub(crate) struct Searched {
-    history: History,
-    improvements: Option<Run<Entry>>,
-}
-
-/// A search of these boxes.
-fn search_of_boxes<R: Threads + Wait + Sync, G: Gate + Sync>(
-    rt: &R,
-    alloc: Global,
-    instance: &Instance,
-    map: &DefectMap,
-    boxes: Run<PlanBox>,
-    start: Start,
-    workers: u32,
-    budget: u32,
-    watch: bool,
-    gate: &G,
-) -> Result<Searched, Memory>
-    requires map { map.now ≡ instance.now.defects }
-    requires boxes { (1 ≤ length boxes.items) × (length boxes.items ≤ 160000000) }
-    requires ids { numbered 0 boxes.items }
-    requires frames { All (λ (x : PlainBox). x.frame ≡ frame_of instance.now) boxes.items }
-    requires first { IsFirst instance.now start.first }
-    requires floor { IsFloor instance.now start.floor }
-    requires workers { (1 ≤ workers) × (workers ≤ 8) }
-    requires budget { (1 ≤ budget) × (budget ≤ 10000000) }
-    ensures lawful { IfOk result (λ s. IsLawful instance.now (course_from boxes.items (first_loss_of instance.now start.first) budget start.floor) s.history) }
-    ensures watched { IfOk result (λ s. AreWatched instance.now (first_loss_of instance.now start.first) s.history.best watch s.improvements) }
-{
-    let Start { first, floor } = start;
-    let loss = first_loss(instance, &first);
-    gate.sees(loss);
-    let (shared, mut seat) = SharedBest::with_floor(alloc, loss, u64::from(budget), floor)?;
-    if watch {
-        let (history, list) = search_watched(
-            rt, alloc, instance, map, boxes, first, workers, &shared, &mut seat, gate,
-        )?;
-        return Ok(Searched {
-            history,
-            improvements: Some(list),
-        });
-    }
-    let history = search(
-        rt, alloc, instance, map, boxes, first, workers, &shared, &mut seat, gate,
-    )?;
-    Ok(Searched {
-        history,
-        improvements: None,
-    })
-}
-
-/// The history of a search of these boxes.
-pub(crate) fn history_of_boxes<R: Threads + Wait + Sync, G: Gate + Sync>(
-    rt: &R,
-    alloc: Global,
-    instance: &Instance,
-    map: &DefectMap,
-    boxes: Run<PlanBox>,
-    start: Start,
-    workers: u32,
-    budget: u32,
-    gate: &G,
-) -> Result<History, Memory>
-    requires map { map.now ≡ instance.now.defects }
-    requires boxes { (1 ≤ length boxes.items) × (length boxes.items ≤ 160000000) }
-    requires ids { numbered 0 boxes.items }
-    requires frames { All (λ (x : PlainBox). x.frame ≡ frame_of instance.now) boxes.items }
-    requires first { IsFirst instance.now start.first }
-    requires floor { IsFloor instance.now start.floor }
-    requires workers { (1 ≤ workers) × (workers ≤ 8) }
-    requires budget { (1 ≤ budget) × (budget ≤ 10000000) }
-    ensures { IfOk result (λ h. IsLawful instance.now (course_from boxes.items (first_loss_of instance.now start.first) budget start.floor) h) }
-{
-    let Searched {
-        history,
-        improvements: _,
-    } = search_of_boxes(
-        rt, alloc, instance, map, boxes, start, workers, budget, false, gate,
-    )?;
-    Ok(history)
-}
-
-/// A search of all plans.
-fn search_from<R: Threads + Wait + Sync, G: Gate + Sync>(
-    rt: &R,
-    alloc: Global,
-    instance: &Instance,
-    map: &DefectMap,
-    start: Start,
-    workers: u32,
-    budget: u32,
-    watch: bool,
-    gate: &G,
-) -> Result<Searched, Memory>
-    requires map { map.now ≡ instance.now.defects }
-    requires first { IsFirst instance.now start.first }
-    requires floor { IsFloor instance.now start.floor }
-    requires workers { (1 ≤ workers) × (workers ≤ 8) }
-    requires budget { (1 ≤ budget) × (budget ≤ 10000000) }
-    ensures lawful { IfOk result (λ s. IsLawful instance.now (course instance.now (first_loss_of instance.now start.first) budget start.floor) s.history) }
-    ensures watched { IfOk result (λ s. AreWatched instance.now (first_loss_of instance.now start.first) s.history.best watch s.improvements) }
-{
-    let boxes = start_boxes(alloc, instance)?;
-    search_of_boxes(
-        rt, alloc, instance, map, boxes, start, workers, budget, watch, gate,
-    )
-}
-
-/// The history of a search of all plans.
-pub(crate) fn history_from<R: Threads + Wait + Sync, G: Gate + Sync>(
-    rt: &R,
-    alloc: Global,
-    instance: &Instance,
-    map: &DefectMap,
-    start: Start,
-    workers: u32,
-    budget: u32,
-    gate: &G,
-) -> Result<History, Memory>
-    requires map { map.now ≡ instance.now.defects }
-    requires first { IsFirst instance.now start.first }
-    requires floor { IsFloor instance.now start.floor }
-    requires workers { (1 ≤ workers) × (workers ≤ 8) }
-    requires budget { (1 ≤ budget) × (budget ≤ 10000000) }
-    ensures { IfOk result (λ h. IsLawful instance.now (course instance.now (first_loss_of instance.now start.first) budget start.floor) h) }
-{
-    let boxes = start_boxes(alloc, instance)?;
-    history_of_boxes(
-        rt, alloc, instance, map, boxes, start, workers, budget, gate,
-    )
-}
-
-/// Tells a gate how far a search over fronts is.
-#[derive(Clone, Copy)]
-struct Telling<'a, G> {
-    gate: &'a G,
-}
-
-impl<'a, G: Gate> Watch for Telling<'a, G> {
-    fn looks(&self, done: usize, all: usize) {
-        self.gate.looks(done, all);
-    }
-}
-
-/// What a search begins with: the first plan, and where fronts are asked, what they show.
-fn start_of<G: Gate>(
-    alloc: Global,
-    instance: &Instance,
-    map: &DefectMap,
-    fronts: bool,
-    gate: &G,
-) -> Result<Start, Memory>
-    requires map { map.now ≡ instance.now.defects }
-    ensures plan { IfOk result (λ start. IfSome start.first (λ trace. IsFirstPlan instance.now trace.steps.items)) }
-    ensures none { IfOk result (λ start. IfNone start.first ((number : ℕ) × HasNoDraft instance.now number)) }
-    ensures floor { IfOk result (λ start. IsFloor instance.now start.floor) }
-    ensures unasked { IfOk result (λ start. fronts ≡ false → start.floor ≡ 0) }
-{
-    if fronts {
-        return start_by_fronts(alloc, instance, map, &Telling { gate });
-    }
-    let first = first_plan(alloc, instance, map)?;
-    Ok(Start { first, floor: 0 })
-}
-
 /// A search that begins with what is known before it.
 fn search_with<R: Threads + Wait + Sync, G: Gate + Sync>(
     rt: &R,
@@ -223,16 +54,16 @@ fn search_with<R: Threads + Wait + Sync, G: Gate + Sync>(
     workers: u32,
     budget: u32,
     watch: bool,
-    fronts: bool,
+    opening: Opening,
     gate: &G,
 ) -> Result<Searched, Memory>
     requires map { map.now ≡ instance.now.defects }
     requires workers { (1 ≤ workers) × (workers ≤ 8) }
     requires budget { (1 ≤ budget) × (budget ≤ 10000000) }
     ensures history { IfOk result (λ s. IsWatchedHistory instance.now budget watch s.history s.improvements) }
-    ensures unasked { IfOk result (λ s. fronts ≡ false → s.history.floor ≡ 0) }
+    ensures unasked { IfOk result (λ s. opening.fronts ≡ false → s.history.floor ≡ 0) }
 {
-    let start = start_of(alloc, instance, map, fronts, gate)?;
+    let start = start_of(rt, alloc, instance, map, workers, opening, gate)?;
     let _loss = first_loss(instance, &start.first);
     search_from(
         rt, alloc, instance, map, start, workers, budget, watch, gate,
@@ -247,17 +78,17 @@ fn search_for<R: Threads + Wait + Sync, G: Gate + Sync>(
     workers: u32,
     budget: u32,
     watch: bool,
-    fronts: bool,
+    opening: Opening,
     gate: &G,
 ) -> Result<Searched, Memory>
     requires workers { (1 ≤ workers) × (workers ≤ 8) }
     requires budget { (1 ≤ budget) × (budget ≤ 10000000) }
     ensures history { IfOk result (λ s. IsWatchedHistory instance.now budget watch s.history s.improvements) }
-    ensures unasked { IfOk result (λ s. fronts ≡ false → s.history.floor ≡ 0) }
+    ensures unasked { IfOk result (λ s. opening.fronts ≡ false → s.history.floor ≡ 0) }
 {
     let map = DefectMap::new(alloc, instance)?;
     search_with(
-        rt, alloc, instance, &map, workers, budget, watch, fronts, gate,
+        rt, alloc, instance, &map, workers, budget, watch, opening, gate,
     )
 }
 
@@ -311,18 +142,18 @@ fn find<R: Threads + Wait + Sync, G: Gate + Sync>(
     workers: u32,
     budget: u32,
     watch: bool,
-    fronts: bool,
+    opening: Opening,
     gate: &G,
 ) -> Result<Found, Memory>
     requires workers { (1 ≤ workers) × (workers ≤ 8) }
     requires budget { (1 ≤ budget) × (budget ≤ 10000000) }
     ensures found { IfOk result (λ found. IsToldFound instance.now budget watch found.certificate (option_map tree found.plan) (losses_in found.improvements)) }
-    ensures unasked { IfOk result (λ found. fronts ≡ false → found.certificate.floor ≡ 0) }
+    ensures unasked { IfOk result (λ found. opening.fronts ≡ false → found.certificate.floor ≡ 0) }
     ensures fits { IfOk result (λ found. FitsToo found.plan) }
 {
     // Read for its rules.
     let _items = instance.items();
-    let searched = search_for(rt, alloc, instance, workers, budget, watch, fronts, gate)?;
+    let searched = search_for(rt, alloc, instance, workers, budget, watch, opening, gate)?;
     let certificate = certificate_of(alloc, instance, &searched.history)?;
     let plan = best_plan(alloc, instance, &searched.history)?;
     let Searched {
@@ -470,7 +301,8 @@ fn reply_with_found(alloc: Global, instance: &Instance, found: &Found) -> Result
 }
 
 /// The reply to an instance: the best plan that a search finds and its certificate, with its improvements where they are watched; or a refusal where the number of items times the
-/// budget is above 160,000,000. Where fronts are asked, the search begins with what they show: with the best of three plans, and with a loss that no lawful plan is below.
+/// budget is above 160,000,000. Where the opening asks fronts, the search begins with what they show: with the best of three plans, and with a loss that no lawful plan is below; where
+/// it has an effort, with the best plan that wide beams find with it.
 pub fn plan_instance<R: Threads + Wait + Sync, G: Gate + Sync>(
     rt: &R,
     alloc: Global,
@@ -478,18 +310,18 @@ pub fn plan_instance<R: Threads + Wait + Sync, G: Gate + Sync>(
     workers: u32,
     budget: u32,
     watch: bool,
-    fronts: bool,
+    opening: Opening,
     gate: &G,
 ) -> Result<Reply, Memory>
     requires workers { (1 ≤ workers) × (workers ≤ 8) }
     requires budget { (1 ≤ budget) × (budget ≤ 10000000) }
-    ensures { IfOk result (λ r. (name : Product → List ℕ) → PlansWithin instance.now budget watch fronts (name Product.Plan) (name Product.Certificate) (answer_in name r)) }
+    ensures { IfOk result (λ r. (name : Product → List ℕ) → PlansWithin instance.now budget watch opening.fronts (name Product.Plan) (name Product.Certificate) (answer_in name r)) }
 {
     let items = instance.items().len() as u64;
     if items * u64::from(budget) > MOST_WORK {
         let notice = bad_input(alloc, Role::Batch, 9, items, u64::from(budget))?;
         return Ok(reply_with(alloc, notice));
     }
-    let found = find(rt, alloc, instance, workers, budget, watch, fronts, gate)?;
+    let found = find(rt, alloc, instance, workers, budget, watch, opening, gate)?;
     reply_with_found(alloc, instance, &found)
 }

@@ -16,7 +16,8 @@ ghost use Rattle.run_search.specs.Resumptions.{GoesOnWithin, IsResumed, Resumes,
 ghost use Rattle.run_frame.specs.Texts.{limit_of};
 ghost use Rattle.run_frame.specs.Forms.{answer_in};
 
-use crate::planning::{Found, MOST_WORK, best_plan, history_of_boxes, reply_with_text};
+use crate::planning::{Found, MOST_WORK, best_plan, reply_with_text};
+use crate::searching::history_of_boxes;
 use box_workers::{Gate, first_loss};
 use cert_check::reasoned;
 use cert_log::{History, assemble, best_loss, write_cert};

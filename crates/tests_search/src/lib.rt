@@ -8,6 +8,8 @@ mod commands;
 #[cfg(test)]
 mod counts;
 #[cfg(test)]
+mod efforts;
+#[cfg(test)]
 mod passes;
 #[cfg(test)]
 mod searched;

@@ -2,7 +2,7 @@ use Rattle.std.proofs.Common.{rules, ◌≡◌, Bool, Some, arith, subst, sym}
 use Rattle.box_workers.specs.Runs.{first_loss}
 use Rattle.run_search.specs.inner.Searches.{AreWatched}
 use Rattle.run_search.proofs.Told.{watched}
-use Rattle.run_search.proofs.planning.search_of_boxes.Goals as goal
+use Rattle.run_search.proofs.searching.search_of_boxes.Goals as goal
 
 pub returns-then-watch-clause-watched : goal.returns-then-watch-clause-watched
 returns-then-watch-clause-watched g c =

@@ -1,0 +1,89 @@
+//! What wide beams find, so that it can be compared and timed. Each line of standard input is
+//!
+//!     START ITEMS DEFECTS MILLIONS THREADS
+//!
+//! and asks for the plans that an effort of so many millions of ticks finds, by so many threads, of the instance that is drawn so. The answer is that line, and behind it a line for the
+//! first plan and for each wide beam: how many millions of ticks were spent then, and the loss of the best plan in mm².
+#![tactic(auto)]
+
+use anyhow::{Context, bail, ensure};
+use defect_map::DefectMap;
+use first_plan::{Effort, Progress, Team, first_plan, improve};
+use glass_base::Instance;
+use glass_gen::generate;
+use std::alloc::Global;
+use std::io::Print;
+use std::sync::atomic::{AtomicU64, Ordering};
+use std::thread::Threads;
+
+/// Prints each loss that is told of.
+#[derive(Drop)]
+struct Telling<'a, R> {
+    rt: &'a R,
+    millions: AtomicU64,
+}
+
+impl<'a, R: Print> Progress for Telling<'a, R> {
+    fn spends(&self, millions: u64) {
+        self.millions.store(millions, Ordering::Relaxed);
+    }
+
+    fn knows(&self, loss: u64) {
+        let millions = self.millions.load(Ordering::Relaxed);
+        let _told = println!(self.rt; "  {millions} {loss}");
+    }
+}
+
+/// What a line asks for.
+#[derive(Drop)]
+struct Asked {
+    instance: Instance,
+    effort: Effort,
+}
+
+/// Reads a line.
+fn read(alloc: Global, line: &str) -> anyhow::Result<Asked> {
+    let mut numbers = Vec::new(alloc);
+    for word in line.split(' ') {
+        numbers.push(word.parse::<u32>()?)?;
+    }
+    let [start, items, defects, millions, threads] = numbers.as_slice() else {
+        bail!("a line has five numbers");
+    };
+    ensure!(1 <= *items && *items <= 800, "1 to 800 items are drawn");
+    ensure!(*defects <= 20_000, "at most 20,000 defects are drawn");
+    Ok(Asked {
+        instance: generate(alloc, *start, *items, *defects)?,
+        effort: Effort {
+            millions: *millions,
+            threads: *threads,
+        },
+    })
+}
+
+/// Does what a line asks for.
+fn answer<R: Threads + Print + Sync>(rt: &R, alloc: Global, asked: &Asked) -> anyhow::Result<()> {
+    let map = DefectMap::new(alloc, &asked.instance)?;
+    let first = first_plan(alloc, &asked.instance, &map)?.context("there is no first plan")?;
+    let telling = Telling {
+        rt,
+        millions: AtomicU64::new(0),
+    };
+    let team = Team {
+        rt,
+        effort: asked.effort,
+        progress: &telling,
+    };
+    let _best = improve(alloc, &team, &asked.instance, &map, first, 0)?;
+    Ok(())
+}
+
+fn main(rt: HostRuntime) -> anyhow::Result<()> {
+    for line in rt.lines(rt.alloc()) {
+        let line = line?;
+        let asked = read(rt.alloc(), line.as_str())?;
+        println!(rt; "{line}")?;
+        answer(&rt, rt.alloc(), &asked)?;
+    }
+    Ok(())
+}

@@ -1,0 +1,111 @@
+//! More work for a better first plan: by one thread and by four the same plan, and never a worse one for more.
+
+use cut_model::{Step, Trace};
+use defect_map::DefectMap;
+use first_plan::{Effort, Progress, Team, first_plan, improve};
+use glass_base::{Instance, Run};
+use glass_gen::generate;
+use std::alloc::Global;
+use std::sync::atomic::{AtomicU64, Ordering};
+use std::test::Fail;
+use std::thread::Threads;
+
+/// Notes the least loss that it is told, and how often it was told one.
+#[derive(Drop)]
+struct Notes {
+    loss: AtomicU64,
+    beams: AtomicU64,
+    millions: AtomicU64,
+}
+
+impl Progress for Notes {
+    fn spends(&self, millions: u64) {
+        self.millions.store(millions, Ordering::SeqCst);
+    }
+
+    fn knows(&self, loss: u64) {
+        self.loss.fetch_min(loss, Ordering::SeqCst);
+        self.beams.fetch_add(1, Ordering::SeqCst);
+    }
+}
+
+/// What an effort came to.
+#[derive(Drop)]
+struct Outcome {
+    steps: Vec<Step>,
+    loss: u64,
+    /// How many plans were known one after the other: the first one, and one behind each wide beam.
+    plans: u64,
+}
+
+fn steps_of(alloc: Global, trace: &Trace) -> Result<Vec<Step>, Fail> {
+    let mut steps = Vec::new(alloc);
+    steps.extend_from_slice(trace.steps.as_slice())?;
+    Ok(steps)
+}
+
+/// What so much work comes to by so many threads.
+fn work_out<R: Threads + Sync>(
+    rt: &R,
+    alloc: Global,
+    instance: &Instance,
+    millions: u32,
+    threads: u32,
+) -> Result<Outcome, Fail> {
+    let map = DefectMap::new(alloc, instance)?;
+    let Some(first) = first_plan(alloc, instance, &map)? else {
+        return Ok(Outcome {
+            steps: Vec::new(alloc),
+            loss: u64::MAX,
+            plans: 0,
+        });
+    };
+    let notes = Notes {
+        loss: AtomicU64::new(u64::MAX),
+        beams: AtomicU64::new(0),
+        millions: AtomicU64::new(0),
+    };
+    let team = Team {
+        rt,
+        effort: Effort { millions, threads },
+        progress: &notes,
+    };
+    let best = improve(alloc, &team, instance, &map, first, 0)?;
+    Ok(Outcome {
+        steps: steps_of(alloc, &best)?,
+        loss: notes.loss.load(Ordering::SeqCst),
+        plans: notes.beams.load(Ordering::SeqCst),
+    })
+}
+
+/// Fourteen items and ten defects.
+fn some(alloc: Global) -> Result<Instance, Fail> {
+    Ok(generate(alloc, 7, 14, 10)?)
+}
+
+#[test]
+fn one_thread_and_four_find_the_same_plan(rt: HostRuntime) -> Result<(), Fail> {
+    let instance = some(rt.alloc())?;
+    let one = work_out(&rt, rt.alloc(), &instance, 500, 1)?;
+    let four = work_out(&rt, rt.alloc(), &instance, 500, 4)?;
+    assert!(&rt; one.plans > 2);
+    assert_eq!(&rt; one.plans, four.plans);
+    assert_eq!(&rt; one.loss, four.loss);
+    assert!(&rt; one.steps.as_slice() == four.steps.as_slice());
+    Ok(())
+}
+
+#[test]
+fn more_work_never_finds_less(rt: HostRuntime) -> Result<(), Fail> {
+    let instance = some(rt.alloc())?;
+    let mut before = work_out(&rt, rt.alloc(), &instance, 0, 2)?;
+    assert_eq!(&rt; before.plans, 1);
+    for millions in [299, 300, 420, 700] {
+        let after = work_out(&rt, rt.alloc(), &instance, millions, 2)?;
+        assert!(&rt; after.loss <= before.loss);
+        assert!(&rt; after.plans >= before.plans);
+        before = after;
+    }
+    assert!(&rt; before.plans > 2);
+    Ok(())
+}
