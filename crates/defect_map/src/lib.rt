@@ -3,6 +3,8 @@
 
 mod columns;
 mod frame;
+mod ground;
 pub mod map;
 
+pub use ground::Ground;
 pub use map::DefectMap;
