@@ -7,7 +7,7 @@ use crate::copying::{copy_instance, copy_trace};
 use crate::entry::{Entry, Offered};
 use cert_log::trace_loss;
 use cut_model::Trace;
-use defect_map::DefectMap;
+use defect_map::{DefectMap, Ground};
 use glass_base::{Instance, Memory, Run, append};
 use plan_trace::meets;
 use std::alloc::Global;
@@ -35,11 +35,11 @@ impl Model for Entries {
 }
 
 /// Whether a trace has a step for each item and meets the rules.
-pub(crate) fn is_complete(instance: &Instance, map: &DefectMap, trace: &Trace) -> bool
-    requires map { map.now ≡ instance.now.defects }
-    ensures { IsTrue result ↔ IsComplete instance.now trace.now.steps.items }
+pub(crate) fn is_complete(ground: Ground<'_>, trace: &Trace) -> bool
+    ensures { IsTrue result ↔ IsComplete ground.entry.instance.now trace.now.steps.items }
 {
-    trace.steps.len() == instance.items().len() && meets(instance, map, trace).is_ok()
+    trace.steps.len() == ground.instance.items().len()
+        && meets(ground.instance, ground.map, trace).is_ok()
 }
 
 /// The loss of the last plan of a list, if there is one.
@@ -90,13 +90,23 @@ impl Entries {
         self.list.as_slice()
     }
 
+    /// The kept instance with its map.
+    fn ground(&self) -> Ground<'_>
+        ensures { result.instance.now ≡ self.now.instance }
+    {
+        Ground {
+            instance: &self.instance,
+            map: &self.map,
+        }
+    }
+
     /// Enters a trace at the end of the list, with its loss, where it has a step for each item, meets the rules for the kept instance,
     /// and loses less than the last one. Else it is told why not, and the list stays as it was, as it does where memory runs out.
     pub fn offer(&mut self, trace: &Trace) -> Result<Offered, Memory>
         ensures offers { IfOk result (λ offered. Offers trace.now.steps.items self.old self.new offered) }
         ensures refused { OnErr result (self.new ≡ self.old) }
     {
-        if !is_complete(&self.instance, &self.map, trace) {
+        if !is_complete(self.ground(), trace) {
             return Ok(Offered::Broken);
         }
         let loss = trace_loss(&self.instance, trace);

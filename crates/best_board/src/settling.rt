@@ -10,7 +10,7 @@ use crate::entries::{Entries, is_complete};
 use crate::entry::Entry;
 use cert_log::trace_loss;
 use cut_model::Trace;
-use defect_map::DefectMap;
+use defect_map::{DefectMap, Ground};
 use glass_base::{Instance, Memory, Run, append};
 use std::alloc::Global;
 
@@ -25,25 +25,17 @@ fn is_within(loss: u64, most: Option<u64>, least: u64) -> bool
 }
 
 /// Whether an entry is a plan of this instance, and has its loss.
-fn is_improvement(instance: &Instance, map: &DefectMap, entry: &Entry) -> bool
-    requires map { map.now ≡ instance.now.defects }
-    ensures { IsTrue result ↔ IsImprovement instance.now (found entry.now) }
+fn is_improvement(ground: Ground<'_>, entry: &Entry) -> bool
+    ensures { IsTrue result ↔ IsImprovement ground.entry.instance.now (found entry.now) }
 {
-    is_complete(instance, map, &entry.trace) && entry.loss == trace_loss(instance, &entry.trace)
+    is_complete(ground, &entry.trace) && entry.loss == trace_loss(ground.instance, &entry.trace)
 }
 
 /// Whether an entry is a plan of this instance whose loss lies between two.
-fn is_between(
-    instance: &Instance,
-    map: &DefectMap,
-    most: Option<u64>,
-    least: u64,
-    entry: &Entry,
-) -> bool
-    requires map { map.now ≡ instance.now.defects }
-    ensures { IsTrue result ↔ IsBetween instance.now most least (found entry.now) }
+fn is_between(ground: Ground<'_>, most: Option<u64>, least: u64, entry: &Entry) -> bool
+    ensures { IsTrue result ↔ IsBetween ground.entry.instance.now most least (found entry.now) }
 {
-    is_within(entry.loss, most, least) && is_improvement(instance, map, entry)
+    is_within(entry.loss, most, least) && is_improvement(ground, entry)
 }
 
 /// Appends a plan with this loss.
@@ -76,18 +68,16 @@ fn put_first(
 /// Appends those entries that are plans of this instance and whose losses lie between two.
 fn put_between(
     alloc: Global,
-    instance: &Instance,
-    map: &DefectMap,
+    ground: Ground<'_>,
     most: Option<u64>,
     least: u64,
     entries: &[Entry],
     list: &mut Run<Entry>,
 ) -> Result<(), Memory>
-    requires map { map.now ≡ instance.now.defects }
-    ensures { OnOk result ((between : List Found) × AreThose (IsBetween instance.now most least) (found_in entries.now) between × (found_in list.new.items ≡ found_in list.old.items ++ between)) }
+    ensures { OnOk result ((between : List Found) × AreThose (IsBetween ground.entry.instance.now most least) (found_in entries.now) between × (found_in list.new.items ≡ found_in list.old.items ++ between)) }
 {
     for entry in entries {
-        if is_between(instance, map, most, least, entry) {
+        if is_between(ground, most, least, entry) {
             put_plan(alloc, entry.loss, &entry.trace, list)?;
         }
     }
@@ -137,13 +127,14 @@ pub fn settle(
     ensures improvements { IfOk result (λ list. AreImprovements instance.now (found_in list.items)) }
     ensures ends { IfOk result (λ list. last_loss (found_in list.items) ≡ option_map (trace_loss_of instance.now) (option_map (λ t. t.now.steps.items) last.entry)) }
 {
+    let ground = Ground { instance, map };
     let mut list = Run::new(alloc);
     let Some(last) = last else {
         return Ok(list);
     };
     let least = trace_loss(instance, last);
     let most = put_first(alloc, instance, first, &mut list)?;
-    put_between(alloc, instance, map, most, least, entries.list(), &mut list)?;
+    put_between(alloc, ground, most, least, entries.list(), &mut list)?;
     put_last(alloc, most, least, last, &mut list)?;
     Ok(list)
 }

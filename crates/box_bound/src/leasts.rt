@@ -5,7 +5,7 @@ ghost use Rattle.std.specs.Prelude.{◌≡◌, IfOk, length};
 use crate::filling::{decided_ranges, refill};
 use crate::kept::Kept;
 use crate::seen::look;
-use defect_map::DefectMap;
+use defect_map::{DefectMap, Ground};
 use glass_base::{Instance, Memory, Run};
 use plan_box::{Frame, Packed, PlanBox, Reason, Var};
 use std::alloc::Global;
@@ -102,8 +102,10 @@ impl Leasts {
         let start = refill(instance, &mut self.steps, self.count, ranges);
         self.count = ranges.len();
         look(
-            instance,
-            &self.map,
+            Ground {
+                instance,
+                map: &self.map,
+            },
             whole,
             &self.steps.as_slice()[..ranges.len()],
             ranges,

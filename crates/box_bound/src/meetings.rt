@@ -9,7 +9,7 @@ ghost use Rattle.plan_box.specs.Facts.{BandMet, CellMet, StripMet};
 ghost use Rattle.plan_box.specs.Within.{AreWithin};
 
 use crate::kept::Kept;
-use defect_map::DefectMap;
+use defect_map::{DefectMap, Ground};
 use glass_base::{Instance, Params};
 use plan_trace::level::Level;
 
@@ -72,15 +72,20 @@ pub fn item_met(map: &DefectMap, here: &Kept) -> bool
 }
 
 /// The sides of the strip.
-fn strip_met(instance: &Instance, map: &DefectMap, here: &Kept) -> bool
-    ensures { IsTrue result ↔ StripMet instance.now map.now (late here.now) }
+fn strip_met(ground: Ground<'_>, here: &Kept) -> bool
+    ensures { let b = ground.entry.instance.now in IsTrue result ↔ StripMet b b.defects (late here.now) }
 {
     let k = &here.ends;
     let plate = here.place.plate();
-    let height = instance.params().height;
-    (1 <= k.least_a && map.crosses_x_all(plate, (k.least_a, k.high_a), 0, height))
-        || (k.high_b < instance.width(plate)
-            && map.crosses_x_all(plate, (k.least_b, k.high_b), 0, height))
+    let height = ground.instance.params().height;
+    (1 <= k.least_a
+        && ground
+            .map
+            .crosses_x_all(plate, (k.least_a, k.high_a), 0, height))
+        || (k.high_b < ground.instance.width(plate)
+            && ground
+                .map
+                .crosses_x_all(plate, (k.least_b, k.high_b), 0, height))
 }
 
 /// The sides of the band.
@@ -180,13 +185,13 @@ fn line_met(map: &DefectMap, here: &Kept) -> bool
 }
 
 /// Whether a cut of a step runs through one defect at every place of its ranges.
-pub fn cut_met(instance: &Instance, map: &DefectMap, last: &Kept, here: &Kept) -> bool
+pub fn cut_met(ground: Ground<'_>, last: &Kept, here: &Kept) -> bool
     requires within { AreWithin 40000000 (late here.now) }
-    ensures { (StripMet instance.now map.now (late here.now) ⊎ BandMet instance.now.params map.now (late here.now) ⊎ CellMet map.now (late here.now) ⊎ LiftR4 map.now here.now.level here.now.place.lift (late here.now)) ↔ IsTrue result }
+    ensures { let b = ground.entry.instance.now in (StripMet b b.defects (late here.now) ⊎ BandMet b.params b.defects (late here.now) ⊎ CellMet b.defects (late here.now) ⊎ LiftR4 b.defects here.now.level here.now.place.lift (late here.now)) ↔ IsTrue result }
 {
     let _last = last;
-    strip_met(instance, map, here)
-        || band_met(instance.params(), map, here)
-        || cell_met(map, here)
-        || line_met(map, here)
+    strip_met(ground, here)
+        || band_met(ground.instance.params(), ground.map, here)
+        || cell_met(ground.map, here)
+        || line_met(ground.map, here)
 }

@@ -15,7 +15,7 @@ use crate::kept::Kept;
 use crate::leasts::Leasts;
 use crate::walking::seen_in;
 use cut_model::{Step, Trace};
-use defect_map::DefectMap;
+use defect_map::{DefectMap, Ground};
 use glass_base::{Instance, Run};
 use plan_box::{Frame, Packed, PlanBox};
 use plan_trace::{TraceBroken, first_broken};
@@ -71,33 +71,32 @@ pub fn probe(instance: &Instance, map: &DefectMap, bx: &PlanBox, trace: &mut Tra
 {
     let _items = instance.items();
     let _frame = bx.frame();
+    let ground = Ground { instance, map };
     let mut numbers = [least_step(&Kept::none(Packed::full(Frame::of(instance)))); 800];
     let ranges = decided_ranges(instance, bx);
-    let _seen = seen_in(instance, map, true, ranges, &mut numbers);
+    let _seen = seen_in(ground, true, ranges, &mut numbers);
     overwrite(&numbers[..ranges.len()], &mut trace.steps);
-    first_broken(instance, map, trace.steps.as_slice()).is_none()
+    first_broken(ground, trace.steps.as_slice()).is_none()
 }
 
 /// Fills the trace as `probe` does, where the leasts are for the box, and tells the first rule that it breaks, if any.
 pub fn broken_at(
-    instance: &Instance,
-    map: &DefectMap,
+    ground: Ground<'_>,
     leasts: &Leasts,
     bx: &PlanBox,
     trace: &mut Trace,
 ) -> Option<TraceBroken>
-    requires map { map.now ≡ instance.now.defects }
-    requires instance { bx.now.frame ≡ frame_of instance.now }
-    requires leasts { IsFor instance.now bx.now leasts.now }
+    requires instance { bx.now.frame ≡ frame_of ground.instance.now }
+    requires leasts { IsFor ground.instance.now bx.now leasts.now }
     requires whole { IsTrue (all_decided bx.now.ranges) }
-    requires trace { length trace.old.steps.items ≡ length instance.now.items }
-    ensures trace { trace.new.steps.items ≡ least_steps (known instance.now bx.now.ranges) }
-    ensures broken { let steps = trace.new.steps.items in MatchOption result (Meets instance.now steps) (λ broken. IsFirstBroken instance.now steps broken.rule broken.step) }
+    requires trace { length trace.old.steps.items ≡ length ground.instance.now.items }
+    ensures trace { trace.new.steps.items ≡ least_steps (known ground.entry.instance.now bx.now.ranges) }
+    ensures broken { let b = ground.entry.instance.now in let steps = trace.new.steps.items in MatchOption result (Meets b steps) (λ broken. IsFirstBroken b steps broken.rule broken.step) }
 {
-    let _items = instance.items();
+    let _items = ground.instance.items();
     let _frame = bx.frame();
     write(leasts.kept(), &mut trace.steps);
-    first_broken(instance, map, trace.steps.as_slice())
+    first_broken(ground, trace.steps.as_slice())
 }
 
 /// `probe`, where the leasts are for the box.
@@ -116,5 +115,5 @@ pub fn probe_at(
     ensures trace { trace.new.steps.items ≡ least_steps (known instance.now bx.now.ranges) }
     ensures meets { IsTrue result ↔ Meets instance.now trace.new.steps.items }
 {
-    broken_at(instance, map, leasts, bx, trace).is_none()
+    broken_at(Ground { instance, map }, leasts, bx, trace).is_none()
 }

@@ -20,7 +20,7 @@ use crate::leasts::Leasts;
 use crate::probing::least_step;
 use crate::walking::seen_in;
 use cut_model::Step;
-use defect_map::DefectMap;
+use defect_map::{DefectMap, Ground};
 use glass_base::Instance;
 use plan_box::{Frame, Packed, PlanBox, Reason};
 use plan_trace::first_broken;
@@ -41,40 +41,37 @@ fn is_too_long(instance: &Instance, length: u64) -> bool
 }
 
 /// Whether these steps break a rule.
-fn breaks(instance: &Instance, map: &DefectMap, steps: &[Step]) -> bool
-    requires map { map.now ≡ instance.now.defects }
+fn breaks(ground: Ground<'_>, steps: &[Step]) -> bool
     requires few { length steps.now ≤ 800 }
-    ensures { MatchBool result (¬ Meets instance.now steps.now) (Meets instance.now steps.now) }
+    ensures { let b = ground.entry.instance.now in MatchBool result (¬ Meets b steps.now) (Meets b steps.now) }
 {
-    first_broken(instance, map, steps).is_some()
+    first_broken(ground, steps).is_some()
 }
 
 /// Whether the least steps of these decided steps, of which there are at most 800, break a rule.
-fn is_broken(instance: &Instance, map: &DefectMap, steps: &[Kept]) -> bool
-    requires map { map.now ≡ instance.now.defects }
+fn is_broken(ground: Ground<'_>, steps: &[Kept]) -> bool
     requires few { length steps.now ≤ 800 }
-    ensures { let numbers = mapped (λ k. least_step_of (late k)) steps.now in MatchBool result (¬ Meets instance.now numbers) (Meets instance.now numbers) }
+    ensures { let b = ground.entry.instance.now in let numbers = mapped (λ k. least_step_of (late k)) steps.now in MatchBool result (¬ Meets b numbers) (Meets b numbers) }
 {
-    let mut numbers = [least_step(&Kept::none(Packed::full(Frame::of(instance)))); 800];
+    let mut numbers = [least_step(&Kept::none(Packed::full(Frame::of(ground.instance)))); 800];
     for (i, step) in steps.iter().enumerate() {
         numbers[i] = least_step(step);
     }
-    breaks(instance, map, &numbers[..steps.len()])
+    breaks(ground, &numbers[..steps.len()])
 }
 
 /// Whether the box is a point whose numbers break a rule.
-fn is_broken_point_at(instance: &Instance, map: &DefectMap, leasts: &Leasts, bx: &PlanBox) -> bool
-    requires map { map.now ≡ instance.now.defects }
-    requires leasts { IsFor instance.now bx.now leasts.now }
-    requires possible { ¬ Applies ReasonOf.R1 instance.now bx.now.ranges }
-    ensures broken { IsTrue result ↔ R7 instance.now bx.now.ranges }
-    ensures met { result ≡ false → IsPoint bx.now.ranges → Meets instance.now (least_steps (known instance.now bx.now.ranges)) }
+fn is_broken_point_at(ground: Ground<'_>, leasts: &Leasts, bx: &PlanBox) -> bool
+    requires leasts { IsFor ground.instance.now bx.now leasts.now }
+    requires possible { ¬ Applies ReasonOf.R1 ground.instance.now bx.now.ranges }
+    ensures broken { IsTrue result ↔ R7 ground.entry.instance.now bx.now.ranges }
+    ensures met { let b = ground.entry.instance.now in result ≡ false → IsPoint bx.now.ranges → Meets b (least_steps (known b bx.now.ranges)) }
 {
-    let _items = instance.items();
+    let _items = ground.instance.items();
     if !bx.is_point() {
         return false;
     }
-    is_broken(instance, map, leasts.kept())
+    is_broken(ground, leasts.kept())
 }
 
 /// The first reason before R7 that applies to a box, if one does, where the leasts are for it.
@@ -107,7 +104,7 @@ pub fn refuted_at(
     if let Some(reason) = refuted_early_at(instance, leasts, bx) {
         return Some(reason);
     }
-    if is_broken_point_at(instance, map, leasts, bx) {
+    if is_broken_point_at(Ground { instance, map }, leasts, bx) {
         return Some(Reason::R7);
     }
     None
@@ -115,38 +112,34 @@ pub fn refuted_at(
 
 /// The first reason before R7 that applies to a box, if one does; writes the step that each decided one stands for at its least
 /// values.
-fn refuted_early(
-    instance: &Instance,
-    map: &DefectMap,
-    bx: &PlanBox,
-    numbers: &mut [Step],
-) -> Option<Reason>
-    requires map { map.now ≡ instance.now.defects }
-    requires instance { bx.now.frame ≡ frame_of instance.now }
+fn refuted_early(ground: Ground<'_>, bx: &PlanBox, numbers: &mut [Step]) -> Option<Reason>
+    requires instance { bx.now.frame ≡ frame_of ground.instance.now }
     requires room { length numbers.old ≡ 800 }
-    ensures first { IsFirstIfAny (AppliesEarly instance.now bx.now.ranges) result }
-    ensures numbers { take (length (decided bx.now.ranges)) numbers.new ≡ least_steps (known instance.now bx.now.ranges) }
+    ensures first { IsFirstIfAny (AppliesEarly ground.entry.instance.now bx.now.ranges) result }
+    ensures numbers { take (length (decided bx.now.ranges)) numbers.new ≡ least_steps (known ground.entry.instance.now bx.now.ranges) }
     ensures room { length numbers.new ≡ 800 }
 {
     let _frame = bx.frame();
-    let ranges = decided_ranges(instance, bx);
-    let whole = ranges.len() == instance.items().len();
-    let seen = seen_in(instance, map, whole, ranges, numbers);
-    with_length(seen, is_too_long(instance, length_of(instance, bx)))
+    let ranges = decided_ranges(ground.instance, bx);
+    let whole = ranges.len() == ground.instance.items().len();
+    let seen = seen_in(ground, whole, ranges, numbers);
+    with_length(
+        seen,
+        is_too_long(ground.instance, length_of(ground.instance, bx)),
+    )
 }
 
 /// Whether the box is a point whose numbers, which are these, break a rule.
-fn is_broken_point(instance: &Instance, map: &DefectMap, bx: &PlanBox, numbers: &[Step]) -> bool
-    requires map { map.now ≡ instance.now.defects }
-    requires numbers { numbers.now ≡ least_steps (known instance.now bx.now.ranges) }
+fn is_broken_point(ground: Ground<'_>, bx: &PlanBox, numbers: &[Step]) -> bool
+    requires numbers { numbers.now ≡ least_steps (known ground.instance.now bx.now.ranges) }
     requires few { length numbers.now ≤ 800 }
-    requires possible { ¬ Applies ReasonOf.R1 instance.now bx.now.ranges }
-    ensures { IsTrue result ↔ R7 instance.now bx.now.ranges }
+    requires possible { ¬ Applies ReasonOf.R1 ground.instance.now bx.now.ranges }
+    ensures { IsTrue result ↔ R7 ground.entry.instance.now bx.now.ranges }
 {
     if !bx.is_point() {
         return false;
     }
-    breaks(instance, map, numbers)
+    breaks(ground, numbers)
 }
 
 /// The first reason that applies to a box, if one does. It takes no memory, and computes each step anew.
@@ -157,11 +150,12 @@ pub fn refuted(instance: &Instance, map: &DefectMap, bx: &PlanBox) -> Option<Rea
 {
     let _items = instance.items();
     let _frame = bx.frame();
+    let ground = Ground { instance, map };
     let mut numbers = [least_step(&Kept::none(Packed::full(Frame::of(instance)))); 800];
-    if let Some(reason) = refuted_early(instance, map, bx, &mut numbers) {
+    if let Some(reason) = refuted_early(ground, bx, &mut numbers) {
         return Some(reason);
     }
-    if is_broken_point(instance, map, bx, &numbers[..bx.decided() as usize]) {
+    if is_broken_point(ground, bx, &numbers[..bx.decided() as usize]) {
         return Some(Reason::R7);
     }
     None

@@ -15,7 +15,7 @@ use crate::gaps::has_tight_gap;
 use crate::kept::Kept;
 use crate::meetings::{cut_met, item_met};
 use crate::numbers::{breaks_a_rule, has_no_place, is_too_wide};
-use defect_map::DefectMap;
+use defect_map::Ground;
 use glass_base::{Instance, Run};
 use plan_box::{Frame, Packed, Reason};
 
@@ -39,38 +39,35 @@ pub fn earlier(one: Option<Reason>, other: Option<Reason>) -> Option<Reason>
 }
 
 /// Whether a cut of a step runs through one defect at every place of its ranges.
-fn is_cut_met(instance: &Instance, map: &DefectMap, last: &Kept, here: &Kept) -> bool
-    requires map { map.now ≡ instance.now.defects }
+fn is_cut_met(ground: Ground<'_>, last: &Kept, here: &Kept) -> bool
     requires within { AreWithin 40000000 (late here.now) }
-    ensures { IsTrue result ↔ StepR4 instance.now last.now.level (late last.now) here.now.level (late here.now) [] }
+    ensures { IsTrue result ↔ StepR4 ground.entry.instance.now last.now.level (late last.now) here.now.level (late here.now) [] }
 {
-    cut_met(instance, map, last, here)
+    cut_met(ground, last, here)
 }
 
 /// The first reason that is a fact at a decided step, if one is. `last` is the step before; `whole` where all steps are decided.
 pub fn seen_at(
-    instance: &Instance,
-    map: &DefectMap,
+    ground: Ground<'_>,
     whole: bool,
     last: &Kept,
     here: &Kept,
     later: &[Packed],
 ) -> Option<Reason>
-    requires map { map.now ≡ instance.now.defects }
     requires within { AreWithin 40000000 (late here.now) }
-    ensures { IsFirstIfAny (λ reason. FactOf instance.now whole reason last.now.level (late last.now) here.now.level (late here.now) (levels_of later.now)) result }
+    ensures { IsFirstIfAny (λ reason. FactOf ground.entry.instance.now whole reason last.now.level (late last.now) here.now.level (late here.now) (levels_of later.now)) result }
 {
-    let params = instance.params();
+    let params = ground.instance.params();
     if has_no_place(last, here) {
         return Some(Reason::R1);
     }
-    if has_tight_gap(instance, whole, last, here, later) {
+    if has_tight_gap(ground.instance, whole, last, here, later) {
         return Some(Reason::R2);
     }
-    if item_met(map, here) {
+    if item_met(ground.map, here) {
         return Some(Reason::R3);
     }
-    if is_cut_met(instance, map, last, here) {
+    if is_cut_met(ground, last, here) {
         return Some(Reason::R4);
     }
     if is_too_wide(params, last, here) {
@@ -105,29 +102,27 @@ fn seen_before(seen: &[Option<Reason>], at: usize) -> Option<Reason>
 
 /// Looks at these decided steps from one on, and puts for each the first reason that is a fact at it or at one before it.
 pub fn look(
-    instance: &Instance,
-    map: &DefectMap,
+    ground: Ground<'_>,
     whole: bool,
     steps: &[Kept],
     ranges: &[Packed],
     start: usize,
     seen: &mut Run<Option<Reason>>,
 )
-    requires map { map.now ≡ instance.now.defects }
     requires within { All (λ k. AreWithin 40000000 (late k)) steps.now }
     requires many { length ranges.now ≡ length steps.now }
     requires levels { HaveLevels steps.now ranges.now }
     requires room { length steps.now ≤ length seen.old.items }
     requires inside { start ≤ length steps.now }
-    requires before { AreSeen instance.now whole (mapped late_fixed steps.now) seen.old.items start }
+    requires before { AreSeen ground.instance.now whole (mapped late_fixed steps.now) seen.old.items start }
     ensures many { length seen.new.items ≡ length seen.old.items }
-    ensures seen { AreSeen instance.now whole (mapped late_fixed steps.now) seen.new.items (length steps.now) }
+    ensures seen { AreSeen ground.entry.instance.now whole (mapped late_fixed steps.now) seen.new.items (length steps.now) }
 {
-    let mut last = step_before(instance, steps, start);
+    let mut last = step_before(ground.instance, steps, start);
     let mut found = seen_before(seen.as_slice(), start);
     for i in start..steps.len() {
         let here = steps[i];
-        let next = seen_at(instance, map, whole, &last, &here, &ranges[i + 1..]);
+        let next = seen_at(ground, whole, &last, &here, &ranges[i + 1..]);
         found = earlier(found, next);
         seen.set(i, found);
         last = here;

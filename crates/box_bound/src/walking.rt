@@ -17,7 +17,7 @@ use crate::kept::{Kept, drawn};
 use crate::probing::least_step;
 use crate::seen::{earlier, seen_at};
 use cut_model::Step;
-use defect_map::DefectMap;
+use defect_map::Ground;
 use glass_base::Instance;
 use plan_box::{Frame, Packed, Reason, Var};
 
@@ -49,52 +49,45 @@ fn settled_before(step: &Kept, behind: &Walked) -> Kept
 
 /// The first reason that is a fact at one of the steps behind this one, of which these are the ranges.
 fn seen_behind(
-    instance: &Instance,
-    map: &DefectMap,
+    ground: Ground<'_>,
     whole: bool,
     step: &Kept,
     ranges: &[Packed],
     behind: &Walked,
 ) -> Option<Reason>
-    requires map { map.now ≡ instance.now.defects }
     requires within { IfSome behind.now.first (λ k. AreWithin 40000000 (late k)) }
-    ensures { (ks : List Fixed) → IsHead behind.now.first ks → AreLevels ks ranges.now → IsFirstIfAny (λ reason. SomeBehind (FactOf instance.now whole reason) ks) behind.now.seen → IsFirstIfAny (λ reason. SomeFixed (FactOf instance.now whole reason) step.now.level (late step.now) ks) result }
+    ensures { let b = ground.entry.instance.now in (ks : List Fixed) → IsHead behind.now.first ks → AreLevels ks ranges.now → IsFirstIfAny (λ reason. SomeBehind (FactOf b whole reason) ks) behind.now.seen → IsFirstIfAny (λ reason. SomeFixed (FactOf b whole reason) step.now.level (late step.now) ks) result }
 {
     let Some(next) = behind.first else {
         return None;
     };
     match ranges.split_first() {
         None => None,
-        Some((_, later)) => earlier(
-            seen_at(instance, map, whole, step, &next, later),
-            behind.seen,
-        ),
+        Some((_, later)) => earlier(seen_at(ground, whole, step, &next, later), behind.seen),
     }
 }
 
 /// Goes over the decided steps of these ranges from one on, behind the step `last`, and writes the step that each stands for at
 /// its least values.
 fn walk(
-    instance: &Instance,
-    map: &DefectMap,
+    ground: Ground<'_>,
     whole: bool,
     ranges: &[Packed],
     at: usize,
     last: &Kept,
     steps: &mut [Step],
 ) -> Walked
-    requires map { map.now ≡ instance.now.defects }
     requires few { length ranges.now ≤ 800 }
     requires room { length ranges.now ≤ length steps.old }
     requires inside { at ≤ length ranges.now }
     requires ranges { All (λ x. AreRangesWithin (unpacked x)) ranges.now }
     requires within { AreWithin (limit at) (early last.now) }
-    ensures first { IsHead result.first (steps_from instance.now ranges.now at (early last.now)) }
+    ensures first { IsHead result.first (steps_from ground.entry.instance.now ranges.now at (early last.now)) }
     ensures within { IfSome result.first (λ k. AreWithin 40000000 (late k)) }
-    ensures seen { IsFirstIfAny (λ reason. SomeBehind (FactOf instance.now whole reason) (steps_from instance.now ranges.now at (early last.now))) result.seen }
-    ensures steps { steps.new ≡ take at steps.old ++ (least_steps (steps_from instance.now ranges.now at (early last.now)) ++ drop (length ranges.now) steps.old) }
+    ensures seen { let b = ground.entry.instance.now in IsFirstIfAny (λ reason. SomeBehind (FactOf b whole reason) (steps_from b ranges.now at (early last.now))) result.seen }
+    ensures steps { steps.new ≡ take at steps.old ++ (least_steps (steps_from ground.entry.instance.now ranges.now at (early last.now)) ++ drop (length ranges.now) steps.old) }
 {
-    let _items = instance.items();
+    let _items = ground.instance.items();
     if at == ranges.len() {
         return Walked {
             first: None,
@@ -102,11 +95,11 @@ fn walk(
         };
     }
     let taken = drawn(&ranges[..at], ranges[at].range(Var::Stack).0);
-    let step = last.next(instance, &ranges[..at], taken, &ranges[at]);
-    let behind = walk(instance, map, whole, ranges, at + 1, &step, steps);
+    let step = last.next(ground.instance, &ranges[..at], taken, &ranges[at]);
+    let behind = walk(ground, whole, ranges, at + 1, &step, steps);
     let here = settled_before(&step, &behind);
     steps[at] = least_step(&here);
-    let seen = seen_behind(instance, map, whole, &here, &ranges[at + 1..], &behind);
+    let seen = seen_behind(ground, whole, &here, &ranges[at + 1..], &behind);
     Walked {
         first: Some(here),
         seen,
@@ -116,20 +109,18 @@ fn walk(
 /// The first reason that is a fact at some decided step of these ranges, if one is; writes the step that each stands for at its
 /// least values.
 pub fn seen_in(
-    instance: &Instance,
-    map: &DefectMap,
+    ground: Ground<'_>,
     whole: bool,
     ranges: &[Packed],
     steps: &mut [Step],
 ) -> Option<Reason>
-    requires map { map.now ≡ instance.now.defects }
     requires few { length ranges.now ≤ 800 }
     requires room { length ranges.now ≤ length steps.old }
     requires ranges { All (λ x. AreRangesWithin (unpacked x)) ranges.now }
-    ensures seen { IsFirstIfAny (λ reason. SomeFixed (FactOf instance.now whole reason) NewPlate no_known (settle (follow instance.now [] no_known (mapped unpacked ranges.now)))) result }
-    ensures steps { take (length ranges.now) steps.new ≡ least_steps (settle (follow instance.now [] no_known (mapped unpacked ranges.now))) }
+    ensures seen { let b = ground.entry.instance.now in IsFirstIfAny (λ reason. SomeFixed (FactOf b whole reason) NewPlate no_known (settle (follow b [] no_known (mapped unpacked ranges.now)))) result }
+    ensures steps { take (length ranges.now) steps.new ≡ least_steps (settle (follow ground.entry.instance.now [] no_known (mapped unpacked ranges.now))) }
 {
-    let none = Kept::none(Packed::full(Frame::of(instance)));
-    let behind = walk(instance, map, whole, ranges, 0, &none, steps);
-    seen_behind(instance, map, whole, &none, ranges, &behind)
+    let none = Kept::none(Packed::full(Frame::of(ground.instance)));
+    let behind = walk(ground, whole, ranges, 0, &none, steps);
+    seen_behind(ground, whole, &none, ranges, &behind)
 }

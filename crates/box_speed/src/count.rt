@@ -6,6 +6,6 @@ pub struct Count {
     pub boxes: usize,
     /// How many were left.
     pub open: usize,
-    /// The least loss of the first plan and of those that were found, in mm², where boxes were probed.
+    /// The least loss of the plan that it began with and of those that were found, in mm², where there is one.
     pub loss: Option<u64>,
 }

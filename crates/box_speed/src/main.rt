@@ -1,22 +1,19 @@
-//! Searches over boxes, so that they can be timed. Each line of standard input asks for one, and one line is printed for each: how many boxes
-//! were handled, how many were left open, and the least loss in mm². A line is
+//! Searches of the product, so that they can be timed. Each line of standard input asks for one, and one line is printed for each: how many
+//! boxes were handled, how many were left open, and the least loss in mm². A line is
 //!
-//!     WORD START ITEMS DEFECTS BUDGET
 //!     search START ITEMS DEFECTS BUDGET WORKERS
 //!     drafted START ITEMS DEFECTS BUDGET WORKERS
 //!
-//! The instance is drawn from the start, with so many items and defects, and at most BUDGET boxes are handled. The word `speed` asks for a search
-//! that probes nothing; `first` and `broken` for one from the first plan on, which splits boxes by `choose` and by `choose_at`; `search` for
-//! that of the product, by one to eight workers; and `drafted` for the same from the draft on, so that hardly any time goes by before it.
+//! The instance is drawn from the start, with so many items and defects, and at most BUDGET boxes are handled, by one to eight workers. The
+//! word `search` asks for a search from the first plan on, as the product goes, and `drafted` for one from the draft on, so that hardly any
+//! time goes by before it.
 #![tactic(auto)]
 
 mod count;
 mod product;
-mod searching;
 
 use crate::count::Count;
 use crate::product::{Beginning, search_by};
-use crate::searching::{Choice, search};
 use anyhow::{bail, ensure};
 use defect_map::DefectMap;
 use glass_base::Instance;
@@ -25,12 +22,11 @@ use std::alloc::Global;
 use std::sync::Wait;
 use std::thread::Threads;
 
-/// The choice with this word.
-fn choice_of(word: &str) -> anyhow::Result<Choice> {
+/// The beginning with this word.
+fn beginning_of(word: &str) -> anyhow::Result<Beginning> {
     match word {
-        "speed" => Ok(Choice::NoProbe),
-        "first" => Ok(Choice::First),
-        "broken" => Ok(Choice::Broken),
+        "search" => Ok(Beginning::FirstPlan),
+        "drafted" => Ok(Beginning::Draft),
         _ => bail!("{word} is no search"),
     }
 }
@@ -51,17 +47,7 @@ fn drawn(alloc: Global, start: u32, items: u32, defects: u32) -> anyhow::Result<
     Ok(generate(alloc, start, items, defects)?)
 }
 
-/// How a search by one worker goes, with this choice, from the start, the numbers of items and of defects, and the budget on.
-fn count_by_choice(alloc: Global, choice: Choice, numbers: &[u32]) -> anyhow::Result<Count> {
-    let [start, items, defects, budget] = numbers else {
-        bail!("a search has four numbers");
-    };
-    let instance = drawn(alloc, *start, *items, *defects)?;
-    let map = DefectMap::new(alloc, &instance)?;
-    search(alloc, &instance, &map, choice, *budget)
-}
-
-/// How the search of the product goes, with this beginning, from these numbers and that of the workers on.
+/// How a search goes, with this beginning, from these numbers and that of the workers on.
 fn count_by_workers<R: Threads + Wait + Sync>(
     rt: &R,
     alloc: Global,
@@ -69,7 +55,7 @@ fn count_by_workers<R: Threads + Wait + Sync>(
     numbers: &[u32],
 ) -> anyhow::Result<Count> {
     let [start, items, defects, budget, workers] = numbers else {
-        bail!("a search by workers has five numbers");
+        bail!("a search has five numbers");
     };
     ensure!(1 <= *workers && *workers <= 8, "1 to 8 workers search");
     ensure!(
@@ -85,11 +71,7 @@ fn count_by_workers<R: Threads + Wait + Sync>(
 fn count_of<R: Threads + Wait + Sync>(rt: &R, alloc: Global, line: &str) -> anyhow::Result<Count> {
     let (word, written) = line.split_once(' ').unwrap_or((line, ""));
     let numbers = numbers_of(alloc, written)?;
-    match word {
-        "search" => count_by_workers(rt, alloc, Beginning::FirstPlan, numbers.as_slice()),
-        "drafted" => count_by_workers(rt, alloc, Beginning::Draft, numbers.as_slice()),
-        _ => count_by_choice(alloc, choice_of(word)?, numbers.as_slice()),
-    }
+    count_by_workers(rt, alloc, beginning_of(word)?, numbers.as_slice())
 }
 
 fn main(rt: HostRuntime) -> anyhow::Result<()> {

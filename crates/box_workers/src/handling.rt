@@ -17,7 +17,7 @@ use crate::hand::{Hand, keep, prepare};
 use box_bound::{Leasts, bound_at, broken_at, choose_at, refuted_at};
 use cert_log::{Act, Cause, Note, trace_loss};
 use cut_model::Trace;
-use defect_map::DefectMap;
+use defect_map::{DefectMap, Ground};
 use glass_base::{Instance, Memory};
 use plan_box::{PlanBox, Var};
 use plan_trace::TraceBroken;
@@ -50,25 +50,23 @@ fn choose(leasts: &Leasts, bx: &PlanBox, broken: Option<TraceBroken>) -> (u32, V
 /// hand keeps it, and then its loss is announced. Else the first rule that it breaks comes back, if it breaks one.
 #[tactic(auto, using(crate::proofs::Probing::probe_long))]
 fn improve(
-    instance: &Instance,
-    map: &DefectMap,
+    ground: Ground<'_>,
     shared: &SharedBest,
     seat: &mut Seat,
     hand: &mut Hand,
     bx: &PlanBox,
 ) -> Option<TraceBroken>
-    requires map { map.now ≡ instance.now.defects }
-    requires frame { bx.now.frame ≡ frame_of instance.now }
-    requires leasts { IsFor instance.now bx.now hand.old.leasts }
-    requires scratch { length hand.old.scratch.steps.items ≡ length instance.now.items }
-    requires trace { CanKeep instance.now hand.old.plan hand.old.spare }
-    requires unrefuted { ¬ IsRefuted instance.now bx.now.ranges }
+    requires frame { bx.now.frame ≡ frame_of ground.instance.now }
+    requires leasts { IsFor ground.instance.now bx.now hand.old.leasts }
+    requires scratch { length hand.old.scratch.steps.items ≡ length ground.instance.now.items }
+    requires trace { CanKeep ground.instance.now hand.old.plan hand.old.spare }
+    requires unrefuted { ¬ IsRefuted ground.instance.now bx.now.ranges }
     requires seat { IsSeatOf shared.now seat.old }
     requires share { 0 < share seat.old.view }
     ensures seat { IsSeatOf shared.now seat.new }
-    ensures scratch { length hand.new.scratch.steps.items ≡ length instance.now.items }
+    ensures scratch { length hand.new.scratch.steps.items ≡ length ground.entry.instance.now.items }
     ensures same { (hand.new.leasts ≡ hand.old.leasts) × (hand.new.worker ≡ hand.old.worker) × (hand.new.log ≡ hand.old.log) × (hand.new.left ≡ hand.old.left) × (hand.new.spares ≡ hand.old.spares) }
-    ensures improves { (probed : ℕ) × Improves instance.now bx.now.ranges probed seat.old.view seat.new.view hand.old hand.new }
+    ensures improves { (probed : ℕ) × Improves ground.entry.instance.now bx.now.ranges probed seat.old.view seat.new.view hand.old hand.new }
 {
     // Read for its rules.
     let _frame = bx.frame();
@@ -76,14 +74,14 @@ fn improve(
     if !bx.is_decided() {
         return None;
     }
-    if let Some(broken) = broken_at(instance, map, &hand.leasts, bx, &mut hand.scratch) {
+    if let Some(broken) = broken_at(ground, &hand.leasts, bx, &mut hand.scratch) {
         return Some(broken);
     }
-    let loss = trace_loss(instance, &hand.scratch);
+    let loss = trace_loss(ground.instance, &hand.scratch);
     if loss >= best {
         return None;
     }
-    keep(hand, loss, instance);
+    keep(hand, loss, ground.instance);
     shared.lower(seat, loss);
     None
 }
@@ -111,40 +109,38 @@ fn closing_cause(bound: u64, floor: u64, loss: u64) -> Option<Cause>
 /// What is to be done with a box, by what is seen and probed now. It is closed for the first reason by which it is refuted; else, after
 /// its probe, by its bound, or by the floor, where that reaches the lesser of what was seen and the hand's loss; else it is split.
 fn decide(
-    instance: &Instance,
-    map: &DefectMap,
+    ground: Ground<'_>,
     shared: &SharedBest,
     seat: &mut Seat,
     hand: &mut Hand,
     bx: &PlanBox,
 ) -> Act
-    requires map { map.now ≡ instance.now.defects }
-    requires frame { bx.now.frame ≡ frame_of instance.now }
-    requires leasts { IsOf instance.now hand.old.leasts }
-    requires scratch { length hand.old.scratch.steps.items ≡ length instance.now.items }
-    requires trace { CanKeep instance.now hand.old.plan hand.old.spare }
+    requires frame { bx.now.frame ≡ frame_of ground.instance.now }
+    requires leasts { IsOf ground.instance.now hand.old.leasts }
+    requires scratch { length hand.old.scratch.steps.items ≡ length ground.instance.now.items }
+    requires trace { CanKeep ground.instance.now hand.old.plan hand.old.spare }
     requires seat { IsSeatOf shared.now seat.old }
     requires share { 0 < share seat.old.view }
     ensures seat { IsSeatOf shared.now seat.new }
-    ensures scratch { length hand.new.scratch.steps.items ≡ length instance.now.items }
-    ensures leasts { IsOf instance.now hand.new.leasts }
-    ensures decides { (seen : ℕ) × (probed : ℕ) × Decides instance.now shared.now bx.now seat.old seat.new hand.old hand.new seen probed result }
+    ensures scratch { length hand.new.scratch.steps.items ≡ length ground.entry.instance.now.items }
+    ensures leasts { IsOf ground.entry.instance.now hand.new.leasts }
+    ensures decides { (seen : ℕ) × (probed : ℕ) × Decides ground.entry.instance.now shared.now bx.now seat.old seat.new hand.old hand.new seen probed result }
 {
     // Read for their rules, and the last for its range.
     let _frame = bx.frame();
-    let _params = instance.params();
+    let _params = ground.instance.params();
     let _before = hand.loss;
     let seen = shared.look(seat);
-    hand.leasts.fill(instance, bx);
-    if let Some(reason) = refuted_at(instance, map, &hand.leasts, bx) {
+    hand.leasts.fill(ground.instance, bx);
+    if let Some(reason) = refuted_at(ground.instance, ground.map, &hand.leasts, bx) {
         return Act::Closed {
             threshold: seen,
             cause: Cause::Reason(reason),
         };
     }
-    let broken = improve(instance, map, shared, seat, hand, bx);
+    let broken = improve(ground, shared, seat, hand, bx);
     let threshold = seen.min(hand.loss);
-    let bound = bound_at(instance, &hand.leasts, bx);
+    let bound = bound_at(ground.instance, &hand.leasts, bx);
     if let Some(cause) = closing_cause(bound, shared.floor(), threshold) {
         return Act::Closed { threshold, cause };
     }
@@ -222,6 +218,6 @@ pub fn handle(
     if ticket >= shared.budget() {
         return Ok(Done::Spent(bx));
     }
-    let act = decide(instance, map, shared, seat, hand, &bx);
+    let act = decide(Ground { instance, map }, shared, seat, hand, &bx);
     Ok(carry_out(alloc, instance, hand, starts, ticket, bx, act))
 }

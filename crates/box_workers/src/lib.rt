@@ -3,6 +3,7 @@
 
 mod collecting;
 mod dealing;
+mod desk;
 mod draining;
 mod enlisting;
 pub mod gate;
@@ -20,6 +21,7 @@ mod spares;
 mod spreading;
 pub mod starting;
 mod teaming;
+mod turning;
 pub mod watching;
 pub mod working;
 

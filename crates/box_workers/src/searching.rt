@@ -13,6 +13,7 @@ ghost use Rattle.box_workers.specs.inner.Hands.{IsFresh};
 ghost use Rattle.box_workers.specs.inner.Teamwork.{HaveBounds};
 ghost use Rattle.box_workers.specs.inner.Searched.{HasSearched, Finishes};
 
+use crate::desk::Desk;
 use crate::gate::Gate;
 use crate::hand::Hand;
 use crate::poster::{NoPoster, Poster};
@@ -21,7 +22,7 @@ use crate::spreading::spread;
 use box_bound::{Leasts, bound_at};
 use cert_log::{History, Left, trace_loss};
 use cut_model::Trace;
-use defect_map::DefectMap;
+use defect_map::{DefectMap, Ground};
 use glass_base::{Instance, Memory, Run, append};
 use plan_box::PlanBox;
 use shared_best::{Seat, SharedBest};
@@ -178,86 +179,67 @@ fn finish(
 /// hand. The boxes that wait then come back.
 fn handle_all<R: Threads + Wait + Sync, G: Gate + Sync, Q: Poster + Copy + Drop + Sync>(
     rt: &R,
-    alloc: Global,
-    instance: &Instance,
-    map: &DefectMap,
+    desk: &Desk<'_, G>,
     start: Run<PlanBox>,
     workers: u32,
-    shared: &SharedBest,
     seat: &mut Seat,
     hand: &mut Hand,
-    gate: &G,
     poster: &Q,
 ) -> Result<Run<PlanBox>, Memory>
-    requires map { map.now ≡ instance.now.defects }
-    requires starts { length start.items ≤ 160000000 }
-    requires frames { All (λ (x : PlainBox). x.frame ≡ frame_of instance.now) start.items }
+    requires starts { desk.now.starts ≡ length start.items }
+    requires frames { All (λ (x : PlainBox). x.frame ≡ frame_of desk.now.ground.instance.now) start.items }
     requires workers { (1 ≤ workers) × (workers ≤ 8) }
-    requires budget { shared.now.budget ≤ 10000000 }
-    requires seat { IsSeatOf shared.now seat.old }
-    requires newcomer { seat.old.view ≡ newcomer shared.now.first }
-    requires hand { IsFresh instance.now hand.old × (hand.old.left.items ≡ []) }
-    ensures { IfOk result (λ boxes. HasSearched instance.now shared.now (length start.items) start.items workers seat.old seat.new hand.old hand.new boxes.items) }
+    requires seat { IsSeatOf desk.now.shared.now seat.old }
+    requires newcomer { seat.old.view ≡ newcomer desk.now.shared.now.first }
+    requires hand { IsFresh desk.now.ground.instance.now hand.old × (hand.old.left.items ≡ []) }
+    ensures { IfOk result (λ boxes. HasSearched desk.now.ground.instance.now desk.now.shared.now (length start.items) start.items workers seat.old seat.new hand.old hand.new boxes.items) }
 {
     let mut own = *poster;
-    let starts = start.len() as u64;
-    let mut waiting = spread(
-        rt, alloc, instance, map, start, workers, shared, seat, hand, gate, poster,
-    )?;
-    run(
-        alloc,
-        instance,
-        map,
-        shared,
-        seat,
-        hand,
-        starts,
-        &mut waiting,
-        gate,
-        &mut own,
-    )?;
+    let mut waiting = spread(rt, desk, start, workers, seat, hand, poster)?;
+    run(desk, seat, hand, &mut waiting, &mut own)?;
     Ok(waiting)
 }
 
 /// The search, in which each worker tells a copy of this poster of its plans, and so does the caller.
 pub(crate) fn search_with<R: Threads + Wait + Sync, G: Gate + Sync, Q: Poster + Copy + Drop + Sync>(
     rt: &R,
-    alloc: Global,
-    instance: &Instance,
-    map: &DefectMap,
+    desk: &Desk<'_, G>,
     start: Run<PlanBox>,
     first: Option<Trace>,
     workers: u32,
-    shared: &SharedBest,
     seat: &mut Seat,
-    gate: &G,
     poster: &Q,
 ) -> Result<History, Memory>
-    requires map { map.now ≡ instance.now.defects }
-    requires starts { (1 ≤ length start.items) × (length start.items ≤ 160000000) }
+    requires some { 1 ≤ length start.items }
+    requires count { desk.now.starts ≡ length start.items }
     requires ids { numbered 0 start.items }
-    requires frames { All (λ (x : PlainBox). x.frame ≡ frame_of instance.now) start.items }
-    requires first { IsFirst instance.now first }
+    requires frames { All (λ (x : PlainBox). x.frame ≡ frame_of desk.now.ground.instance.now) start.items }
+    requires first { IsFirst desk.now.ground.instance.now first }
     requires workers { (1 ≤ workers) × (workers ≤ 8) }
-    requires loss { shared.now.first ≡ first_loss instance.now first }
-    requires budget { (1 ≤ shared.now.budget) × (shared.now.budget ≤ 10000000) }
-    requires seat { IsSeatOf shared.now seat.old }
-    requires newcomer { seat.old.view ≡ newcomer shared.now.first }
-    requires floor { IsFloor instance.now shared.now.floor }
-    ensures lawful { IfOk result (λ h. IsLawful instance.now (course_of start.items shared.now) h) }
-    ensures seat { OnOk result (IsSeatOf shared.now seat.new × IsWhole seat.new.view) }
-    ensures shows { IfOk result (λ h. Shows instance.now shared.now start.items workers seat.new.view h) }
+    requires loss { desk.now.shared.now.first ≡ first_loss desk.now.ground.instance.now first }
+    requires budget { 1 ≤ desk.now.shared.now.budget }
+    requires seat { IsSeatOf desk.now.shared.now seat.old }
+    requires newcomer { seat.old.view ≡ newcomer desk.now.shared.now.first }
+    requires floor { IsFloor desk.now.ground.instance.now desk.now.shared.now.floor }
+    ensures lawful { IfOk result (λ h. IsLawful desk.now.ground.instance.now (course_of start.items desk.now.shared.now) h) }
+    ensures seat { OnOk result (IsSeatOf desk.now.shared.now seat.new × IsWhole seat.new.view) }
+    ensures shows { IfOk result (λ h. Shows desk.now.ground.instance.now desk.now.shared.now start.items workers seat.new.view h) }
 {
     // Read for its rules.
-    let _params = instance.params();
-    let starts = start.len() as u64;
-    let mut hand = Hand::new(alloc, instance, 0)?;
-    let waiting = handle_all(
-        rt, alloc, instance, map, start, workers, shared, seat, &mut hand, gate, poster,
-    )?;
-    settle(shared, seat);
-    let floor = shared.floor();
-    finish(alloc, instance, starts, floor, hand, waiting, first)
+    let _params = desk.ground.instance.params();
+    let mut hand = Hand::new(desk.alloc, desk.ground.instance, 0)?;
+    let waiting = handle_all(rt, desk, start, workers, seat, &mut hand, poster)?;
+    settle(desk.shared, seat);
+    let floor = desk.shared.floor();
+    finish(
+        desk.alloc,
+        desk.ground.instance,
+        desk.starts,
+        floor,
+        hand,
+        waiting,
+        first,
+    )
 }
 
 /// Handles boxes, from the start boxes on, until none is left or the budget is spent; the boxes that then wait are left open.
@@ -269,17 +251,17 @@ pub(crate) fn search_with<R: Threads + Wait + Sync, G: Gate + Sync, Q: Poster + 
 /// rests. The caller handles what they leave. One worker alone is the caller, with the number 0. Where the words have a floor, boxes are closed for it.
 ///
 /// Only want of memory is refused. It may wait for another thread, which is at the same deque.
-pub fn search<R: Threads + Wait + Sync, G: Gate + Sync>(
+pub fn search<'d, R: Threads + Wait + Sync, G: Gate + Sync>(
     rt: &R,
     alloc: Global,
-    instance: &Instance,
-    map: &DefectMap,
+    instance: &'d Instance,
+    map: &'d DefectMap,
     start: Run<PlanBox>,
     first: Option<Trace>,
     workers: u32,
-    shared: &SharedBest,
+    shared: &'d SharedBest,
     seat: &mut Seat,
-    gate: &G,
+    gate: &'d G,
 ) -> Result<History, Memory>
     requires map { map.now ≡ instance.now.defects }
     requires starts { (1 ≤ length start.items) × (length start.items ≤ 160000000) }
@@ -296,7 +278,12 @@ pub fn search<R: Threads + Wait + Sync, G: Gate + Sync>(
     ensures seat { OnOk result (IsSeatOf shared.now seat.new × IsWhole seat.new.view) }
     ensures shows { IfOk result (λ h. Shows instance.now shared.now start.items workers seat.new.view h) }
 {
-    search_with(
-        rt, alloc, instance, map, start, first, workers, shared, seat, gate, &NoPoster,
-    )
+    let desk = Desk {
+        alloc,
+        ground: Ground { instance, map },
+        shared,
+        starts: start.len() as u64,
+        gate,
+    };
+    search_with(rt, &desk, start, first, workers, seat, &NoPoster)
 }

@@ -17,6 +17,7 @@ ghost use Rattle.box_workers.specs.inner.Teamwork.{IsTeamwork, Collects, HasBegu
 
 use crate::collecting::collect;
 use crate::dealing::deal;
+use crate::desk::Desk;
 use crate::draining::drain_all;
 use crate::enlisting::enlist;
 use crate::gate::Gate;
@@ -25,7 +26,6 @@ use crate::member::Member;
 use crate::poster::Poster;
 use crate::teaming::work_all;
 use box_ring::{gather, ring};
-use defect_map::DefectMap;
 use glass_base::{Instance, Memory, Run};
 use plan_box::{Frame, PlanBox};
 use shared_best::{Seat, SharedBest};
@@ -89,65 +89,57 @@ fn wind_up(
 /// and the boxes that are left come back.
 fn work_together<R: Threads + Wait + Sync, G: Gate + Sync, Q: Poster + Copy + Drop + Sync>(
     rt: &R,
-    alloc: Global,
-    instance: &Instance,
-    map: &DefectMap,
+    desk: &Desk<'_, G>,
     start: Run<PlanBox>,
     workers: u32,
-    shared: &SharedBest,
     seat: &mut Seat,
     hand: &mut Hand,
-    gate: &G,
     poster: &Q,
 ) -> Result<Run<PlanBox>, Memory>
-    requires map { map.now ≡ instance.now.defects }
-    requires starts { length start.items ≤ 160000000 }
-    requires frames { All (λ (x : PlainBox). x.frame ≡ frame_of instance.now) start.items }
+    requires starts { desk.now.starts ≡ length start.items }
+    requires frames { All (λ (x : PlainBox). x.frame ≡ frame_of desk.now.ground.instance.now) start.items }
     requires workers { (2 ≤ workers) × (workers ≤ 8) }
-    requires budget { shared.now.budget ≤ 10000000 }
-    requires seat { IsSeatOf shared.now seat.old }
-    requires newcomer { seat.old.view ≡ newcomer shared.now.first }
-    requires hand { IsFresh instance.now hand.old × (hand.old.left.items ≡ []) }
-    ensures seat { OnOk result (IsSeatOf shared.now seat.new) }
+    requires seat { IsSeatOf desk.now.shared.now seat.old }
+    requires newcomer { seat.old.view ≡ newcomer desk.now.shared.now.first }
+    requires hand { IsFresh desk.now.ground.instance.now hand.old × (hand.old.left.items ≡ []) }
+    ensures seat { OnOk result (IsSeatOf desk.now.shared.now seat.new) }
     ensures hand { OnOk result ((hand.new.scratch ≡ hand.old.scratch) × (hand.new.leasts ≡ hand.old.leasts)) }
-    ensures frames { IfOk result (λ boxes. All (λ (x : PlainBox). x.frame ≡ frame_of instance.now) boxes.items) }
-    ensures begun { IfOk result (λ boxes. HasBegun instance.now shared.now (length start.items) start.items workers seat.old seat.new hand.old hand.new boxes.items) }
+    ensures frames { IfOk result (λ boxes. All (λ (x : PlainBox). x.frame ≡ frame_of desk.now.ground.instance.now) boxes.items) }
+    ensures begun { IfOk result (λ boxes. HasBegun desk.now.ground.instance.now desk.now.shared.now (length start.items) start.items workers seat.old seat.new hand.old hand.new boxes.items) }
 {
-    let starts = start.len() as u64;
-    let members = set_up(alloc, instance, start, workers, shared, seat)?;
-    let members = work_all(
-        rt, alloc, instance, map, shared, starts, gate, poster, members,
-    );
-    wind_up(alloc, shared, seat, hand, members)
+    let members = set_up(
+        desk.alloc,
+        desk.ground.instance,
+        start,
+        workers,
+        desk.shared,
+        seat,
+    )?;
+    let members = work_all(rt, desk, poster, members);
+    wind_up(desk.alloc, desk.shared, seat, hand, members)
 }
 
 /// The boxes that are left for the caller, who holds this seat and this hand: all start boxes, where there is to be no other worker; else
 /// those that are left once several workers have handled boxes. What they did is then in the seat and the hand.
 pub(crate) fn spread<R: Threads + Wait + Sync, G: Gate + Sync, Q: Poster + Copy + Drop + Sync>(
     rt: &R,
-    alloc: Global,
-    instance: &Instance,
-    map: &DefectMap,
+    desk: &Desk<'_, G>,
     start: Run<PlanBox>,
     workers: u32,
-    shared: &SharedBest,
     seat: &mut Seat,
     hand: &mut Hand,
-    gate: &G,
     poster: &Q,
 ) -> Result<Run<PlanBox>, Memory>
-    requires map { map.now ≡ instance.now.defects }
-    requires starts { length start.items ≤ 160000000 }
-    requires frames { All (λ (x : PlainBox). x.frame ≡ frame_of instance.now) start.items }
+    requires starts { desk.now.starts ≡ length start.items }
+    requires frames { All (λ (x : PlainBox). x.frame ≡ frame_of desk.now.ground.instance.now) start.items }
     requires workers { (1 ≤ workers) × (workers ≤ 8) }
-    requires budget { shared.now.budget ≤ 10000000 }
-    requires seat { IsSeatOf shared.now seat.old }
-    requires newcomer { seat.old.view ≡ newcomer shared.now.first }
-    requires hand { IsFresh instance.now hand.old × (hand.old.left.items ≡ []) }
-    ensures seat { OnOk result (IsSeatOf shared.now seat.new) }
+    requires seat { IsSeatOf desk.now.shared.now seat.old }
+    requires newcomer { seat.old.view ≡ newcomer desk.now.shared.now.first }
+    requires hand { IsFresh desk.now.ground.instance.now hand.old × (hand.old.left.items ≡ []) }
+    ensures seat { OnOk result (IsSeatOf desk.now.shared.now seat.new) }
     ensures hand { OnOk result ((hand.new.scratch ≡ hand.old.scratch) × (hand.new.leasts ≡ hand.old.leasts)) }
-    ensures frames { IfOk result (λ boxes. All (λ (x : PlainBox). x.frame ≡ frame_of instance.now) boxes.items) }
-    ensures begun { IfOk result (λ boxes. HasBegun instance.now shared.now (length start.items) start.items workers seat.old seat.new hand.old hand.new boxes.items) }
+    ensures frames { IfOk result (λ boxes. All (λ (x : PlainBox). x.frame ≡ frame_of desk.now.ground.instance.now) boxes.items) }
+    ensures begun { IfOk result (λ boxes. HasBegun desk.now.ground.instance.now desk.now.shared.now (length start.items) start.items workers seat.old seat.new hand.old hand.new boxes.items) }
 {
     if workers == 1 {
         // The box that waits last is handled first: so the start boxes are handled in their order.
@@ -155,7 +147,5 @@ pub(crate) fn spread<R: Threads + Wait + Sync, G: Gate + Sync, Q: Poster + Copy 
         waiting.reverse();
         return Ok(waiting);
     }
-    work_together(
-        rt, alloc, instance, map, start, workers, shared, seat, hand, gate, poster,
-    )
+    work_together(rt, desk, start, workers, seat, hand, poster)
 }

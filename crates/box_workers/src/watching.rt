@@ -12,6 +12,7 @@ ghost use Rattle.best_board.specs.Settles.{IsNoWorse};
 ghost use Rattle.box_workers.specs.Runs.{IsFirst, first_loss as first_loss_of, Shows, course_of};
 ghost use Rattle.box_workers.specs.Watched.{AreOfSearch, steps_of};
 
+use crate::desk::Desk;
 use crate::gate::Gate;
 use crate::poster::BoardPoster;
 use crate::searching::search_with;
@@ -19,7 +20,7 @@ use crate::starting::first_loss;
 use best_board::{Board, Entries, Entry, copy_trace, settle};
 use cert_log::History;
 use cut_model::Trace;
-use defect_map::DefectMap;
+use defect_map::{DefectMap, Ground};
 use glass_base::{Instance, Memory, Run};
 use plan_box::PlanBox;
 use shared_best::{Seat, SharedBest};
@@ -40,24 +41,22 @@ fn copy_plan(alloc: Global, plan: &Option<Trace>) -> Result<Option<Trace>, Memor
 /// The improvements of a search that this history tells of, from its first plan on, by what a board kept of it.
 fn improvements(
     alloc: Global,
-    instance: &Instance,
-    map: &DefectMap,
+    ground: Ground<'_>,
     first: &Option<Trace>,
     entries: &Entries,
     history: &History,
 ) -> Result<Run<Entry>, Memory>
-    requires map { map.now ≡ instance.now.defects }
-    requires first { IfSome (steps_of first.now) (IsComplete instance.now) }
-    requires best { IsBest instance.now history.now.best history.now.plan }
-    requires no_worse { IsNoWorse instance.now (steps_of first.now) (steps_of history.now.plan) }
-    ensures { IfOk result (λ list. AreOfSearch instance.now (steps_of first.now) history.now (found_in list.items)) }
+    requires first { IfSome (steps_of first.now) (IsComplete ground.instance.now) }
+    requires best { IsBest ground.instance.now history.now.best history.now.plan }
+    requires no_worse { IsNoWorse ground.instance.now (steps_of first.now) (steps_of history.now.plan) }
+    ensures { IfOk result (λ list. AreOfSearch ground.entry.instance.now (steps_of first.now) history.now (found_in list.items)) }
 {
     // Read for its range.
     let _best = history.best;
     settle(
         alloc,
-        instance,
-        map,
+        ground.instance,
+        ground.map,
         first.as_ref(),
         entries,
         history.plan.as_ref(),
@@ -67,41 +66,37 @@ fn improvements(
 /// A history, and the improvements that it tells of, from its first plan on, by what a board kept of them.
 fn with_improvements(
     alloc: Global,
-    instance: &Instance,
-    map: &DefectMap,
+    ground: Ground<'_>,
     first: &Option<Trace>,
     entries: &Entries,
     history: History,
 ) -> Result<(History, Run<Entry>), Memory>
-    requires map { map.now ≡ instance.now.defects }
-    requires first { IfSome (steps_of first.now) (IsComplete instance.now) }
-    requires best { IsBest instance.now history.best history.plan }
-    requires no_worse { IsNoWorse instance.now (steps_of first.now) (steps_of history.plan) }
+    requires first { IfSome (steps_of first.now) (IsComplete ground.instance.now) }
+    requires best { IsBest ground.instance.now history.best history.plan }
+    requires no_worse { IsNoWorse ground.instance.now (steps_of first.now) (steps_of history.plan) }
     ensures history { IfOk result (λ r. r.0 ≡ history) }
-    ensures improvements { IfOk result (λ r. AreOfSearch instance.now (steps_of first.now) r.0 (found_in r.1.items)) }
+    ensures improvements { IfOk result (λ r. AreOfSearch ground.entry.instance.now (steps_of first.now) r.0 (found_in r.1.items)) }
 {
-    let list = improvements(alloc, instance, map, first, entries, &history)?;
+    let list = improvements(alloc, ground, first, entries, &history)?;
     Ok((history, list))
 }
 
 /// The board is closed, and its history is told with its improvements, from its first plan on.
 fn tell(
     alloc: Global,
-    instance: &Instance,
-    map: &DefectMap,
+    ground: Ground<'_>,
     first: &Option<Trace>,
     board: Board,
     history: History,
 ) -> Result<(History, Run<Entry>), Memory>
-    requires map { map.now ≡ instance.now.defects }
-    requires first { IfSome (steps_of first.now) (IsComplete instance.now) }
-    requires best { IsBest instance.now history.best history.plan }
-    requires no_worse { IsNoWorse instance.now (steps_of first.now) (steps_of history.plan) }
+    requires first { IfSome (steps_of first.now) (IsComplete ground.instance.now) }
+    requires best { IsBest ground.instance.now history.best history.plan }
+    requires no_worse { IsNoWorse ground.instance.now (steps_of first.now) (steps_of history.plan) }
     ensures history { IfOk result (λ r. r.0 ≡ history) }
-    ensures improvements { IfOk result (λ r. AreOfSearch instance.now (steps_of first.now) r.0 (found_in r.1.items)) }
+    ensures improvements { IfOk result (λ r. AreOfSearch ground.entry.instance.now (steps_of first.now) r.0 (found_in r.1.items)) }
 {
     let entries = board.close();
-    with_improvements(alloc, instance, map, first, &entries, history)
+    with_improvements(alloc, ground, first, &entries, history)
 }
 
 /// Does what `search` does, and has its workers post each plan that they find to one board. Gives the history, and the improvements: the
@@ -113,17 +108,17 @@ fn tell(
 /// plan; there are none where no plan was found.
 ///
 /// Only want of memory is refused. It may wait for another thread, which is at the same deque or at the board.
-pub fn search_watched<R: Threads + Wait + Sync, G: Gate + Sync>(
+pub fn search_watched<'d, R: Threads + Wait + Sync, G: Gate + Sync>(
     rt: &R,
     alloc: Global,
-    instance: &Instance,
-    map: &DefectMap,
+    instance: &'d Instance,
+    map: &'d DefectMap,
     start: Run<PlanBox>,
     first: Option<Trace>,
     workers: u32,
-    shared: &SharedBest,
+    shared: &'d SharedBest,
     seat: &mut Seat,
-    gate: &G,
+    gate: &'d G,
 ) -> Result<(History, Run<Entry>), Memory>
     requires map { map.now ≡ instance.now.defects }
     requires starts { (1 ≤ length start.items) × (length start.items ≤ 160000000) }
@@ -143,11 +138,17 @@ pub fn search_watched<R: Threads + Wait + Sync, G: Gate + Sync>(
 {
     // Read for its range.
     let _loss = first_loss(instance, &first);
+    let ground = Ground { instance, map };
+    let desk = Desk {
+        alloc,
+        ground,
+        shared,
+        starts: start.len() as u64,
+        gate,
+    };
     let begun = copy_plan(alloc, &first)?;
     let board = Board::new(Entries::new(alloc, instance)?);
     let poster = BoardPoster { board: &board, rt };
-    let history = search_with(
-        rt, alloc, instance, map, start, first, workers, shared, seat, gate, &poster,
-    )?;
-    tell(alloc, instance, map, &begun, board, history)
+    let history = search_with(rt, &desk, start, first, workers, seat, &poster)?;
+    tell(alloc, ground, &begun, board, history)
 }

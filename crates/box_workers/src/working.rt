@@ -9,15 +9,16 @@ ghost use Rattle.shared_best.specs.Seats.{IsSeatOf};
 ghost use Rattle.box_workers.specs.Works.{BrokeOff, Works};
 ghost use Rattle.box_workers.specs.inner.Rounds.{BreaksOff, Leaves, Moves, Stops, Turns};
 
+use crate::desk::Desk;
 use crate::gate::Gate;
 use crate::hand::Hand;
-use crate::handling::{Done, handle};
+use crate::handling::Done;
 use crate::poster::Poster;
-use crate::posting::post_better;
+use crate::turning::turn;
 use box_bound::bound_at;
 use box_ring::Arm;
 use cert_log::Left;
-use defect_map::DefectMap;
+use defect_map::{DefectMap, Ground};
 use glass_base::{Instance, Memory};
 use plan_box::PlanBox;
 use shared_best::{Seat, SharedBest};
@@ -124,57 +125,83 @@ fn leave_open(instance: &Instance, hand: &mut Hand, bx: PlanBox)
     hand.left.put(Left { bx, bound });
 }
 
-/// Handles a box, and puts its halves to the boxes at hand; where the hand's plan became better the poster is told. Where the budget is
-/// spent the box is left open; that is told by `false`.
-fn turn<G: Gate, Q: Poster>(
-    alloc: Global,
-    instance: &Instance,
-    map: &DefectMap,
-    shared: &SharedBest,
+/// Handles a box, and puts its halves to the boxes at hand. Where the budget is spent the box is left open; that is told by `false`.
+fn handle_at_hand<G: Gate, Q: Poster>(
+    desk: &Desk<'_, G>,
     seat: &mut Seat,
     hand: &mut Hand,
-    starts: u64,
     at_hand: &mut VecDeque<PlanBox>,
     bx: PlanBox,
-    gate: &G,
     poster: &mut Q,
 ) -> Result<bool, Memory>
-    requires map { map.now ≡ instance.now.defects }
-    requires frame { bx.frame ≡ frame_of instance.now }
-    requires frames { All (λ (x : PlainBox). x.frame ≡ frame_of instance.now) at_hand.old.items }
-    requires leasts { IsOf instance.now hand.old.leasts }
-    requires scratch { length hand.old.scratch.steps.items ≡ length instance.now.items }
+    requires frame { bx.frame ≡ frame_of desk.now.ground.instance.now }
+    requires frames { All (λ (x : PlainBox). x.frame ≡ frame_of desk.now.ground.instance.now) at_hand.old.items }
+    requires leasts { IsOf desk.now.ground.instance.now hand.old.leasts }
+    requires scratch { length hand.old.scratch.steps.items ≡ length desk.now.ground.instance.now.items }
     requires room { 1 ≤ hand.old.left.spare }
-    requires limits { (starts ≤ 160000000) × (shared.now.budget ≤ 10000000) }
-    requires seat { IsSeatOf shared.now seat.old }
+    requires seat { IsSeatOf desk.now.shared.now seat.old }
     requires allowance { 1 ≤ seat.old.view.allowance }
-    ensures seat { IsSeatOf shared.now seat.new }
-    ensures scratch { length hand.new.scratch.steps.items ≡ length instance.now.items }
-    ensures leasts { IsOf instance.now hand.new.leasts }
-    ensures frames { OnOk result (All (λ (x : PlainBox). x.frame ≡ frame_of instance.now) at_hand.new.items) }
-    ensures turns { IfOk result (λ more. MatchBool more (Turns instance.now shared.now starts bx seat.old seat.new hand.old hand.new at_hand.old.items at_hand.new.items) (Stops instance.now shared.now bx seat.old seat.new hand.old hand.new × (at_hand.new.items ≡ at_hand.old.items))) }
-    ensures lost { OnErr result (BreaksOff instance.now shared.now bx seat.old seat.new hand.old hand.new) }
+    ensures seat { IsSeatOf desk.now.shared.now seat.new }
+    ensures scratch { length hand.new.scratch.steps.items ≡ length desk.now.ground.instance.now.items }
+    ensures leasts { IsOf desk.now.ground.instance.now hand.new.leasts }
+    ensures frames { OnOk result (All (λ (x : PlainBox). x.frame ≡ frame_of desk.now.ground.instance.now) at_hand.new.items) }
+    ensures turns { let b = desk.now.ground.instance.now in IfOk result (λ more. MatchBool more (Turns b desk.now.shared.now desk.now.starts bx seat.old seat.new hand.old hand.new at_hand.old.items at_hand.new.items) (Stops b desk.now.shared.now bx seat.old seat.new hand.old hand.new × (at_hand.new.items ≡ at_hand.old.items))) }
+    ensures lost { OnErr result (BreaksOff desk.now.ground.instance.now desk.now.shared.now bx seat.old seat.new hand.old hand.new) }
 {
     at_hand.reserve(2)?;
-    gate.pass(hand.worker, bx.id());
-    gate.sees(hand.loss);
-    let before = hand.loss;
-    match handle(alloc, instance, map, shared, seat, hand, starts, bx) {
-        Ok(Done::Closed) => {
-            post_better(hand, before, poster)?;
-            Ok(true)
-        }
-        Ok(Done::Split(lower, upper)) => {
+    match turn(desk, seat, hand, bx, poster)? {
+        Done::Closed => Ok(true),
+        Done::Split(lower, upper) => {
             put_halves(at_hand, lower, upper);
-            post_better(hand, before, poster)?;
             Ok(true)
         }
-        Ok(Done::Spent(bx)) => {
-            leave_open(instance, hand, bx);
+        Done::Spent(bx) => {
+            leave_open(desk.ground.instance, hand, bx);
             Ok(false)
         }
-        Err((_, memory)) => Err(memory),
     }
+}
+
+/// `work`, at the desk that all workers share.
+pub(crate) fn work_at<R: Wait, G: Gate, Q: Poster>(
+    rt: &R,
+    desk: &Desk<'_, G>,
+    seat: &mut Seat,
+    hand: &mut Hand,
+    arm: &mut Arm,
+    poster: &mut Q,
+) -> Result<Rest, Memory>
+    requires ring { frame arm.old ≡ frame_of desk.now.ground.instance.now }
+    requires misses { arm.old.misses ≡ 0 }
+    requires leasts { IsOf desk.now.ground.instance.now hand.old.leasts }
+    requires scratch { length hand.old.scratch.steps.items ≡ length desk.now.ground.instance.now.items }
+    requires seat { IsSeatOf desk.now.shared.now seat.old }
+    requires allowance { desk.now.shared.now.budget < seat.old.view.allowance }
+    ensures seat { IsSeatOf desk.now.shared.now seat.new }
+    ensures scratch { length hand.new.scratch.steps.items ≡ length desk.now.ground.instance.now.items }
+    ensures leasts { IsOf desk.now.ground.instance.now hand.new.leasts }
+    ensures stays { Stays arm.old arm.new }
+    ensures lost { OnErr result (BrokeOff desk.now.ground.instance.now desk.now.shared.now seat.old seat.new hand.old hand.new) }
+    ensures works { IfOk result (λ rest. Works desk.now.ground.instance.now desk.now.shared.now desk.now.starts seat.old seat.new hand.old hand.new arm.old arm.new rest) }
+{
+    // Read for its range.
+    let _best = hand.loss;
+    hand.left.reserve(1)?;
+    let mut at_hand = VecDeque::new(desk.alloc);
+    while arm.misses() < IDLE_TURNS {
+        match find(rt, arm, &mut at_hand) {
+            None => desk.gate.idle(hand.worker),
+            Some(bx) => {
+                offer(arm, &mut at_hand)?;
+                if !handle_at_hand(desk, seat, hand, &mut at_hand, bx, poster)? {
+                    push_all(arm, at_hand)?;
+                    return Ok(Rest::Spent);
+                }
+            }
+        }
+    }
+    push_all(arm, at_hand)?;
+    Ok(Rest::Idle)
 }
 
 /// The work of one worker beside others, each with an arm of one ring and a seat of its own: it pops a box from its deque, or else steals
@@ -194,17 +221,17 @@ fn turn<G: Gate, Q: Poster>(
 ///
 /// Only want of memory is refused: seat, hand and arm are then as the turns up to then left them, but the boxes at hand may be lost. It may
 /// wait for another thread, which is at the same deque, and for what the poster waits for.
-pub fn work<R: Wait, G: Gate, Q: Poster>(
+pub fn work<'d, R: Wait, G: Gate, Q: Poster>(
     rt: &R,
     alloc: Global,
-    instance: &Instance,
-    map: &DefectMap,
-    shared: &SharedBest,
+    instance: &'d Instance,
+    map: &'d DefectMap,
+    shared: &'d SharedBest,
     seat: &mut Seat,
     hand: &mut Hand,
     starts: u64,
     arm: &mut Arm,
-    gate: &G,
+    gate: &'d G,
     poster: &mut Q,
 ) -> Result<Rest, Memory>
     requires map { map.now ≡ instance.now.defects }
@@ -222,34 +249,12 @@ pub fn work<R: Wait, G: Gate, Q: Poster>(
     ensures lost { OnErr result (BrokeOff instance.now shared.now seat.old seat.new hand.old hand.new) }
     ensures works { IfOk result (λ rest. Works instance.now shared.now starts seat.old seat.new hand.old hand.new arm.old arm.new rest) }
 {
-    // Read for its range.
-    let _best = hand.loss;
-    hand.left.reserve(1)?;
-    let mut at_hand = VecDeque::new(alloc);
-    while arm.misses() < IDLE_TURNS {
-        match find(rt, arm, &mut at_hand) {
-            None => gate.idle(hand.worker),
-            Some(bx) => {
-                offer(arm, &mut at_hand)?;
-                if !turn(
-                    alloc,
-                    instance,
-                    map,
-                    shared,
-                    seat,
-                    hand,
-                    starts,
-                    &mut at_hand,
-                    bx,
-                    gate,
-                    poster,
-                )? {
-                    push_all(arm, at_hand)?;
-                    return Ok(Rest::Spent);
-                }
-            }
-        }
-    }
-    push_all(arm, at_hand)?;
-    Ok(Rest::Idle)
+    let desk = Desk {
+        alloc,
+        ground: Ground { instance, map },
+        shared,
+        starts,
+        gate,
+    };
+    work_at(rt, &desk, seat, hand, arm, poster)
 }

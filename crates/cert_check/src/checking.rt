@@ -11,7 +11,7 @@ ghost use Rattle.cert_check.specs.inner.Walks.{Closes, JudgesFloor};
 use crate::verdict::{Verdict, Why};
 use crate::walk::{Tally, Walked, walk};
 use cert_log::Certificate;
-use defect_map::DefectMap;
+use defect_map::{DefectMap, Ground};
 use front_bound::losses::floor_up_to;
 use glass_base::{Instance, Memory};
 use std::alloc::Global;
@@ -69,7 +69,7 @@ pub fn check_cert(
             why: Why::WrongLoss(cert.loss, loss),
         });
     }
-    match walk(alloc, instance, map, loss, cert)? {
+    match walk(alloc, Ground { instance, map }, loss, cert)? {
         Walked::Fault(line, why) => Ok(Verdict::Refuse { line, why }),
         Walked::Whole(tally) => match judge_counts(cert, tally) {
             Some(why) => Ok(Verdict::Refuse { line: 1, why }),

@@ -10,7 +10,7 @@ ghost use Rattle.plan_box.specs.Facts.{CellMet, BandMet, StripMet};
 ghost use Rattle.plan_box.specs.Within.{AreWithin};
 
 use crate::steps::Decided;
-use defect_map::DefectMap;
+use defect_map::{DefectMap, Ground};
 use glass_base::{Instance, Params};
 use plan_trace::level::Level;
 
@@ -52,15 +52,19 @@ pub fn item_met(defects: &DefectMap, here: &Decided) -> bool
 }
 
 /// The sides of the strip.
-fn strip_met(instance: &Instance, defects: &DefectMap, here: &Decided) -> bool
-    ensures { IsTrue result ↔ StripMet instance.now defects.now (known_in here.now) }
+fn strip_met(ground: Ground<'_>, here: &Decided) -> bool
+    ensures { let b = ground.entry.instance.now in IsTrue result ↔ StripMet b b.defects (known_in here.now) }
 {
     let plate = here.plate();
-    let height = instance.params().height;
+    let height = ground.instance.params().height;
     let left = 1 <= here.least_a
-        && defects.crosses_x_all(plate, (here.least_a, here.high_a), 0, height);
-    left || (here.high_b < instance.width(plate)
-        && defects.crosses_x_all(plate, (here.least_b, here.high_b), 0, height))
+        && ground
+            .map
+            .crosses_x_all(plate, (here.least_a, here.high_a), 0, height);
+    left || (here.high_b < ground.instance.width(plate)
+        && ground
+            .map
+            .crosses_x_all(plate, (here.least_b, here.high_b), 0, height))
 }
 
 /// The sides of the band.
@@ -143,13 +147,12 @@ fn line_met(defects: &DefectMap, here: &Decided) -> bool
 }
 
 /// Whether a cut of the step runs through one defect at every place of its ranges.
-pub fn cut_met(instance: &Instance, defects: &DefectMap, here: &Decided) -> bool
-    requires defects { defects.now ≡ instance.now.defects }
+pub fn cut_met(ground: Ground<'_>, here: &Decided) -> bool
     requires within { AreWithin 40000000 (known_in here.now) }
-    ensures { (m : LevelOf) (j : Known) (later : List LevelOf) → IsTrue result ↔ StepR4 instance.now m j here.now.level (known_in here.now) later }
+    ensures { (m : LevelOf) (j : Known) (later : List LevelOf) → IsTrue result ↔ StepR4 ground.entry.instance.now m j here.now.level (known_in here.now) later }
 {
-    strip_met(instance, defects, here)
-        || band_met(instance.params(), defects, here)
-        || cell_met(defects, here)
-        || line_met(defects, here)
+    strip_met(ground, here)
+        || band_met(ground.instance.params(), ground.map, here)
+        || cell_met(ground.map, here)
+        || line_met(ground.map, here)
 }

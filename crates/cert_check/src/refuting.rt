@@ -21,31 +21,29 @@ use crate::meetings::{cut_met, item_met};
 use crate::numbers::{breaks_a_rule, has_no_place, is_too_wide};
 use crate::steps::Decided;
 use cut_model::Step;
-use defect_map::DefectMap;
+use defect_map::Ground;
 use glass_base::{Instance, Run};
 use plan_box::{Packed, Reason};
 use plan_trace::first_broken;
 
 /// Whether a reason is a fact at a decided step; `last` is the step before it, and `whole` holds where all steps are decided.
 fn is_fact_at(
-    instance: &Instance,
-    defects: &DefectMap,
+    ground: Ground<'_>,
     whole: bool,
     reason: Reason,
     last: &Decided,
     here: &Decided,
     later: &[Decided],
 ) -> bool
-    requires defects { defects.now ≡ instance.now.defects }
     requires within { AreWithin 40000000 (known_in here.now) }
-    ensures { IsTrue result ↔ FactOf instance.now whole reason last.now.level (known_in last.now) here.now.level (known_in here.now) (levels_in later.now) }
+    ensures { IsTrue result ↔ FactOf ground.entry.instance.now whole reason last.now.level (known_in last.now) here.now.level (known_in here.now) (levels_in later.now) }
 {
-    let params = instance.params();
+    let params = ground.instance.params();
     match reason {
         Reason::R1 => has_no_place(here),
-        Reason::R2 => has_narrow_gap(instance, whole, last, here, later),
-        Reason::R3 => item_met(defects, here),
-        Reason::R4 => cut_met(instance, defects, here),
+        Reason::R2 => has_narrow_gap(ground.instance, whole, last, here, later),
+        Reason::R3 => item_met(ground.map, here),
+        Reason::R4 => cut_met(ground, here),
         Reason::R5 => is_too_wide(params, here),
         Reason::R6 => breaks_a_rule(params, last, here),
         Reason::R7 => false,
@@ -53,28 +51,13 @@ fn is_fact_at(
 }
 
 /// Whether a reason is a fact at one of these decided steps.
-fn is_fact_at_some(
-    instance: &Instance,
-    defects: &DefectMap,
-    whole: bool,
-    reason: Reason,
-    steps: &[Decided],
-) -> bool
-    requires defects { defects.now ≡ instance.now.defects }
+fn is_fact_at_some(ground: Ground<'_>, whole: bool, reason: Reason, steps: &[Decided]) -> bool
     requires within { All (λ k. AreWithin 40000000 (known_in k)) steps.now }
-    ensures { IsTrue result ↔ SomeFixed (FactOf instance.now whole reason) NewPlate no_known (map fixed_of steps.now) }
+    ensures { IsTrue result ↔ SomeFixed (FactOf ground.entry.instance.now whole reason) NewPlate no_known (map fixed_of steps.now) }
 {
     let mut last = Decided::none();
     for (i, here) in steps.iter().enumerate() {
-        if is_fact_at(
-            instance,
-            defects,
-            whole,
-            reason,
-            &last,
-            here,
-            &steps[i + 1..],
-        ) {
+        if is_fact_at(ground, whole, reason, &last, here, &steps[i + 1..]) {
             return true;
         }
         last = *here;
@@ -83,34 +66,22 @@ fn is_fact_at_some(
 }
 
 /// The same of the box of these ranges, of which these are the decided steps.
-fn is_fact(
-    instance: &Instance,
-    defects: &DefectMap,
-    ranges: &[Packed],
-    steps: &[Decided],
-    reason: Reason,
-) -> bool
-    requires defects { defects.now ≡ instance.now.defects }
-    requires known { AreKnown instance.now (map unpacked ranges.now) steps.now }
-    ensures { let rs = map unpacked ranges.now in IsTrue result ↔ AtSome (FactOf instance.now (all_decided rs) reason) instance.now rs }
+fn is_fact(ground: Ground<'_>, ranges: &[Packed], steps: &[Decided], reason: Reason) -> bool
+    requires known { AreKnown ground.instance.now (map unpacked ranges.now) steps.now }
+    ensures { let b = ground.entry.instance.now in let rs = map unpacked ranges.now in IsTrue result ↔ AtSome (FactOf b (all_decided rs) reason) b rs }
 {
     let whole = steps.len() == ranges.len();
-    is_fact_at_some(instance, defects, whole, reason, steps)
+    is_fact_at_some(ground, whole, reason, steps)
 }
 
 /// Whether a cut can lie nowhere, or more glass is needed than there is.
-fn is_impossible(
-    instance: &Instance,
-    defects: &DefectMap,
-    ranges: &[Packed],
-    steps: &[Decided],
-) -> bool
-    requires defects { defects.now ≡ instance.now.defects }
-    requires known { AreKnown instance.now (map unpacked ranges.now) steps.now }
-    ensures { IsTrue result ↔ R1 instance.now (map unpacked ranges.now) }
+fn is_impossible(ground: Ground<'_>, ranges: &[Packed], steps: &[Decided]) -> bool
+    requires known { AreKnown ground.instance.now (map unpacked ranges.now) steps.now }
+    ensures { IsTrue result ↔ R1 ground.entry.instance.now (map unpacked ranges.now) }
 {
-    is_fact(instance, defects, ranges, steps, Reason::R1)
-        || instance.before(instance.params().plates) < least_length(instance, steps)
+    is_fact(ground, ranges, steps, Reason::R1)
+        || ground.instance.before(ground.instance.params().plates)
+            < least_length(ground.instance, steps)
 }
 
 /// The step that a decided step stands for at its least values.
@@ -143,63 +114,59 @@ fn write(steps: &[Decided], numbers: &mut Run<Step>)
 
 /// Whether the box is a point whose numbers break a rule. They are its least values, where each cut has a place.
 fn is_broken_point(
-    instance: &Instance,
-    defects: &DefectMap,
+    ground: Ground<'_>,
     ranges: &[Packed],
     steps: &[Decided],
     numbers: &mut Run<Step>,
 ) -> bool
-    requires defects { defects.now ≡ instance.now.defects }
-    requires known { AreKnown instance.now (map unpacked ranges.now) steps.now }
+    requires known { AreKnown ground.instance.now (map unpacked ranges.now) steps.now }
     requires inside { length steps.now ≤ length ranges.now }
     requires room { length ranges.now ≤ length numbers.old.items }
     requires few { length ranges.now ≤ 800 }
-    requires possible { ¬ R1 instance.now (map unpacked ranges.now) }
-    ensures broken { IsTrue result ↔ R7 instance.now (map unpacked ranges.now) }
+    requires possible { ¬ R1 ground.instance.now (map unpacked ranges.now) }
+    ensures broken { IsTrue result ↔ R7 ground.entry.instance.now (map unpacked ranges.now) }
     ensures room { length numbers.new.items ≡ length numbers.old.items }
 {
     if !is_point(ranges) {
         return false;
     }
     write(steps, numbers);
-    first_broken(instance, defects, &numbers.as_slice()[..steps.len()]).is_some()
+    first_broken(ground, &numbers.as_slice()[..steps.len()]).is_some()
 }
 
 /// The first reason that applies to the box of these ranges, of which these are the decided steps, if one does.
 fn first_of(
-    instance: &Instance,
-    defects: &DefectMap,
+    ground: Ground<'_>,
     ranges: &[Packed],
     steps: &[Decided],
     numbers: &mut Run<Step>,
 ) -> Option<Reason>
-    requires defects { defects.now ≡ instance.now.defects }
-    requires known { AreKnown instance.now (map unpacked ranges.now) steps.now }
+    requires known { AreKnown ground.instance.now (map unpacked ranges.now) steps.now }
     requires inside { length steps.now ≤ length ranges.now }
     requires room { length ranges.now ≤ length numbers.old.items }
     requires few { length ranges.now ≤ 800 }
-    ensures first { MatchOption result (¬ IsRefuted instance.now (map unpacked ranges.now)) (λ r. IsFirstReason instance.now (map unpacked ranges.now) r) }
+    ensures first { let b = ground.entry.instance.now in MatchOption result (¬ IsRefuted b (map unpacked ranges.now)) (λ r. IsFirstReason b (map unpacked ranges.now) r) }
     ensures room { length numbers.new.items ≡ length numbers.old.items }
 {
-    if is_impossible(instance, defects, ranges, steps) {
+    if is_impossible(ground, ranges, steps) {
         return Some(Reason::R1);
     }
-    if is_fact(instance, defects, ranges, steps, Reason::R2) {
+    if is_fact(ground, ranges, steps, Reason::R2) {
         return Some(Reason::R2);
     }
-    if is_fact(instance, defects, ranges, steps, Reason::R3) {
+    if is_fact(ground, ranges, steps, Reason::R3) {
         return Some(Reason::R3);
     }
-    if is_fact(instance, defects, ranges, steps, Reason::R4) {
+    if is_fact(ground, ranges, steps, Reason::R4) {
         return Some(Reason::R4);
     }
-    if is_fact(instance, defects, ranges, steps, Reason::R5) {
+    if is_fact(ground, ranges, steps, Reason::R5) {
         return Some(Reason::R5);
     }
-    if is_fact(instance, defects, ranges, steps, Reason::R6) {
+    if is_fact(ground, ranges, steps, Reason::R6) {
         return Some(Reason::R6);
     }
-    if is_broken_point(instance, defects, ranges, steps, numbers) {
+    if is_broken_point(ground, ranges, steps, numbers) {
         return Some(Reason::R7);
     }
     None
@@ -208,29 +175,21 @@ fn first_of(
 /// The first reason that applies to the box of these ranges, if one does. The decided steps are written over `steps`, and the numbers
 /// of a point over `numbers`.
 pub fn first_reason(
-    instance: &Instance,
-    defects: &DefectMap,
+    ground: Ground<'_>,
     ranges: &[Packed],
     steps: &mut Run<Decided>,
     taken: &mut Run<u32>,
     numbers: &mut Run<Step>,
 ) -> Option<Reason>
-    requires defects { defects.now ≡ instance.now.defects }
-    requires stored { AreStored (frame_of instance.now) ranges.now }
+    requires stored { AreStored (frame_of ground.instance.now) ranges.now }
     requires steps { length ranges.now ≤ length steps.old.items }
     requires taken { length taken.old.items ≡ 800 }
     requires numbers { length ranges.now ≤ length numbers.old.items }
-    ensures first { MatchOption result (¬ IsRefuted instance.now (map unpacked ranges.now)) (λ r. IsFirstReason instance.now (map unpacked ranges.now) r) }
+    ensures first { let b = ground.entry.instance.now in MatchOption result (¬ IsRefuted b (map unpacked ranges.now)) (λ r. IsFirstReason b (map unpacked ranges.now) r) }
     ensures steps { length steps.new.items ≡ length steps.old.items }
     ensures taken { length taken.new.items ≡ 800 }
     ensures numbers { length numbers.new.items ≡ length numbers.old.items }
 {
-    let count = fill(instance, ranges, steps, taken);
-    first_of(
-        instance,
-        defects,
-        ranges,
-        &steps.as_slice()[..count],
-        numbers,
-    )
+    let count = fill(ground.instance, ranges, steps, taken);
+    first_of(ground, ranges, &steps.as_slice()[..count], numbers)
 }

@@ -22,7 +22,7 @@ use crate::refuting::first_reason;
 use crate::scratch::Scratch;
 use crate::verdict::Why;
 use cert_log::{Cause, Certificate, Node};
-use defect_map::DefectMap;
+use defect_map::{DefectMap, Ground};
 use glass_base::{Instance, Memory};
 use plan_box::{Packed, Reason};
 use std::alloc::Global;
@@ -94,23 +94,20 @@ fn with_bound(loss: Option<u64>, bound: u64) -> Option<u64>
 
 /// Why a box may not be closed for this reason, if it may not.
 fn judge_reason(
-    instance: &Instance,
-    defects: &DefectMap,
+    ground: Ground<'_>,
     reason: Reason,
     ranges: &[Packed],
     scratch: &mut Scratch,
 ) -> Option<Why>
-    requires defects { defects.now ≡ instance.now.defects }
-    requires stored { AreStored (frame_of instance.now) ranges.now }
-    requires each_step { length ranges.now ≡ length instance.now.items }
-    requires room { HasRoom (length instance.now.items) scratch.old }
-    ensures judged { MatchOption result (IsFirstReason instance.now (map unpacked ranges.now) reason) (IsOtherReason instance.now (map unpacked ranges.now) reason) }
-    ensures room { HasRoom (length instance.now.items) scratch.new }
+    requires stored { AreStored (frame_of ground.instance.now) ranges.now }
+    requires each_step { length ranges.now ≡ length ground.instance.now.items }
+    requires room { HasRoom (length ground.instance.now.items) scratch.old }
+    ensures judged { let b = ground.entry.instance.now in MatchOption result (IsFirstReason b (map unpacked ranges.now) reason) (IsOtherReason b (map unpacked ranges.now) reason) }
+    ensures room { HasRoom (length ground.entry.instance.now.items) scratch.new }
 {
     let said = reason.number();
     match first_reason(
-        instance,
-        defects,
+        ground,
         ranges,
         &mut scratch.steps,
         &mut scratch.taken,
@@ -157,22 +154,15 @@ fn judge_bound(
 }
 
 /// Whether some reason applies to a box.
-fn is_refuted(
-    instance: &Instance,
-    defects: &DefectMap,
-    ranges: &[Packed],
-    scratch: &mut Scratch,
-) -> bool
-    requires defects { defects.now ≡ instance.now.defects }
-    requires stored { AreStored (frame_of instance.now) ranges.now }
-    requires each_step { length ranges.now ≡ length instance.now.items }
-    requires room { HasRoom (length instance.now.items) scratch.old }
-    ensures refuted { MatchBool result (IsRefuted instance.now (map unpacked ranges.now)) (¬ IsRefuted instance.now (map unpacked ranges.now)) }
-    ensures room { HasRoom (length instance.now.items) scratch.new }
+fn is_refuted(ground: Ground<'_>, ranges: &[Packed], scratch: &mut Scratch) -> bool
+    requires stored { AreStored (frame_of ground.instance.now) ranges.now }
+    requires each_step { length ranges.now ≡ length ground.instance.now.items }
+    requires room { HasRoom (length ground.instance.now.items) scratch.old }
+    ensures refuted { let b = ground.entry.instance.now in MatchBool result (IsRefuted b (map unpacked ranges.now)) (¬ IsRefuted b (map unpacked ranges.now)) }
+    ensures room { HasRoom (length ground.entry.instance.now.items) scratch.new }
 {
     let first = first_reason(
-        instance,
-        defects,
+        ground,
         ranges,
         &mut scratch.steps,
         &mut scratch.taken,
@@ -192,48 +182,44 @@ pub struct Aim {
 
 /// Why a box may not be closed for this cause, if it may not.
 fn judge_cause(
-    instance: &Instance,
-    defects: &DefectMap,
+    ground: Ground<'_>,
     aim: Aim,
     cause: Cause,
     ranges: &[Packed],
     scratch: &mut Scratch,
 ) -> Option<Why>
-    requires defects { defects.now ≡ instance.now.defects }
-    requires stored { AreStored (frame_of instance.now) ranges.now }
-    requires each_step { length ranges.now ≡ length instance.now.items }
-    requires room { HasRoom (length instance.now.items) scratch.old }
-    ensures judged { MatchOption result (MayClose instance.now aim.floor aim.loss (map unpacked ranges.now) cause) (FailsToClose instance.now aim.floor aim.loss (map unpacked ranges.now) cause) }
-    ensures room { HasRoom (length instance.now.items) scratch.new }
+    requires stored { AreStored (frame_of ground.instance.now) ranges.now }
+    requires each_step { length ranges.now ≡ length ground.instance.now.items }
+    requires room { HasRoom (length ground.instance.now.items) scratch.old }
+    ensures judged { let b = ground.entry.instance.now in MatchOption result (MayClose b aim.floor aim.loss (map unpacked ranges.now) cause) (FailsToClose b aim.floor aim.loss (map unpacked ranges.now) cause) }
+    ensures room { HasRoom (length ground.entry.instance.now.items) scratch.new }
 {
     match cause {
-        Cause::Reason(reason) => judge_reason(instance, defects, reason, ranges, scratch),
-        Cause::Bound => judge_bound(instance, aim.loss, ranges, scratch),
+        Cause::Reason(reason) => judge_reason(ground, reason, ranges, scratch),
+        Cause::Bound => judge_bound(ground.instance, aim.loss, ranges, scratch),
         Cause::Floor => judge_number(aim.loss, aim.floor),
         Cause::Unsaid => {
-            if is_refuted(instance, defects, ranges, scratch) {
+            if is_refuted(ground, ranges, scratch) {
                 return None;
             }
-            judge_bound(instance, aim.loss, ranges, scratch)
+            judge_bound(ground.instance, aim.loss, ranges, scratch)
         }
     }
 }
 
 /// Why a node may not stand at the box at hand, if it may not.
 fn judge(
-    instance: &Instance,
-    defects: &DefectMap,
+    ground: Ground<'_>,
     aim: Aim,
     node: Node,
     path: &Path,
     scratch: &mut Scratch,
 ) -> Option<Why>
-    requires defects { defects.now ≡ instance.now.defects }
-    requires frame { path.now.frame ≡ frame_of instance.now }
+    requires frame { path.now.frame ≡ frame_of ground.instance.now }
     requires waits { path.now.boxes ≢ [] }
-    requires room { HasRoom (length instance.now.items) scratch.old }
-    ensures judged { MatchOption result (NodePasses instance.now aim.floor aim.loss (top path.now.boxes) node) (NodeFails instance.now aim.floor aim.loss (top path.now.boxes) node) }
-    ensures room { HasRoom (length instance.now.items) scratch.new }
+    requires room { HasRoom (length ground.instance.now.items) scratch.old }
+    ensures judged { let b = ground.entry.instance.now in MatchOption result (NodePasses b aim.floor aim.loss (top path.now.boxes) node) (NodeFails b aim.floor aim.loss (top path.now.boxes) node) }
+    ensures room { HasRoom (length ground.entry.instance.now.items) scratch.new }
 {
     let ranges = path.stored();
     match node {
@@ -244,7 +230,7 @@ fn judge(
                 Some(Why::Split(step, var))
             }
         }
-        Node::Closed(cause) => judge_cause(instance, defects, aim, cause, ranges, scratch),
+        Node::Closed(cause) => judge_cause(ground, aim, cause, ranges, scratch),
         Node::Left => None,
     }
 }
@@ -282,19 +268,17 @@ fn count(
 
 /// Walks over the nodes of a certificate with a path that is at the root, up to the first that may not stand at its box.
 fn walk_on(
-    instance: &Instance,
-    defects: &DefectMap,
+    ground: Ground<'_>,
     loss: Option<u64>,
     cert: &Certificate,
     path: &mut Path,
     scratch: &mut Scratch,
 ) -> Result<Walked, Memory>
-    requires defects { defects.now ≡ instance.now.defects }
     requires tree { IsTree cert.now.nodes.items }
-    requires frame { path.old.frame ≡ frame_of instance.now }
-    requires boxes { path.old.boxes ≡ (root_of (frame_of instance.now) 0).ranges ∷ [] }
-    requires room { HasRoom (length instance.now.items) scratch.old }
-    ensures { IfOk result (Finds instance.now (root_of (frame_of instance.now) 0).ranges loss cert.now) }
+    requires frame { path.old.frame ≡ frame_of ground.instance.now }
+    requires boxes { path.old.boxes ≡ (root_of (frame_of ground.instance.now) 0).ranges ∷ [] }
+    requires room { HasRoom (length ground.instance.now.items) scratch.old }
+    ensures { let b = ground.entry.instance.now in IfOk result (Finds b (root_of (frame_of b) 0).ranges loss cert.now) }
 {
     let mut place = Place {
         line: 1,
@@ -310,10 +294,17 @@ fn walk_on(
             loss,
             floor: cert.floor,
         };
-        if let Some(why) = judge(instance, defects, aim, *node, path, scratch) {
+        if let Some(why) = judge(ground, aim, *node, path, scratch) {
             return Ok(Walked::Fault(place.line, why));
         }
-        count(instance, cert.floor, *node, path, &mut tally, scratch);
+        count(
+            ground.instance,
+            cert.floor,
+            *node,
+            path,
+            &mut tally,
+            scratch,
+        );
         path.pass(*node)?;
     }
     Ok(Walked::Whole(tally))
@@ -322,16 +313,14 @@ fn walk_on(
 /// Walks over the nodes of a certificate, up to the first that may not stand at its box.
 pub(crate) fn walk(
     alloc: Global,
-    instance: &Instance,
-    defects: &DefectMap,
+    ground: Ground<'_>,
     loss: Option<u64>,
     cert: &Certificate,
 ) -> Result<Walked, Memory>
-    requires defects { defects.now ≡ instance.now.defects }
     requires tree { IsTree cert.now.nodes.items }
-    ensures { IfOk result (Finds instance.now (root_of (frame_of instance.now) 0).ranges loss cert.now) }
+    ensures { let b = ground.entry.instance.now in IfOk result (Finds b (root_of (frame_of b) 0).ranges loss cert.now) }
 {
-    let mut path = Path::new(alloc, instance)?;
-    let mut scratch = Scratch::new(alloc, instance.items().len())?;
-    walk_on(instance, defects, loss, cert, &mut path, &mut scratch)
+    let mut path = Path::new(alloc, ground.instance)?;
+    let mut scratch = Scratch::new(alloc, ground.instance.items().len())?;
+    walk_on(ground, loss, cert, &mut path, &mut scratch)
 }

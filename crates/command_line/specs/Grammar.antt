@@ -32,117 +32,63 @@ pub record Pattern : Type 0 where
   pub counts : List Count
   pub flags : List Flag
 
-abbrev pub pattern_of : Verb → Pattern
-pattern_of verb.Draft = record {
-  word = codes "draft";
+-- what most commands are: they read a batch and its defects, and options name files of other parameters and other plates
+abbrev pub usual : Pattern
+usual = record {
+  word = [];
   leads = [];
-  reads = role.Batch ∷ [];
+  reads = role.Batch ∷ role.Defects ∷ [];
   without = [];
-  stores = product.Plan ∷ [];
+  stores = [];
   options = role.Params ∷ role.Plates ∷ [];
   counts = [];
   flags = [];
 }
-pattern_of verb.Plan = record {
-  word = codes "plan";
-  leads = [];
-  reads = role.Batch ∷ role.Defects ∷ [];
-  without = [];
-  stores = product.Plan ∷ product.Certificate ∷ [];
-  options = role.Params ∷ role.Plates ∷ [];
-  counts = count.Workers ∷ count.Budget ∷ count.Effort ∷ [];
-  flags = flag.Watch ∷ flag.Fronts ∷ [];
-}
-pattern_of verb.Gen = record {
+
+-- what commands store that search, and the numbers that can be set for a search
+abbrev pub found : List Product
+found = product.Plan ∷ product.Certificate ∷ []
+
+abbrev pub limits : List Count
+limits = count.Workers ∷ count.Budget ∷ []
+
+-- each command by its own word, and by what is not as usual
+abbrev pub pattern_of : Verb → Pattern
+pattern_of verb.Draft = record usual { word = codes "draft"; reads = role.Batch ∷ []; stores = product.Plan ∷ [] }
+pattern_of verb.Plan = record usual { word = codes "plan"; stores = found; counts = count.Workers ∷ count.Budget ∷ count.Effort ∷ []; flags = flag.Watch ∷ flag.Fronts ∷ [] }
+pattern_of verb.Gen = record usual {
   word = codes "gen";
   leads = lead.Start ∷ lead.Items ∷ lead.Defects ∷ [];
   reads = [];
-  without = [];
-  stores = product.Plan ∷ product.Certificate ∷ [];
+  stores = found;
   options = [];
   counts = count.Workers ∷ count.Budget ∷ count.Effort ∷ [];
   flags = flag.Fronts ∷ [];
 }
-pattern_of verb.Judge = record {
-  word = codes "judge";
-  leads = [];
-  reads = role.Batch ∷ role.Defects ∷ role.Plan ∷ [];
-  without = [];
-  stores = [];
-  options = role.Params ∷ role.Plates ∷ [];
-  counts = [];
-  flags = [];
-}
-pattern_of verb.Verify = record {
+pattern_of verb.Judge = record usual { word = codes "judge"; reads = role.Batch ∷ role.Defects ∷ role.Plan ∷ [] }
+pattern_of verb.Verify = record usual {
   word = codes "verify";
-  leads = [];
   reads = role.Batch ∷ role.Defects ∷ role.Plan ∷ role.Cert ∷ [];
   without = role.Plan ∷ [];
-  stores = [];
-  options = role.Params ∷ role.Plates ∷ [];
   counts = count.Frozen ∷ [];
-  flags = [];
 }
-pattern_of verb.Convert = record {
+pattern_of verb.Convert = record usual {
   word = codes "convert";
-  leads = [];
   reads = role.Batch ∷ role.Defects ∷ role.Plan ∷ role.Cert ∷ [];
   without = role.Plan ∷ [];
   stores = product.Certificate ∷ [];
-  options = role.Params ∷ role.Plates ∷ [];
-  counts = [];
-  flags = [];
 }
-pattern_of verb.Resume = record {
+pattern_of verb.Resume = record usual {
   word = codes "resume";
-  leads = [];
   reads = role.Batch ∷ role.Defects ∷ role.Plan ∷ role.Cert ∷ [];
   without = role.Plan ∷ [];
-  stores = product.Plan ∷ product.Certificate ∷ [];
-  options = role.Params ∷ role.Plates ∷ [];
-  counts = count.Workers ∷ count.Budget ∷ [];
-  flags = [];
+  stores = found;
+  counts = limits;
 }
-pattern_of verb.Freeze = record {
-  word = codes "freeze";
-  leads = lead.Frozen ∷ [];
-  reads = role.Batch ∷ role.Defects ∷ role.Plan ∷ [];
-  without = [];
-  stores = product.Plan ∷ product.Certificate ∷ [];
-  options = role.Params ∷ role.Plates ∷ [];
-  counts = count.Workers ∷ count.Budget ∷ [];
-  flags = [];
-}
-pattern_of verb.Sheet = record {
-  word = codes "sheet";
-  leads = [];
-  reads = role.Batch ∷ role.Defects ∷ role.Plan ∷ [];
-  without = [];
-  stores = product.Sheet ∷ [];
-  options = role.Params ∷ role.Plates ∷ [];
-  counts = [];
-  flags = [];
-}
-pattern_of verb.Replay = record {
-  word = codes "replay";
-  leads = [];
-  reads = role.Batch ∷ role.Defects ∷ role.Sheet ∷ [];
-  without = [];
-  stores = [];
-  options = role.Params ∷ role.Plates ∷ [];
-  counts = [];
-  flags = [];
-}
-pattern_of verb.Picture = record {
-  word = codes "picture";
-  leads = [];
-  reads = role.Batch ∷ role.Defects ∷ role.Plan ∷ [];
-  without = [];
-  stores = product.Picture ∷ [];
-  options = role.Params ∷ role.Plates ∷ [];
-  counts = [];
-  flags = [];
-}
+pattern_of verb.Freeze = record usual { word = codes "freeze"; leads = lead.Frozen ∷ []; reads = role.Batch ∷ role.Defects ∷ role.Plan ∷ []; stores = found; counts = limits }
+pattern_of verb.Sheet = record usual { word = codes "sheet"; reads = role.Batch ∷ role.Defects ∷ role.Plan ∷ []; stores = product.Sheet ∷ [] }
+pattern_of verb.Replay = record usual { word = codes "replay"; reads = role.Batch ∷ role.Defects ∷ role.Sheet ∷ [] }
+pattern_of verb.Picture = record usual { word = codes "picture"; reads = role.Batch ∷ role.Defects ∷ role.Plan ∷ []; stores = product.Picture ∷ [] }
 
 -- the commands of `glass`
 abbrev pub verbs : List Verb

@@ -12,17 +12,16 @@ ghost use Rattle.cut_rules.specs.inner.Tests.{BreaksWith, Watched};
 use crate::cut_rule::CutRule;
 use crate::rules::breach;
 use cut_model::{Broken, Family, Plan, Rule, Visitor, walk};
-use defect_map::DefectMap;
+use defect_map::{DefectMap, Ground};
 use glass_base::Instance;
 use std::convert::Infallible;
 
 /// The breach of this rule by a piece, if it breaks it.
-fn breach_at(instance: &Instance, map: &DefectMap, rule: CutRule, family: &Family) -> Option<Broken>
-    requires same { map.now ≡ instance.now.defects }
+fn breach_at(ground: Ground<'_>, rule: CutRule, family: &Family) -> Option<Broken>
     requires small { IsSmall family.now }
-    ensures { MatchOption result (KeepsCutRule instance.now rule family.now) (BreaksWith instance.now rule family.now) }
+    ensures { let b = ground.entry.instance.now in MatchOption result (KeepsCutRule b rule family.now) (BreaksWith b rule family.now) }
 {
-    let (left, right) = breach(instance, map, rule, family)?;
+    let (left, right) = breach(ground, rule, family)?;
     Some(Broken {
         rule: Rule::from(rule),
         plate: family.row.plate,
@@ -35,21 +34,19 @@ fn breach_at(instance: &Instance, map: &DefectMap, rule: CutRule, family: &Famil
 /// The first breach of one rule, among the pieces told so far.
 #[derive(Drop)]
 struct Watch<'a> {
-    instance: &'a Instance,
-    map: &'a DefectMap,
+    ground: Ground<'a>,
     rule: CutRule,
     first: Option<Broken>,
-    ghost same: { map.now ≡ instance.now.defects },
 }
 
 /// The first breach, after one more piece.
 fn first_or_breach(watch: &Watch<'_>, family: &Family) -> Option<Broken>
     requires { IsSmall family.now }
-    ensures { MatchOption watch.now.first (MatchOption result (KeepsCutRule watch.now.instance.now watch.now.rule family.now) (BreaksWith watch.now.instance.now watch.now.rule family.now)) (λ broken. result ≡ Some broken) }
+    ensures { MatchOption watch.now.first (MatchOption result (KeepsCutRule watch.now.ground.instance.now watch.now.rule family.now) (BreaksWith watch.now.ground.instance.now watch.now.rule family.now)) (λ broken. result ≡ Some broken) }
 {
     match watch.first {
         Some(broken) => Some(broken),
-        None => breach_at(watch.instance, watch.map, watch.rule, family),
+        None => breach_at(watch.ground, watch.rule, family),
     }
 }
 
@@ -59,9 +56,9 @@ impl<'a> Visitor for Watch<'a> {
     type Stop = Infallible;
 
     ghost has_seen = { λ start now seen.
-        (now.instance.now ≡ start.instance.now)
+        (now.ground.instance.now ≡ start.ground.instance.now)
         × (now.rule ≡ start.rule)
-        × Watched start.instance.now start.rule seen now.first };
+        × Watched start.ground.instance.now start.rule seen now.first };
 
     fn visit(&mut self, family: &Family) -> Result<(), Infallible> {
         self.first = first_or_breach(self, family);
@@ -70,18 +67,16 @@ impl<'a> Visitor for Watch<'a> {
 }
 
 /// The first breach of this rule, if some piece breaks it.
-fn first_breach(instance: &Instance, map: &DefectMap, plan: &Plan, rule: CutRule) -> Option<Broken>
-    requires same { map.now ≡ instance.now.defects }
+fn first_breach(ground: Ground<'_>, plan: &Plan, rule: CutRule) -> Option<Broken>
     requires fits { Fits (tree plan.now) }
-    ensures { let b = instance.now in Watched b rule (families_of b (tree plan.now)) result }
+    ensures { let b = ground.entry.instance.now in Watched b rule (families_of b (tree plan.now)) result }
 {
     let mut watch = Watch {
-        instance,
-        map,
+        ground,
         rule,
         first: None,
     };
-    match walk(&mut watch, instance, plan) {
+    match walk(&mut watch, ground.instance, plan) {
         Ok(()) => watch.first,
         Err(never) => match never {},
     }
@@ -99,13 +94,12 @@ const CUT_RULES: [CutRule; 8] = [
 ];
 
 /// The first breach of the first of these rules that some piece breaks.
-fn first_of(instance: &Instance, map: &DefectMap, plan: &Plan, rules: &[CutRule]) -> Option<Broken>
-    requires same { map.now ≡ instance.now.defects }
+fn first_of(ground: Ground<'_>, plan: &Plan, rules: &[CutRule]) -> Option<Broken>
     requires fits { Fits (tree plan.now) }
-    ensures { let b = instance.now in let fs = families_of b (tree plan.now) in MatchOption result (All (λ rule. All (KeepsCutRule b rule) fs) rules.now) (IsBreachOf b fs rules.now) }
+    ensures { let b = ground.entry.instance.now in let fs = families_of b (tree plan.now) in MatchOption result (All (λ rule. All (KeepsCutRule b rule) fs) rules.now) (IsBreachOf b fs rules.now) }
 {
     for rule in rules {
-        match first_breach(instance, map, plan, *rule) {
+        match first_breach(ground, plan, *rule) {
             Some(broken) => return Some(broken),
             None => {}
         }
@@ -132,7 +126,7 @@ pub fn judge_cuts(instance: &Instance, map: &DefectMap, plan: &Plan) -> Result<(
     ensures lawful { let b = instance.now in IsOk result ↔ All (KeepsCutRules b) (families_of b (tree plan.now)) }
     ensures first { let b = instance.now in IfErr result (IsBreach b (families_of b (tree plan.now))) }
 {
-    match first_of(instance, map, plan, &CUT_RULES) {
+    match first_of(Ground { instance, map }, plan, &CUT_RULES) {
         Some(broken) => Err(broken),
         None => Ok(()),
     }

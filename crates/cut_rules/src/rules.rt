@@ -13,7 +13,7 @@ ghost use Rattle.cut_rules.specs.inner.Tests.{Tests};
 
 use crate::cut_rule::CutRule;
 use cut_model::{Along, Family, Row, Sort, item_numbered};
-use defect_map::DefectMap;
+use defect_map::{DefectMap, Ground};
 use glass_base::{Instance, Item};
 
 /// The side of a piece that its children are to add up to.
@@ -186,14 +186,13 @@ fn first_met(map: &DefectMap, row: &Row) -> Option<usize>
 }
 
 /// L7: an item meets no defect.
-fn avoids_defects(instance: &Instance, map: &DefectMap, family: &Family) -> Option<(u64, u64)>
-    requires same { map.now ≡ instance.now.defects }
+fn avoids_defects(ground: Ground<'_>, family: &Family) -> Option<(u64, u64)>
     requires small { IsSmall family.now }
-    ensures { Tests instance.now L7 family.now result }
+    ensures { Tests ground.entry.instance.now L7 family.now result }
 {
     match family.sort {
         Sort::Item(number) => {
-            let place = first_met(map, &family.row)?;
+            let place = first_met(ground.map, &family.row)?;
             Some((u64::from(number), place as u64))
         }
         Sort::Waste | Sort::Branch | Sort::Residual => None,
@@ -251,38 +250,31 @@ fn border(along: Along, row: &Row) -> u32
 }
 
 /// L8: no cut runs through a defect.
-fn cuts_clear(instance: &Instance, map: &DefectMap, family: &Family) -> Option<(u64, u64)>
-    requires same { map.now ≡ instance.now.defects }
+fn cuts_clear(ground: Ground<'_>, family: &Family) -> Option<(u64, u64)>
     requires small { IsSmall family.now }
-    ensures { Tests instance.now L8 family.now result }
+    ensures { Tests ground.entry.instance.now L8 family.now result }
 {
     if family.first {
         return None;
     }
-    let place = first_crossing(map, family.along, &family.row)?;
+    let place = first_crossing(ground.map, family.along, &family.row)?;
     let line = border(family.along, &family.row);
     Some((u64::from(line), place as u64))
 }
 
 /// The two numbers that disagree, where a piece breaks this rule on cuts.
-pub fn breach(
-    instance: &Instance,
-    map: &DefectMap,
-    rule: CutRule,
-    family: &Family,
-) -> Option<(u64, u64)>
-    requires same { map.now ≡ instance.now.defects }
+pub fn breach(ground: Ground<'_>, rule: CutRule, family: &Family) -> Option<(u64, u64)>
     requires small { IsSmall family.now }
-    ensures { Tests instance.now rule family.now result }
+    ensures { Tests ground.entry.instance.now rule family.now result }
 {
     match rule {
         CutRule::L1 => adds_up(family),
-        CutRule::L2 => has_sides(instance, family),
-        CutRule::L3 => is_broad(instance, family),
-        CutRule::L4 => is_strip(instance, family),
-        CutRule::L5 => is_band(instance, family),
+        CutRule::L2 => has_sides(ground.instance, family),
+        CutRule::L3 => is_broad(ground.instance, family),
+        CutRule::L4 => is_strip(ground.instance, family),
+        CutRule::L5 => is_band(ground.instance, family),
         CutRule::L6 => is_in_place(family),
-        CutRule::L7 => avoids_defects(instance, map, family),
-        CutRule::L8 => cuts_clear(instance, map, family),
+        CutRule::L7 => avoids_defects(ground, family),
+        CutRule::L8 => cuts_clear(ground, family),
     }
 }

@@ -7,7 +7,7 @@
 #![tactic(auto)]
 
 use anyhow::{Context, bail, ensure};
-use defect_map::DefectMap;
+use defect_map::{DefectMap, Ground};
 use first_plan::{Effort, Progress, Team, first_plan, improve};
 use glass_base::Instance;
 use glass_gen::generate;
@@ -74,7 +74,11 @@ fn answer<R: Threads + Print + Sync>(rt: &R, alloc: Global, asked: &Asked) -> an
         effort: asked.effort,
         progress: &telling,
     };
-    let _best = improve(alloc, &team, &asked.instance, &map, first, 0)?;
+    let ground = Ground {
+        instance: &asked.instance,
+        map: &map,
+    };
+    let _best = improve(alloc, &team, ground, first, 0)?;
     Ok(())
 }
 

@@ -7,22 +7,21 @@ ghost use Rattle.plan_trace.specs.Claims.{IsComplete};
 
 use crate::comparing::better_of;
 use cut_model::Trace;
-use defect_map::DefectMap;
+use defect_map::Ground;
 use glass_base::{Instance, Memory};
 use plan_beams::{Beams, Found};
 use plan_trace::meets;
 use std::alloc::Global;
 
 /// What a beam found, where its trace has a step for each item and meets the rules.
-pub(crate) fn checked(instance: &Instance, map: &DefectMap, found: Option<Found>) -> Option<Found>
-    requires map { map.now ≡ instance.now.defects }
-    ensures { IfSome result (λ found. IsComplete instance.now found.trace.steps.items) }
+pub(crate) fn checked(ground: Ground<'_>, found: Option<Found>) -> Option<Found>
+    ensures { IfSome result (λ found. IsComplete ground.entry.instance.now found.trace.steps.items) }
 {
     let found = found?;
-    if found.trace.steps.len() != instance.items().len() {
+    if found.trace.steps.len() != ground.instance.items().len() {
         return None;
     }
-    match meets(instance, map, &found.trace) {
+    match meets(ground.instance, ground.map, &found.trace) {
         Ok(()) => Some(found),
         Err(_) => None,
     }
@@ -53,49 +52,43 @@ fn narrow_part(ticks: u64) -> u64 {
 /// What a narrow beam finds, where its trace has a step for each item and meets the rules. It takes a sixteenth of the ticks.
 pub(crate) fn narrow_plan(
     alloc: Global,
-    instance: &Instance,
-    map: &DefectMap,
+    ground: Ground<'_>,
     beams: &Beams,
     ticks: u64,
 ) -> Result<Option<Found>, Memory>
-    requires map { map.now ≡ instance.now.defects }
-    ensures { IfOk result (λ found. IfSome found (λ found. IsComplete instance.now found.trace.steps.items)) }
+    ensures { IfOk result (λ found. IfSome found (λ found. IsComplete ground.entry.instance.now found.trace.steps.items)) }
 {
-    let found = beams.first(alloc, instance, narrow_part(ticks))?;
-    Ok(checked(instance, map, found))
+    let found = beams.first(alloc, ground.instance, narrow_part(ticks))?;
+    Ok(checked(ground, found))
 }
 
 /// What a wide beam finds with the other ticks, where the narrow one lost so much, if its trace has a step for each item and meets the rules.
 pub(crate) fn wide_plan(
     alloc: Global,
-    instance: &Instance,
-    map: &DefectMap,
+    ground: Ground<'_>,
     beams: &Beams,
     lost: Option<u64>,
     ticks: u64,
 ) -> Result<Option<Trace>, Memory>
-    requires map { map.now ≡ instance.now.defects }
-    ensures { IfOk result (λ found. IfSome found (λ trace. IsComplete instance.now trace.steps.items)) }
+    ensures { IfOk result (λ found. IfSome found (λ trace. IsComplete ground.entry.instance.now trace.steps.items)) }
 {
     let wide = ticks.saturating_sub(narrow_part(ticks));
-    let found = beams.second(alloc, instance, lost, wide)?;
-    Ok(trace_in(checked(instance, map, found)))
+    let found = beams.second(alloc, ground.instance, lost, wide)?;
+    Ok(trace_in(checked(ground, found)))
 }
 
 /// The better trace of two beams that has a step for each item and meets the rules, if they find one: of a narrow beam, and of a wide one.
 pub(crate) fn beam_plan(
     alloc: Global,
-    instance: &Instance,
-    map: &DefectMap,
+    ground: Ground<'_>,
     ticks: u64,
 ) -> Result<Option<Trace>, Memory>
-    requires problem { IsProblem instance.now }
-    requires map { map.now ≡ instance.now.defects }
-    ensures { IfOk result (λ found. IfSome found (λ trace. IsComplete instance.now trace.steps.items)) }
+    requires problem { IsProblem ground.instance.now }
+    ensures { IfOk result (λ found. IfSome found (λ trace. IsComplete ground.entry.instance.now trace.steps.items)) }
 {
-    let beams = Beams::new(alloc, instance)?;
-    let narrow = narrow_plan(alloc, instance, map, &beams, ticks)?;
+    let beams = Beams::new(alloc, ground.instance)?;
+    let narrow = narrow_plan(alloc, ground, &beams, ticks)?;
     let lost = loss_in(&narrow);
-    let wide = wide_plan(alloc, instance, map, &beams, lost, ticks)?;
-    Ok(better_of(instance, trace_in(narrow), wide))
+    let wide = wide_plan(alloc, ground, &beams, lost, ticks)?;
+    Ok(better_of(ground.instance, trace_in(narrow), wide))
 }

@@ -11,7 +11,7 @@ ghost use Rattle.plan_trace.specs.Claims.{IsComplete};
 use crate::beaming::beam_plan;
 use crate::comparing::better_of;
 use cut_model::Trace;
-use defect_map::DefectMap;
+use defect_map::{DefectMap, Ground};
 use glass_base::{Instance, Memory};
 use plan_draft::draft;
 use std::alloc::Global;
@@ -75,7 +75,7 @@ pub fn first_plan(
     ensures none { IfOk result (λ found. IfNone found ((number : ℕ) × HasNoDraft instance.now number)) }
 {
     let ticks = effort(instance.items().len());
-    let found = beam_plan(alloc, instance, map, ticks)?;
+    let found = beam_plan(alloc, Ground { instance, map }, ticks)?;
     let drafted = draft(alloc, instance, map)?;
     Ok(first_of(instance, found, drafted))
 }

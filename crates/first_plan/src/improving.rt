@@ -10,7 +10,7 @@ use crate::beaming::{checked, trace_in};
 use crate::choosing::effort as first_effort;
 use crate::comparing::length_of_plan;
 use cut_model::Trace;
-use defect_map::DefectMap;
+use defect_map::Ground;
 use front_bound::losses::{LONGEST, loss_of_length};
 use glass_base::{Instance, Memory};
 use plan_beams::{Beams, Crew, Watch, WideBeam, wide_ticks};
@@ -101,15 +101,13 @@ fn shorter_of(instance: &Instance, first: Trace, other: Option<Trace>) -> Trace
 fn worked_on<R: Threads + Sync, P: Progress>(
     alloc: Global,
     team: &Team<R, P>,
-    instance: &Instance,
-    map: &DefectMap,
+    ground: Ground<'_>,
     beams: &Beams,
     work: Work,
     beam: WideBeam,
 ) -> Result<Work, Memory>
-    requires map { map.now ≡ instance.now.defects }
-    requires plan { IsFirstPlan instance.now work.best.steps.items }
-    ensures { IfOk result (λ done. IsImproved instance.now work.best.steps.items done.best.steps.items) }
+    requires plan { IsFirstPlan ground.instance.now work.best.steps.items }
+    ensures { IfOk result (λ done. IsImproved ground.entry.instance.now work.best.steps.items done.best.steps.items) }
 {
     let Work { best, spent } = work;
     let crew = Crew {
@@ -120,12 +118,12 @@ fn worked_on<R: Threads + Sync, P: Progress>(
         progress: team.progress,
         before: spent,
     };
-    let widely = beams.wide(alloc, &crew, instance, beam, &watch)?;
+    let widely = beams.wide(alloc, &crew, ground.instance, beam, &watch)?;
     // Read for its rules.
-    let _items = instance.items();
-    let found = trace_in(checked(instance, map, widely.found));
+    let _items = ground.instance.items();
+    let found = trace_in(checked(ground, widely.found));
     Ok(Work {
-        best: shorter_of(instance, best, found),
+        best: shorter_of(ground.instance, best, found),
         spent: spent.saturating_add(widely.ticks),
     })
 }
@@ -138,24 +136,22 @@ fn worked_on<R: Threads + Sync, P: Progress>(
 pub fn improve<R: Threads + Sync, P: Progress>(
     alloc: Global,
     team: &Team<R, P>,
-    instance: &Instance,
-    map: &DefectMap,
+    ground: Ground<'_>,
     first: Trace,
     floor: u64,
 ) -> Result<Trace, Memory>
-    requires map { map.now ≡ instance.now.defects }
-    requires plan { IsFirstPlan instance.now first.steps.items }
-    ensures { IfOk result (λ trace. IsImproved instance.now first.steps.items trace.steps.items) }
+    requires plan { IsFirstPlan ground.instance.now first.steps.items }
+    ensures { IfOk result (λ trace. IsImproved ground.entry.instance.now first.steps.items trace.steps.items) }
 {
-    let first_ticks = first_effort(instance.items().len());
+    let first_ticks = first_effort(ground.instance.items().len());
     let most = u64::from(team.effort.millions).saturating_mul(TICKS);
-    let beams = Beams::new(alloc, instance)?;
+    let beams = Beams::new(alloc, ground.instance)?;
     let mut work = Work {
         best: first,
         spent: first_ticks,
     };
     for number in 0..MOST_BEAMS {
-        let lost = loss_of_plan(instance, &work.best);
+        let lost = loss_of_plan(ground.instance, &work.best);
         team.progress.spends(work.spent / TICKS);
         team.progress.knows(lost);
         let ticks = wide_ticks(first_ticks, number);
@@ -167,7 +163,7 @@ pub fn improve<R: Threads + Sync, P: Progress>(
             lost,
             ticks,
         };
-        work = worked_on(alloc, team, instance, map, &beams, work, beam)?;
+        work = worked_on(alloc, team, ground, &beams, work, beam)?;
     }
     let Work { best, spent: _ } = work;
     Ok(best)

@@ -15,7 +15,7 @@ use crate::beaming::{loss_in, narrow_plan, trace_in, wide_plan};
 use crate::choosing::{effort, first_of};
 use crate::comparing::{better_of, length_of_plan};
 use cut_model::Trace;
-use defect_map::DefectMap;
+use defect_map::Ground;
 use front_bound::losses::{LABELS, LONGEST, loss_of_length};
 use front_bound::plans::{Shown, longest_with_plan};
 use front_bound::watch::Watch;
@@ -77,29 +77,27 @@ fn floor_of(instance: &Instance, length: u64) -> u64
 /// too many, or where there is no way to cut the items at all, the floor is 0. How far that is, is told to `watch`. It fails only where memory runs out.
 pub fn start_by_fronts<W: Watch>(
     alloc: Global,
-    instance: &Instance,
-    map: &DefectMap,
+    ground: Ground<'_>,
     watch: &W,
 ) -> Result<Start, Memory>
-    requires map { map.now ≡ instance.now.defects }
-    ensures plan { IfOk result (λ start. IfSome start.first (λ trace. IsFirstPlan instance.now trace.steps.items)) }
-    ensures none { IfOk result (λ start. IfNone start.first ((number : ℕ) × HasNoDraft instance.now number)) }
-    ensures floor { IfOk result (λ start. (plan : Forest) → IsLawful instance.now plan → start.floor ≤ loss_of instance.now plan) }
+    ensures plan { IfOk result (λ start. IfSome start.first (λ trace. IsFirstPlan ground.entry.instance.now trace.steps.items)) }
+    ensures none { IfOk result (λ start. IfNone start.first ((number : ℕ) × HasNoDraft ground.entry.instance.now number)) }
+    ensures floor { let b = ground.entry.instance.now in IfOk result (λ start. (plan : Forest) → IsLawful b plan → start.floor ≤ loss_of b plan) }
 {
-    let ticks = effort(instance.items().len());
-    let beams = Beams::new(alloc, instance)?;
-    let narrow = narrow_plan(alloc, instance, map, &beams, ticks)?;
+    let ticks = effort(ground.instance.items().len());
+    let beams = Beams::new(alloc, ground.instance)?;
+    let narrow = narrow_plan(alloc, ground, &beams, ticks)?;
     let lost = loss_in(&narrow);
-    let drafted = draft(alloc, instance, map)?;
-    let first = first_of(instance, trace_in(narrow), drafted);
-    let most = length_of_first(instance, &first);
-    let Shown { length, plan } = longest_with_plan(alloc, instance, map, most, LABELS, watch)?;
-    let floor = floor_of(instance, length);
-    let best = improved(instance, first, plan);
-    if length_of_first(instance, &best) <= length {
+    let drafted = draft(alloc, ground.instance, ground.map)?;
+    let first = first_of(ground.instance, trace_in(narrow), drafted);
+    let most = length_of_first(ground.instance, &first);
+    let Shown { length, plan } = longest_with_plan(alloc, ground, most, LABELS, watch)?;
+    let floor = floor_of(ground.instance, length);
+    let best = improved(ground.instance, first, plan);
+    if length_of_first(ground.instance, &best) <= length {
         return Ok(Start { first: best, floor });
     }
-    let wide = wide_plan(alloc, instance, map, &beams, lost, ticks)?;
-    let first = improved(instance, best, wide);
+    let wide = wide_plan(alloc, ground, &beams, lost, ticks)?;
+    let first = improved(ground.instance, best, wide);
     Ok(Start { first, floor })
 }

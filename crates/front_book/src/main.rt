@@ -22,7 +22,7 @@ use crate::given::given;
 use crate::numbers::numbers_of;
 use anyhow::{bail, ensure};
 use cut_model::Trace;
-use defect_map::DefectMap;
+use defect_map::{DefectMap, Ground};
 use front_bound::bounds::{is_no_shorter, longest_shown};
 use front_bound::plans::longest_with_plan;
 use front_bound::watch::Nobody;
@@ -72,7 +72,16 @@ fn length_of_plan(instance: &Instance, trace: &Trace) -> u64
 /// The loss of which it is shown that no lawful plan loses less, and that of the plan along the fronts.
 fn losses_of(alloc: Global, instance: &Instance) -> anyhow::Result<String> {
     let map = DefectMap::new(alloc, instance)?;
-    let shown = longest_with_plan(alloc, instance, &map, most_of(instance), LIMIT, &Nobody)?;
+    let shown = longest_with_plan(
+        alloc,
+        Ground {
+            instance,
+            map: &map,
+        },
+        most_of(instance),
+        LIMIT,
+        &Nobody,
+    )?;
     let least = loss_at(instance, shown.length);
     let Some(plan) = shown.plan else {
         return Ok(format!(in alloc; "{least} none")?);

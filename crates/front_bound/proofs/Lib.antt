@@ -1,6 +1,7 @@
 pub mod HeldLists
 pub mod PoolRows
 pub mod Each
+pub mod Known
 pub mod RowLemmas
 pub mod Fronts
 pub mod CellRuns

@@ -5,8 +5,8 @@ use Rattle.std.proofs.lemmas.List.Elements.{All-contains, Contains-append_left, 
 use Rattle.glass_base.specs.declared.item.Defect.{Defect}
 use Rattle.glass_base.specs.Plates.{Before, Width}
 use Rattle.glass_base.specs.Problem.{Problem}
-use Rattle.front_bound.specs.declared.ground.Ground.{Ground}
-use Rattle.front_bound.specs.declared.ground.Sought.{Sought}
+use Rattle.front_bound.specs.declared.stretch.Stretch.{Stretch}
+use Rattle.front_bound.specs.declared.stretch.Sought.{Sought}
 use Rattle.front_bound.specs.declared.keyed.Keyed.{Keyed}
 use Rattle.front_bound.specs.declared.labels.Label.{Label}
 use Rattle.front_bound.specs.declared.moves.Move.{Move}
@@ -56,98 +56,98 @@ behind_or_above holes piece at d left low has meets x y free =
     ]
 
 -- cells
-module _ (g : Ground) (s : Sought) where
-  pub cell_joined_kept : (from : ℕ) (old new : List (List Label)) (l : Label) (m : Move) → Spreads from old new → CellJoined g s old l m → CellJoined g s new l m
+module _ (t : Stretch) (s : Sought) where
+  pub cell_joined_kept : (from : ℕ) (old new : List (List Label)) (l : Label) (m : Move) → Spreads from old new → CellJoined t s old l m → CellJoined t s new l m
   unfolding CellJoined
   cell_joined_kept from old new l m spreads joined x w y right up left bottom own next can = spreads.kept m.to (x + w) y (left + m.label.along.least) up (joined x w y right up left bottom own next can)
 
-  pub cells_kept : (from : ℕ) (old new : List (List Label)) (n : ℕ) (moves : List Move) → Spreads from old new → from ≤ n → CellsGoOn g s old n moves → CellsGoOn g s new n moves
+  pub cells_kept : (from : ℕ) (old new : List (List Label)) (n : ℕ) (moves : List Move) → Spreads from old new → from ≤ n → CellsGoOn t s old n moves → CellsGoOn t s new n moves
   unfolding CellsGoOn
   cells_kept from old new n moves spreads le goes x y right up held m has w left bottom next can =
       spreads.kept m.to (x + w) y (left + m.label.along.least) up (goes x y right up (subst (λ l. HeldTo l x y right up) (spreads.same n le) held) m has w left bottom next can)
 
-  pub cells_go_on : (pool : List (List Label)) (n : ℕ) (moves : List Move) → ((k : ℕ) (d : Label) → k < length (row_at pool n) → All (CellJoined g s pool (get_or (row_at pool n) k d)) moves) → CellsGoOn g s pool n moves
+  pub cells_go_on : (pool : List (List Label)) (n : ℕ) (moves : List Move) → ((k : ℕ) (d : Label) → k < length (row_at pool n) → All (CellJoined t s pool (get_or (row_at pool n) k d)) moves) → CellsGoOn t s pool n moves
   unfolding CellsGoOn CellJoined HeldTo
   cells_go_on pool n moves each x y right up (l, (k, lt, is), stands) m has w left bottom next can =
-      let all : All (CellJoined g s pool l) moves = subst (λ (l : Label). All (CellJoined g s pool l) moves) is (each k l lt) in
-      All-contains (CellJoined g s pool l) moves m all has x w y right up left bottom stands next can
+      let all : All (CellJoined t s pool l) moves = subst (λ (l : Label). All (CellJoined t s pool l) moves) is (each k l lt) in
+      All-contains (CellJoined t s pool l) moves m all has x w y right up left bottom stands next can
 
   -- where no label leads to the row
-  pub cells_none : (pool : List (List Label)) (n : ℕ) (moves : List Move) → row_at pool n ≡ [] → CellsGoOn g s pool n moves
+  pub cells_none : (pool : List (List Label)) (n : ℕ) (moves : List Move) → row_at pool n ≡ [] → CellsGoOn t s pool n moves
   unfolding CellsGoOn
   cells_none pool n moves none x y right up held m has w left bottom next can = absurd (held_none (row_at pool n) x y right up none held)
 
 -- bands
-module _ (g : Ground) (from : ℕ) (old new : List (List Label)) (s : Spreads from old new) where
-  pub run_kept : (n : ℕ) (label : Label) (to : ℕ) (cells : Label) → RunJoined g old n label to cells → RunJoined g new n label to cells
+module _ (t : Stretch) (from : ℕ) (old new : List (List Label)) (s : Spreads from old new) where
+  pub run_kept : (n : ℕ) (label : Label) (to : ℕ) (cells : Label) → RunJoined t old n label to cells → RunJoined t new n label to cells
   unfolding RunJoined
   run_kept n label to cells joined x d w right low up own run can = s.kept to (x + d) w right up (joined x d w right low up own run can)
 
-  pub runs_kept : (n : ℕ) (label : Label) (to : ℕ) (runs : List Label) → RunsJoined g old n label to runs → RunsJoined g new n label to runs
+  pub runs_kept : (n : ℕ) (label : Label) (to : ℕ) (runs : List Label) → RunsJoined t old n label to runs → RunsJoined t new n label to runs
   unfolding RunsJoined
   runs_kept n label to runs joined x d w right low up own held can = s.kept to (x + d) w right up (joined x d w right low up own held can)
 
-  pub move_kept : (n : ℕ) (label : Label) (m : Move) → MoveJoined g old n label m → MoveJoined g new n label m
+  pub move_kept : (n : ℕ) (label : Label) (m : Move) → MoveJoined t old n label m → MoveJoined t new n label m
   unfolding MoveJoined
   move_kept n label m joined x d w right low up own next can = s.kept m.to (x + d) w right up (joined x d w right low up own next can)
 
-  pub entry_kept : (n : ℕ) (label : Label) (place : ℕ) → EntryJoined g old n label place → EntryJoined g new n label place
+  pub entry_kept : (n : ℕ) (label : Label) (place : ℕ) → EntryJoined t old n label place → EntryJoined t new n label place
   unfolding EntryJoined
   entry_kept n label place joined m is = move_kept n label m (joined m is)
 
-  pub extended_kept : (n : ℕ) (label : Label) → Extended g old n label → Extended g new n label
+  pub extended_kept : (n : ℕ) (label : Label) → Extended t old n label → Extended t new n label
   unfolding MovesExtended
   extended_kept n label (inl moves) = inl (λ m has. move_kept n label m (moves m has))
   extended_kept n label (inr runs) = inr (record { sought = runs.sought; cells = runs.cells; are = runs.are; low = runs.low; slack = runs.slack; joined = λ to lt. runs_kept n label to (row_at runs.cells to) (runs.joined to lt) })
 
-  pub placed_kept : (n : ℕ) → from ≤ n → RowPlaced g old n → RowPlaced g new n
+  pub placed_kept : (n : ℕ) → from ≤ n → RowPlaced t old n → RowPlaced t new n
   unfolding RowPlaced
   placed_kept n le placed =
-      subst (λ row. (k : ℕ) (d : Label) → k < length row → Extended g new n (get_or row k d)) (sym (s.same n le)) (λ k d lt. extended_kept n (get_or (row_at old n) k d) (placed k d lt))
+      subst (λ row. (k : ℕ) (d : Label) → k < length row → Extended t new n (get_or row k d)) (sym (s.same n le)) (λ k d lt. extended_kept n (get_or (row_at old n) k d) (placed k d lt))
 
-module _ (g : Ground) (pool : List (List Label)) (n : ℕ) where
-  pub runs_joined : (label : Label) (to : ℕ) (runs : List Label) → ((k : ℕ) (d : Label) → k < length runs → RunJoined g pool n label to (get_or runs k d)) → RunsJoined g pool n label to runs
+module _ (t : Stretch) (pool : List (List Label)) (n : ℕ) where
+  pub runs_joined : (label : Label) (to : ℕ) (runs : List Label) → ((k : ℕ) (d : Label) → k < length runs → RunJoined t pool n label to (get_or runs k d)) → RunsJoined t pool n label to runs
   unfolding RunsJoined RunJoined HeldTo
-  runs_joined label to runs each x d w right low up own (cells, has, stands) can = contained_each (λ (cells : Label). RunJoined g pool n label to cells) runs each cells has x d w right low up own stands can
+  runs_joined label to runs each x d w right low up own (cells, has, stands) can = contained_each (λ (cells : Label). RunJoined t pool n label to cells) runs each cells has x d w right low up own stands can
 
-  pub runs_none : (label : Label) (to : ℕ) (runs : List Label) → runs ≡ [] → RunsJoined g pool n label to runs
+  pub runs_none : (label : Label) (to : ℕ) (runs : List Label) → runs ≡ [] → RunsJoined t pool n label to runs
   unfolding RunsJoined
   runs_none label to runs none x d w right low up own held can = absurd (held_none runs w d right up none held)
 
   -- where no band goes on
-  pub none_extended : (label : Label) → NoneGoesOn g n label → Extended g pool n label
+  pub none_extended : (label : Label) → NoneGoesOn t n label → Extended t pool n label
   unfolding NoneGoesOn MovesExtended MoveJoined
   none_extended label none = inl (λ m has x d w right low up own next can. absurd (none m.to x d w right low up own can))
 
-  pub row_none : row_at pool n ≡ [] → RowPlaced g pool n
+  pub row_none : row_at pool n ≡ [] → RowPlaced t pool n
   unfolding RowPlaced
   row_none none k d lt = absurd (omega (arith, lt, ap length none))
 
   -- each band of the list goes on, or leaves more than it may
-  pub all_joined : (label : Label) (slack : ℕ) → g.limits.bound ≤ g.limits.top → HasBands g.rows.now n g.limits.top (bands_at g.levels.now n) (list_at g.levels.now n g.limits.class) → IsSlack g n label slack →
-      ((e : Keyed) → Contains (list_at g.levels.now n g.limits.class) e → e.key ≤ slack → EntryJoined g pool n label e.place) → Extended g pool n label
+  pub all_joined : (label : Label) (slack : ℕ) → t.limits.bound ≤ t.limits.top → HasBands t.rows.now n t.limits.top (bands_at t.levels.now n) (list_at t.levels.now n t.limits.class) → IsSlack t n label slack →
+      ((e : Keyed) → Contains (list_at t.levels.now n t.limits.class) e → e.key ≤ slack → EntryJoined t pool n label e.place) → Extended t pool n label
   unfolding MovesExtended EntryJoined MoveJoined HasBands Listed IsSlack
   all_joined label slack bound bands most joined = inl (λ m has x d w right low up own next can.
       let listed = bands has.0 m has.1 (omega (arith, ap (λ (b : Move). b.label.across.least) has.2, least_first m.label.across w next.1, can.end.narrow, bound)) in
-      let less : g.limits.top * m.label.along.least ≤ g.limits.top * d = mul-le g.limits.top m.label.along.least g.limits.top d (omega arith) (least_first m.label.along d next.0) in
-      let waste : waste_of g.rows.now n g.limits.top m ≤ slack = omega (arith, less, most m.to x d w right low up own can) in
-      let key : listed.0.key ≤ slack = omega (arith, listed.3, ap (waste_of g.rows.now n g.limits.top) has.2, waste) in
-      joined listed.0 listed.1 key m (ap (slice_get (bands_at g.levels.now n)) listed.2 ∙ at_place (bands_at g.levels.now n) m has) x d w right low up own next can)
+      let less : t.limits.top * m.label.along.least ≤ t.limits.top * d = mul-le t.limits.top m.label.along.least t.limits.top d (omega arith) (least_first m.label.along d next.0) in
+      let waste : waste_of t.rows.now n t.limits.top m ≤ slack = omega (arith, less, most m.to x d w right low up own can) in
+      let key : listed.0.key ≤ slack = omega (arith, listed.3, ap (waste_of t.rows.now n t.limits.top) has.2, waste) in
+      joined listed.0 listed.1 key m (ap (slice_get (bands_at t.levels.now n)) listed.2 ∙ at_place (bands_at t.levels.now n) m has) x d w right low up own next can)
 
 -- how much a band may leave
-pub slack_more : (g : Ground) (n : ℕ) (label : Label) (slack more : ℕ) → slack ≤ more → IsSlack g n label slack → IsSlack g n label more
+pub slack_more : (t : Stretch) (n : ℕ) (label : Label) (slack more : ℕ) → slack ≤ more → IsSlack t n label slack → IsSlack t n label more
 unfolding IsSlack
-slack_more g n label slack more le is to x d w right low up own can = omega (arith, is to x d w right low up own can, le)
+slack_more t n label slack more le is to x d w right low up own can = omega (arith, is to x d w right low up own can, le)
 
-pub can_leave : (g : Ground) (n to x d w right low up area up_to : ℕ) → g.limits.bound ≤ g.limits.top → up_to ≤ low → (can : CanGoOn g n to x d w right low up) → area ≤ can.area →
-    g.limits.top * d - (area_at g.rows.now n - area_at g.rows.now to) ≤ g.limits.top * (g.limits.height - up_to) - area
-can_leave g n to x d w right low up area up_to bound below can least =
-    let h : ℕ = g.limits.height in
+pub can_leave : (t : Stretch) (n to x d w right low up area up_to : ℕ) → t.limits.bound ≤ t.limits.top → up_to ≤ low → (can : CanGoOn t n to x d w right low up) → area ≤ can.area →
+    t.limits.top * d - (area_at t.rows.now n - area_at t.rows.now to) ≤ t.limits.top * (t.limits.height - up_to) - area
+can_leave t n to x d w right low up area up_to bound below can least =
+    let h : ℕ = t.limits.height in
     let rest : can.end.area ≤ w * (h - (low + d)) = omega (arith, can.end.within, mul-le w (h - up) w (h - (low + d)) (omega arith) (omega (arith, can.above))) in
-    least_waste g.limits.top w h low d up_to d area (area_at g.rows.now n - area_at g.rows.now to) can.area can.end.area (omega (arith, can.end.narrow, bound)) below (omega arith) (omega (arith, can.above, can.end.top)) least can.split rest
+    least_waste t.limits.top w h low d up_to d area (area_at t.rows.now n - area_at t.rows.now to) can.area can.end.area (omega (arith, can.end.narrow, bound)) below (omega arith) (omega (arith, can.above, can.end.top)) least can.split rest
 
-pub can_hold : (g : Ground) (n to x d w right low up up_to : ℕ) → g.limits.bound ≤ g.limits.top → up_to ≤ low → (can : CanGoOn g n to x d w right low up) → can.area ≤ g.limits.top * (g.limits.height - up_to)
-can_hold g n to x d w right low up up_to bound below can = omega (arith, can.within, less_glass w g.limits.top g.limits.height low up_to (omega (arith, can.end.narrow, bound)) below)
+pub can_hold : (t : Stretch) (n to x d w right low up up_to : ℕ) → t.limits.bound ≤ t.limits.top → up_to ≤ low → (can : CanGoOn t n to x d w right low up) → can.area ≤ t.limits.top * (t.limits.height - up_to)
+can_hold t n to x d w right low up up_to bound below can = omega (arith, can.within, less_glass w t.limits.top t.limits.height low up_to (omega (arith, can.end.narrow, bound)) below)
 
 -- right sides
 pub ends_placed_kept : (b : Problem) (holes : List Defect) (far most g : ℕ) (old new : List (List Label)) (m plate begin : ℕ) (strips : List Label) → Spreads g old new → EndsPlaced b holes far most old m plate begin strips →

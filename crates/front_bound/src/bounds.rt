@@ -5,6 +5,7 @@ ghost use Rattle.front_course.specs.Claims.{LosesAtLeast, NoCourseShorter};
 ghost use Rattle.front_bound.specs.inner.Ready.{IsTable};
 
 use crate::building::{rows_of, shape_of, tops_of};
+use crate::grid::Grid;
 use crate::halt::Halt;
 use crate::lattice::is_lattice;
 use crate::levels::to_go;
@@ -52,15 +53,13 @@ pub fn table_of<W: Watch>(
     let tops = tops_of(alloc, params)?;
     let cover = u64::from(params.max1) * u64::from(params.height);
     let mut pool = Pool::new(alloc, rows.len(), limit)?;
-    let levels = levels_of(
-        alloc,
+    let grid = Grid {
         instance,
-        rows.as_slice(),
-        tops.as_slice(),
-        &mut pool,
+        rows: rows.as_slice(),
+        tops: tops.as_slice(),
         cover,
-        watch,
-    )?;
+    };
+    let levels = levels_of(alloc, &grid, &mut pool, watch)?;
     if levels.is_empty() || to_go(levels.as_slice(), 0) != 0 {
         return Err(Halt::Limit);
     }

@@ -1,7 +1,6 @@
 //! Strips that end at a right side: the right sides that a search within a length left say behind which of them a strip can begin.
 
 ghost use Rattle.std.specs.Prelude.{◌≡◌, ◌<◌, length, OnOk};
-ghost use Rattle.front_bound.specs.inner.Ready.{AreFronts};
 
 use crate::ends::shift_of;
 use crate::far::low_of;
@@ -12,28 +11,42 @@ use crate::pools::Pool;
 use crate::runs::end_by;
 use crate::sets::SizeSet;
 use crate::strips::{Limits, strips_from};
-use crate::table::Fronts;
+use crate::task::Task;
 use glass_base::Instance;
 use std::alloc::Global;
 
-/// A right side at which strips can end: its plate, and where it stands on it, in mm.
+/// A right side at which strips can end.
 #[derive(Clone, Copy)]
 pub struct Side {
+    /// The row at which they end.
+    pub row: usize,
+    /// The side's plate, and where it stands on that, in mm.
     pub plate: u32,
     pub right: u32,
+}
+
+/// The strips that may lie between two rows.
+#[derive(Clone, Copy)]
+pub struct Between {
+    /// The row from which they are.
+    pub from: usize,
+    /// Where they can begin on the plate.
+    pub begins: SizeSet,
+    pub end: Side,
+    ghost down: { end.row < from },
 }
 
 /// A strip of a course.
 #[derive(Clone, Copy)]
 pub struct Strip {
-    /// The rows between which it leads.
+    /// The row from which it is.
     pub from: usize,
-    pub to: usize,
     /// The class of its widths.
     pub class: usize,
-    /// Its left side, and the plate and right side at which it ends, in mm.
+    /// Its left side, in mm.
     pub left: u32,
     pub end: Side,
+    ghost down: { end.row < from },
 }
 
 /// Where strips can begin on a plate behind a side: right of it on its own plate, at the left side of the next one where its own can end there.
@@ -48,8 +61,8 @@ pub fn begins_behind(instance: &Instance, side: &Label, plate: u32) -> Option<Si
     Some(SizeSet::only(0))
 }
 
-/// The right side of the strip that ends at a side, where something begins at `left` on this plate: there may be a gap between the two.
-pub fn side_before(instance: &Instance, side: &Label, plate: u32, left: u32) -> Side {
+/// The right side of the strip that ends at a side of a row, where something begins at `left` on this plate: there may be a gap between the two.
+pub fn side_before(instance: &Instance, row: usize, side: &Label, plate: u32, left: u32) -> Side {
     let own = side.across.least;
     let end = if own == plate {
         left
@@ -59,12 +72,13 @@ pub fn side_before(instance: &Instance, side: &Label, plate: u32, left: u32) -> 
     let least = side.along.least;
     let is_gap = least.saturating_add(instance.params().waste) <= end;
     Side {
+        row,
         plate: own,
         right: if is_gap { least } else { end },
     }
 }
 
-/// The least length from `from` on at which a course ends, and the side at which its last plate does.
+/// The least length from `from` on at which a course ends, and the side at which its last plate does, of these sides of the last front.
 pub fn last_side(instance: &Instance, sides: &[Label], from: u64) -> Option<(u64, Side)> {
     let mut found = None;
     let mut least = u64::MAX;
@@ -72,7 +86,7 @@ pub fn last_side(instance: &Instance, sides: &[Label], from: u64) -> Option<(u64
         let length = end_by(instance, side, u64::MAX);
         if from <= length && length < least {
             least = length;
-            found = Some((length, side_before(instance, side, u32::MAX, 0)));
+            found = Some((length, side_before(instance, 0, side, u32::MAX, 0)));
         }
     }
     found
@@ -81,39 +95,36 @@ pub fn last_side(instance: &Instance, sides: &[Label], from: u64) -> Option<(u64
 /// Searches for the strips of a class between two rows that end at a side and begin in a set of places.
 pub fn strips_between(
     pool: &mut Pool,
-    instance: &Instance,
-    fronts: &Fronts<'_>,
-    from: usize,
-    to: usize,
-    begins: &SizeSet,
-    end: &Side,
+    task: &Task<'_>,
+    between: &Between,
     class: usize,
 ) -> Result<(), Halt>
-    requires from { from < length fronts.now.rows.now }
-    requires to { to < from }
-    requires class { class < length fronts.now.tops.now }
-    requires pool { length pool.old ≡ length fronts.now.rows.now }
-    requires fronts { AreFronts instance.now fronts.now }
+    requires from { between.now.from < length task.now.fronts.rows.now }
+    requires class { class < length task.now.fronts.tops.now }
+    requires pool { length pool.old ≡ length task.now.fronts.rows.now }
     ensures { OnOk result (length pool.new ≡ length pool.old) }
 {
-    let params = instance.params();
-    let room = end.right.saturating_sub(begins.least);
-    let top = fronts.tops[class];
+    let params = task.ground.instance.params();
+    let levels = task.fronts.levels;
+    let tops = task.fronts.tops;
+    let end = between.end;
+    let room = end.right.saturating_sub(between.begins.least);
+    let top = tops[class];
     let limits = Limits {
         class,
         top,
         bound: top.min(params.max1).min(room),
         height: params.height,
-        most: u64::from(room).saturating_add(to_go(fronts.levels, to)),
-        shift: shift_of(fronts.cover),
+        most: u64::from(room).saturating_add(to_go(levels, end.row)),
+        shift: shift_of(task.fronts.cover),
     };
-    let low = low_of(fronts.tops, class, params.min1);
+    let low = low_of(tops, class, params.min1);
     strips_from(
         pool,
-        fronts.rows,
-        fronts.levels,
+        task.fronts.rows,
+        levels,
         &limits,
-        from,
+        between.from,
         low,
         params.waste,
     )?;

@@ -1,32 +1,22 @@
 //! The steps of a strip: which bands and cells it is made of is found from its end back. What comes of it is a guess, which has to be asked of the rules.
 
 ghost use Rattle.std.specs.Prelude.{◌≡◌, ◌<◌, length, OnOk};
-ghost use Rattle.front_bound.specs.inner.Ready.{AreFronts};
 
 use crate::bands::bands_from;
-use crate::course::{Strip, strips_between};
+use crate::course::{Between, Strip, strips_between};
 use crate::halt::Halt;
 use crate::lattice::{due, item_behind};
 use crate::parts::{Of, Part, Whole, parts_of};
 use crate::pools::Pool;
 use crate::rows::{Row, count};
 use crate::sets::SizeSet;
-use crate::table::Fronts;
+use crate::task::Task;
 use cut_model::Step;
-use defect_map::DefectMap;
 use glass_base::{Instance, Item, Run};
 use std::alloc::Global;
 
 /// So often a cell is moved to the right, out of a defect.
 const SHIFTS: u32 = 8;
-
-/// What a plan is looked for in.
-#[derive(Clone, Copy)]
-pub struct Task<'a> {
-    pub instance: &'a Instance,
-    pub map: &'a DefectMap,
-    pub fronts: Fronts<'a>,
-}
 
 /// Where the next piece goes: the plate, and the step that begins it.
 #[derive(Clone, Copy)]
@@ -78,19 +68,19 @@ pub fn push_step(steps: &mut Run<Step>, step: Step) -> Result<(), Halt> {
 
 /// Whether an upright line runs through no defect of a plate.
 fn is_upright_clear(task: &Task<'_>, plate: u32, x: u32, low: u32, high: u32) -> bool {
-    low >= high || !task.map.crosses_x(plate, x, low, high)
+    low >= high || !task.ground.map.crosses_x(plate, x, low, high)
 }
 
 /// Whether a level line runs through no defect of a plate.
 fn is_level_clear(task: &Task<'_>, plate: u32, y: u32, left: u32, right: u32) -> bool {
-    left >= right || !task.map.crosses_y(plate, y, left, right)
+    left >= right || !task.ground.map.crosses_y(plate, y, left, right)
 }
 
 /// Whether an item that stands at this height in its cell meets no defect, and the line over or below it runs through none.
 fn is_item_clear(task: &Task<'_>, spot: &Spot, wide: u32, low: u32, high: u32, line: u32) -> bool {
     let at = &spot.step;
     let right = at.e.saturating_add(wide);
-    if at.e >= right || low >= high || task.map.hits(spot.plate, at.e, low, right, high) {
+    if at.e >= right || low >= high || task.ground.map.hits(spot.plate, at.e, low, right, high) {
         return false;
     }
     if line <= at.c || line >= at.d {
@@ -160,13 +150,13 @@ fn cut_cell(
     spot: &Spot,
 ) -> Result<bool, Halt> {
     let rows = task.fronts.rows;
-    let Some(stack) = stack_between(task.instance, rows, cell.from, cell.to, 0) else {
+    let Some(stack) = stack_between(task.ground.instance, rows, cell.from, cell.to, 0) else {
         return Ok(false);
     };
-    let Some(item) = due(task.instance, rows, cell.from, stack) else {
+    let Some(item) = due(task.ground.instance, rows, cell.from, stack) else {
         return Ok(false);
     };
-    let over = item_over(task.instance, rows, cell, stack);
+    let over = item_over(task.ground.instance, rows, cell, stack);
     let turn = turn_of(&item, cell.size);
     let high = height_of(&item, turn);
     let Some(lift) = lift_of(task, spot, cell.size, high, over.is_none()) else {
@@ -195,10 +185,10 @@ fn cut_cell(
 fn begin_behind(task: &Task<'_>, spot: &Spot, left: u32, wide: u32) -> Option<u32> {
     let at = &spot.step;
     let right = at.e.saturating_add(wide);
-    let least = left.saturating_add(task.instance.params().waste);
+    let least = left.saturating_add(task.ground.instance.params().waste);
     let mut found = None;
     let mut begin = u32::MAX;
-    for defect in task.instance.defects() {
+    for defect in task.ground.instance.defects() {
         if defect.plate == spot.plate
             && defect.x0 < right
             && at.e < defect.x1
@@ -219,7 +209,7 @@ fn begin_within(task: &Task<'_>, spot: &Spot, left: u32, wide: u32, spare: u32) 
     if begin > most {
         return None;
     }
-    if most - begin < task.instance.params().waste {
+    if most - begin < task.ground.instance.params().waste {
         return Some(most);
     }
     Some(begin)
@@ -294,19 +284,24 @@ fn cut_band(
     spot: Spot,
     choice: &mut u64,
 ) -> Result<bool, Halt>
-    requires pool { length pool.old ≡ length task.now.fronts.rows.now }
-    requires fronts { AreFronts task.now.instance.now task.now.fronts }
+    requires { length pool.old ≡ length task.now.fronts.rows.now }
     ensures { OnOk result (length pool.new ≡ length pool.old) }
 {
     let at = &spot.step;
     if band.from >= task.fronts.rows.len() {
         return Ok(false);
     }
-    let height = task.instance.params().height;
+    let height = task.ground.instance.params().height;
     if at.d < height && !is_level_clear(task, spot.plate, at.d, at.a, at.b) {
         return Ok(false);
     }
-    let _bands = bands_from(alloc, task.instance, task.fronts.rows, pool, band.from)?;
+    let _bands = bands_from(
+        alloc,
+        task.ground.instance,
+        task.fronts.rows,
+        pool,
+        band.from,
+    )?;
     let whole = Whole {
         of: Of::Cells,
         start: band.from,
@@ -330,8 +325,7 @@ fn cut_bands(
     spot: Spot,
     choice: &mut u64,
 ) -> Result<bool, Halt>
-    requires pool { length pool.old ≡ length task.now.fronts.rows.now }
-    requires fronts { AreFronts task.now.instance.now task.now.fronts }
+    requires { length pool.old ≡ length task.now.fronts.rows.now }
     ensures { OnOk result (length pool.new ≡ length pool.old) }
 {
     let mut at = spot;
@@ -348,10 +342,10 @@ fn cut_bands(
 
 /// Whether a side of a strip runs through no defect.
 fn is_side_clear(task: &Task<'_>, plate: u32, x: u32) -> bool {
-    if x == 0 || x >= task.instance.width(plate) {
+    if x == 0 || x >= task.ground.instance.width(plate) {
         return true;
     }
-    is_upright_clear(task, plate, x, 0, task.instance.params().height)
+    is_upright_clear(task, plate, x, 0, task.ground.instance.params().height)
 }
 
 /// The steps of a strip, where its bands and cells are found, clear of defects. `kind` is 0 where it begins a plate, else 1; `choice` says which of all bands and cells are
@@ -365,35 +359,29 @@ pub fn cut_strip(
     choice: u64,
 ) -> Result<Option<Run<Step>>, Halt>
     requires from { strip.now.from < length task.now.fronts.rows.now }
-    requires to { strip.now.to < strip.now.from }
     requires class { strip.now.class < length task.now.fronts.tops.now }
     requires pool { length pool.old ≡ length task.now.fronts.rows.now }
-    requires fronts { AreFronts task.now.instance.now task.now.fronts }
     ensures { OnOk result (length pool.new ≡ length pool.old) }
 {
     let plate = strip.end.plate;
     if !is_side_clear(task, plate, strip.left) || !is_side_clear(task, plate, strip.end.right) {
         return Ok(None);
     }
-    let begins = SizeSet::only(strip.left);
-    strips_between(
-        pool,
-        task.instance,
-        &task.fronts,
-        strip.from,
-        strip.to,
-        &begins,
-        &strip.end,
-        strip.class,
-    )?;
+    let between = Between {
+        from: strip.from,
+        begins: SizeSet::only(strip.left),
+        end: strip.end,
+    };
+    strips_between(pool, task, &between, strip.class)?;
     let whole = Whole {
         of: Of::Bands,
         start: strip.from,
-        along: task.instance.params().height,
+        along: task.ground.instance.params().height,
         across: strip.end.right.saturating_sub(strip.left),
     };
     let mut left = choice;
-    let Some(bands) = parts_of(alloc, pool, &task.fronts, &whole, strip.to, &mut left)? else {
+    let to = strip.end.row;
+    let Some(bands) = parts_of(alloc, pool, &task.fronts, &whole, to, &mut left)? else {
         return Ok(None);
     };
     let step = Step {

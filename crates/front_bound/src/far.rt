@@ -1,21 +1,19 @@
 //! What is to go from a row: the least width of strips to the last front.
 
-ghost use Rattle.std.specs.Prelude.{◌≡◌, ℕ, ◌+◌, ◌*◌, ◌<◌, ◌≤◌, length, slice_index_or, IfOk, OnOk};
-ghost use Rattle.front_bound.specs.inner.Lattice.{IsLattice};
-ghost use Rattle.front_bound.specs.inner.Levels.{IsToGo, list_at, to_go_at};
+ghost use Rattle.std.specs.Prelude.{◌≡◌, ℕ, ◌+◌, ◌<◌, ◌≤◌, length, slice_index_or, IfOk, OnOk};
+ghost use Rattle.front_bound.specs.inner.Levels.{to_go_at};
 ghost use Rattle.front_bound.specs.inner.Pools.{HeldAt};
-ghost use Rattle.front_bound.specs.inner.Ready.{Fitting, IsLeast, LeavesLeast, Opened, Ready};
+ghost use Rattle.front_bound.specs.inner.Ready.{Fitting, IsLeast, LeavesLeast};
 ghost use Rattle.front_bound.specs.inner.Sets.{Fits, Held};
 ghost use Rattle.front_bound.specs.inner.Tries.{Searchable};
 
+use crate::behind::Behind;
 use crate::ends::shift_of;
 use crate::halt::Halt;
 use crate::labels::Label;
 use crate::levels::{Level, to_go};
 use crate::pools::Pool;
-use crate::rows::Row;
 use crate::strips::{Limits, strips_from};
-use glass_base::Instance;
 
 /// More than there is to go from any front.
 pub const FAR: u64 = 1 << 40;
@@ -65,60 +63,55 @@ fn least_end(pool: &Pool, levels: &[Level], start: usize, height: u32) -> u64
 
 /// The least that strips of a class leave to go from a row, as far as they and that are within the limits; any number where none is.
 fn least_of_class(
-    instance: &Instance,
-    rows: &[Row],
-    levels: &[Level],
+    behind: &Behind<'_>,
     pool: &mut Pool,
     limits: &Limits,
-    start: usize,
     low: u32,
-    _cover: u64,
 ) -> Result<u64, Halt>
-    requires pool { start < length pool.old }
-    requires lattice { IsLattice instance.now rows.now }
-    requires searchable { Searchable rows.now levels.now limits.now start }
-    requires ready { Ready instance.now rows.now levels.now _cover (to_go_at levels.now) start }
-    requires fitting { Fitting instance.now limits.now _cover }
+    requires pool { behind.now.start < length pool.old }
+    requires searchable { Searchable behind.now.fronts.rows.now behind.now.fronts.levels.now limits.now behind.now.start }
+    requires fitting { Fitting behind.now.instance.now limits.now behind.now.fronts.cover }
     ensures len { OnOk result (length pool.new ≡ length pool.old) }
-    ensures least { IfOk result (IsLeast instance.now rows.now (to_go_at levels.now) start low limits.now.bound limits.now.most) }
+    ensures least { IfOk result (IsLeast behind.now.instance.now behind.now.fronts.rows.now (to_go_at behind.now.fronts.levels.now) behind.now.start low limits.now.bound limits.now.most) }
 {
-    let waste = instance.params().waste;
-    strips_from(pool, rows, levels, limits, start, low, waste)?;
-    Ok(least_end(pool, levels, start, limits.height))
+    let fronts = behind.fronts;
+    let waste = behind.instance.params().waste;
+    strips_from(
+        pool,
+        fronts.rows,
+        fronts.levels,
+        limits,
+        behind.start,
+        low,
+        waste,
+    )?;
+    Ok(least_end(pool, fronts.levels, behind.start, limits.height))
 }
 
 /// The same of the class of strips that end at this width.
 fn least_in_class(
-    instance: &Instance,
-    rows: &[Row],
-    tops: &[u32],
-    levels: &[Level],
+    behind: &Behind<'_>,
     pool: &mut Pool,
-    start: usize,
     class: usize,
     low: u32,
     most: u64,
-    cover: u64,
 ) -> Result<u64, Halt>
-    requires pool { start < length pool.old }
-    requires class { class < length tops.now }
-    requires lattice { IsLattice instance.now rows.now }
-    requires opened { Opened instance.now rows.now tops.now cover levels.now start }
-    requires cover { instance.now.params.max1 * instance.now.params.height ≤ cover }
+    requires pool { behind.now.start < length pool.old }
+    requires class { class < length behind.now.fronts.tops.now }
     ensures len { OnOk result (length pool.new ≡ length pool.old) }
-    ensures least { IfOk result (IsLeast instance.now rows.now (to_go_at levels.now) start low (slice_index_or tops.now class 0) most) }
+    ensures least { IfOk result (IsLeast behind.now.instance.now behind.now.fronts.rows.now (to_go_at behind.now.fronts.levels.now) behind.now.start low (slice_index_or behind.now.fronts.tops.now class 0) most) }
 {
-    let params = instance.params();
-    let top = tops[class];
+    let params = behind.instance.params();
+    let top = behind.fronts.tops[class];
     let limits = Limits {
         class,
         top,
         bound: top.min(params.max1),
         height: params.height,
         most,
-        shift: shift_of(cover),
+        shift: shift_of(behind.fronts.cover),
     };
-    let least = least_of_class(instance, rows, levels, pool, &limits, start, low, cover)?;
+    let least = least_of_class(behind, pool, &limits, low)?;
     Ok(least)
 }
 
@@ -136,64 +129,38 @@ pub fn low_of(tops: &[u32], class: usize, min1: u32) -> u32
 }
 
 /// What strips of one class leave to go from a row; any number where none is within the limit.
-fn least_hinted(
-    instance: &Instance,
-    rows: &[Row],
-    tops: &[u32],
-    levels: &[Level],
-    pool: &mut Pool,
-    start: usize,
-    class: usize,
-    limit: u64,
-    cover: u64,
-) -> Result<u64, Halt>
-    requires pool { start < length pool.old }
-    requires lattice { IsLattice instance.now rows.now }
-    requires opened { Opened instance.now rows.now tops.now cover levels.now start }
-    requires cover { instance.now.params.max1 * instance.now.params.height ≤ cover }
+fn least_hinted(behind: &Behind<'_>, pool: &mut Pool, class: usize, limit: u64) -> Result<u64, Halt>
+    requires { behind.now.start < length pool.old }
     ensures { OnOk result (length pool.new ≡ length pool.old) }
 {
-    if class >= tops.len() {
+    if class >= behind.fronts.tops.len() {
         return Ok(FAR);
     }
-    let low = low_of(tops, class, instance.params().min1);
-    let least = least_in_class(
-        instance, rows, tops, levels, pool, start, class, low, limit, cover,
-    )?;
+    let low = low_of(behind.fronts.tops, class, behind.instance.params().min1);
+    let least = least_in_class(behind, pool, class, low, limit)?;
     Ok(least)
 }
 
 /// The least that strips leave to go from a row, where it is no more than `limit`, else more than that. `hint` is the class in which a strip was found last: it is
 /// looked at first, since what is found there bounds the search in the others.
 fn least_strip(
-    instance: &Instance,
-    rows: &[Row],
-    tops: &[u32],
-    levels: &[Level],
+    behind: &Behind<'_>,
     pool: &mut Pool,
-    start: usize,
     limit: u64,
-    cover: u64,
     hint: &mut usize,
 ) -> Result<u64, Halt>
-    requires pool { start < length pool.old }
-    requires lattice { IsLattice instance.now rows.now }
-    requires opened { Opened instance.now rows.now tops.now cover levels.now start }
-    requires cover { instance.now.params.max1 * instance.now.params.height ≤ cover }
+    requires { behind.now.start < length pool.old }
     ensures len { OnOk result (length pool.new ≡ length pool.old) }
-    ensures least { IfOk result (LeavesLeast instance.now rows.now (to_go_at levels.now) start) }
+    ensures least { IfOk result (LeavesLeast behind.now.instance.now behind.now.fronts.rows.now (to_go_at behind.now.fronts.levels.now) behind.now.start) }
 {
-    let params = instance.params();
-    let first = least_hinted(
-        instance, rows, tops, levels, pool, start, *hint, limit, cover,
-    )?;
+    let params = behind.instance.params();
+    let tops = behind.fronts.tops;
+    let first = least_hinted(behind, pool, *hint, limit)?;
     let mut found = first;
     let mut low = params.min1;
     for class in 0..tops.len() {
         let most = limit.min(found.saturating_sub(1));
-        let least = least_in_class(
-            instance, rows, tops, levels, pool, start, class, low, most, cover,
-        )?;
+        let least = least_in_class(behind, pool, class, low, most)?;
         if least < found {
             *hint = class;
         }
@@ -211,34 +178,24 @@ fn least_strip(
 
 /// What is to go from a row at least, by growing limits: a search within a limit is the cheaper the lower that is.
 pub fn far_from(
-    instance: &Instance,
-    rows: &[Row],
-    tops: &[u32],
-    levels: &[Level],
+    behind: &Behind<'_>,
     pool: &mut Pool,
-    start: usize,
     base: u64,
-    cover: u64,
     hint: &mut usize,
 ) -> Result<u64, Halt>
-    requires pool { start < length pool.old }
-    requires lattice { IsLattice instance.now rows.now }
-    requires opened { Opened instance.now rows.now tops.now cover levels.now start }
-    requires cover { instance.now.params.max1 * instance.now.params.height ≤ cover }
+    requires { behind.now.start < length pool.old }
     ensures len { OnOk result (length pool.new ≡ length pool.old) }
-    ensures least { IfOk result (LeavesLeast instance.now rows.now (to_go_at levels.now) start) }
+    ensures least { IfOk result (LeavesLeast behind.now.instance.now behind.now.fronts.rows.now (to_go_at behind.now.fronts.levels.now) behind.now.start) }
 {
     let mut step = FIRST_STEP;
     for _ in 0..ROUNDS {
         let limit = base.saturating_add(step);
-        let least = least_strip(
-            instance, rows, tops, levels, pool, start, limit, cover, hint,
-        )?;
+        let least = least_strip(behind, pool, limit, hint)?;
         if least <= limit {
             return Ok(least);
         }
         step = step.saturating_mul(2);
     }
-    let least = least_strip(instance, rows, tops, levels, pool, start, FAR, cover, hint)?;
+    let least = least_strip(behind, pool, FAR, hint)?;
     Ok(least)
 }

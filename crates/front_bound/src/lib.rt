@@ -2,13 +2,15 @@
 #![tactic(auto)]
 
 mod bands;
+mod behind;
 pub mod bounds;
 mod building;
 mod course;
 mod cutting;
+mod ending;
 mod ends;
 mod far;
-mod ground;
+mod grid;
 mod halt;
 mod holes;
 mod keyed;
@@ -18,6 +20,8 @@ mod levels;
 pub mod losses;
 mod moves;
 mod nearby;
+mod onward;
+mod outset;
 mod parts;
 mod placed_bands;
 mod placed_cells;
@@ -34,6 +38,8 @@ mod sets;
 mod sides;
 mod slack;
 mod stairs;
+mod stretch;
 mod strips;
 mod table;
+mod task;
 pub mod watch;

@@ -5,21 +5,20 @@ ghost use Rattle.front_bound.specs.declared.labels.Label.{Label as LabelOf};
 ghost use Rattle.front_bound.specs.inner.Around.{IsClass, IsRoomy};
 ghost use Rattle.front_bound.specs.inner.Levels.{to_go_at};
 ghost use Rattle.front_bound.specs.inner.Pools.{Spreads};
-ghost use Rattle.front_bound.specs.inner.Ready.{AreFronts};
 ghost use Rattle.front_bound.specs.inner.Sides.{BeginGoesOn, ClassGoesOn};
 
-use crate::ground::{Ground, Site};
 use crate::halt::Halt;
 use crate::holes::holes_of;
 use crate::labels::Label;
+use crate::outset::Outset;
 use crate::placed_cells::Lists;
 use crate::placed_sides::offer_placed_ends;
 use crate::placed_strips::placed_from;
 use crate::pools::Pool;
 use crate::rows::Row;
+use crate::stretch::{Site, Stretch};
 use crate::strips::Limits;
-use crate::table::Fronts;
-use glass_base::{Defect, Instance};
+use glass_base::Defect;
 use std::alloc::Global;
 
 /// What is used again from row to row.
@@ -68,28 +67,24 @@ pub fn new_space(alloc: Global, rows: &[Row], limit: u64) -> Result<Space, Halt>
 
 /// Offers where the strips of a class end that begin behind one label, where defects are near; whether they are.
 fn place_begin(
-    instance: &Instance,
-    fronts: &Fronts<'_>,
+    outset: &Outset<'_>,
     space: &mut Space,
     sides: &mut Pool,
-    row: usize,
     begin: &Label,
     class: &Class,
-    most: u64,
 ) -> Result<bool, Halt>
-    requires row { row < length fronts.now.rows.now }
-    requires fronts { AreFronts instance.now fronts.now }
-    requires space { IsRoomy fronts.now.rows.now space.old }
-    requires sides { length sides.old ≡ length fronts.now.rows.now }
-    requires class { IsClass instance.now fronts.now class.now }
-    ensures space { OnOk result (IsRoomy fronts.now.rows.now space.new) }
+    requires space { IsRoomy outset.now.fronts.rows.now space.old }
+    requires sides { length sides.old ≡ length outset.now.fronts.rows.now }
+    requires class { IsClass outset.now.instance.now outset.now.fronts class.now }
+    ensures space { OnOk result (IsRoomy outset.now.fronts.rows.now space.new) }
     ensures clear { OnOk result (space.new.clear ≡ space.old.clear) }
-    ensures spreads { OnOk result (Spreads row sides.old sides.new) }
-    ensures goes_on { IfOk result (λ done. done ≡ true → ClassGoesOn instance.now fronts.now.rows.now (to_go_at fronts.now.levels.now) most sides.new row (begin.now ∷ []) class.now.plate class.now.low class.now.limits.top class.now.room class.now.limits.most) }
+    ensures spreads { OnOk result (Spreads outset.now.row sides.old sides.new) }
+    ensures goes_on { IfOk result (λ done. done ≡ true → ClassGoesOn outset.now.instance.now outset.now.fronts.rows.now (to_go_at outset.now.fronts.levels.now) outset.now.most sides.new outset.now.row (begin.now ∷ []) class.now.plate class.now.low class.now.limits.top class.now.room class.now.limits.most) }
 {
     if !begin.across.has(class.plate) {
         return Ok(true);
     }
+    let instance = outset.instance;
     let left = begin.along.least;
     holes_of(
         instance,
@@ -105,11 +100,11 @@ fn place_begin(
     holes_of(instance, &mut space.holes, class.plate, left, u32::MAX)?;
     let params = instance.params();
     let width = instance.width(class.plate);
-    let reach = most.saturating_sub(instance.before(class.plate));
+    let reach = outset.most.saturating_sub(instance.before(class.plate));
     let bound = class.limits.bound.min(width.saturating_sub(left));
-    let ground = Ground {
-        rows: fronts.rows,
-        levels: fronts.levels,
+    let stretch = Stretch {
+        rows: outset.fronts.rows,
+        levels: outset.fronts.levels,
         limits: Limits {
             class: class.limits.class,
             top: class.limits.top,
@@ -134,20 +129,17 @@ fn place_begin(
         &mut space.near,
         &mut space.cells,
         &mut space.lists,
-        &ground,
-        row,
+        &stretch,
+        outset.row,
         class.low,
     )?;
     offer_placed_ends(
-        instance,
+        outset,
         space.holes.as_slice(),
         sides,
         &space.near,
-        fronts.levels,
-        row,
         left,
         class.plate,
-        most,
     )?;
     Ok(true)
 }
@@ -168,27 +160,22 @@ fn keep_clear(clear: &mut Vec<Label>, begin: &Label, done: bool) -> Result<(), H
 
 /// Offers where the strips of a class end that begin near defects, and keeps the begins that are clear of them.
 pub fn place_begins(
-    instance: &Instance,
-    fronts: &Fronts<'_>,
+    outset: &Outset<'_>,
     space: &mut Space,
     sides: &mut Pool,
-    row: usize,
     begins: &[Label],
     class: &Class,
-    most: u64,
 ) -> Result<(), Halt>
-    requires row { row < length fronts.now.rows.now }
-    requires fronts { AreFronts instance.now fronts.now }
-    requires space { IsRoomy fronts.now.rows.now space.old }
-    requires sides { length sides.old ≡ length fronts.now.rows.now }
-    requires class { IsClass instance.now fronts.now class.now }
-    ensures space { OnOk result (IsRoomy fronts.now.rows.now space.new) }
-    ensures spreads { OnOk result (Spreads row sides.old sides.new) }
-    ensures goes_on { OnOk result ((k : ℕ) (d : LabelOf) → k < length begins.now → BeginGoesOn instance.now fronts.now.rows.now (to_go_at fronts.now.levels.now) most sides.new row space.new.clear.items (slice_index_or begins.now k d) class.now.plate class.now.low class.now.limits.top class.now.room class.now.limits.most) }
+    requires space { IsRoomy outset.now.fronts.rows.now space.old }
+    requires sides { length sides.old ≡ length outset.now.fronts.rows.now }
+    requires class { IsClass outset.now.instance.now outset.now.fronts class.now }
+    ensures space { OnOk result (IsRoomy outset.now.fronts.rows.now space.new) }
+    ensures spreads { OnOk result (Spreads outset.now.row sides.old sides.new) }
+    ensures goes_on { OnOk result ((k : ℕ) (d : LabelOf) → k < length begins.now → BeginGoesOn outset.now.instance.now outset.now.fronts.rows.now (to_go_at outset.now.fronts.levels.now) outset.now.most sides.new outset.now.row space.new.clear.items (slice_index_or begins.now k d) class.now.plate class.now.low class.now.limits.top class.now.room class.now.limits.most) }
 {
     space.clear.clear();
     for begin in begins {
-        let done = place_begin(instance, fronts, space, sides, row, begin, class, most)?;
+        let done = place_begin(outset, space, sides, begin, class)?;
         keep_clear(&mut space.clear, begin, done)?;
     }
     Ok(())

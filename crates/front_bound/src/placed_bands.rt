@@ -5,36 +5,37 @@ ghost use Rattle.front_bound.specs.declared.keyed.Keyed.{Keyed as KeyedOf};
 ghost use Rattle.front_bound.specs.inner.Ends.{Falls};
 ghost use Rattle.front_bound.specs.inner.Levels.{ends_at};
 ghost use Rattle.front_bound.specs.inner.Lists.{Rises};
-ghost use Rattle.front_bound.specs.inner.Placed.{BandJoined, EntryJoined, IsSlack, MoveJoined, RunJoined, RunsJoined};
+ghost use Rattle.front_bound.specs.inner.Placed.{BandJoined, EntryJoined, MoveJoined, RunJoined, RunsJoined};
 ghost use Rattle.front_bound.specs.inner.Pools.{Spreads, row_at};
 
 use crate::bands::band_of;
 use crate::ends::{is_beyond, near};
-use crate::ground::Ground;
 use crate::halt::Halt;
 use crate::keyed::{Keyed, entry_at, key_at};
 use crate::labels::Label;
 use crate::levels::{band_at, ends_of};
 use crate::moves::Move;
+use crate::onward::Onward;
 use crate::pools::Pool;
 use crate::rows::waste_left;
+use crate::stretch::Stretch;
 use crate::strips::glass_above;
 
 /// Goes on from a label by a band, where the strip can still end near enough.
 fn join_band(
     pool: &mut Pool,
-    ground: &Ground<'_>,
+    stretch: &Stretch<'_>,
     label: &Label,
     to: usize,
     band: &Label,
 ) -> Result<(), Halt>
     requires pool { to < length pool.old }
-    requires levels { to < length ground.now.levels.now }
-    requires falls { Falls (ends_at ground.now.levels.now to) }
+    requires levels { to < length stretch.now.levels.now }
+    requires falls { Falls (ends_at stretch.now.levels.now to) }
     ensures spreads { OnOk result (Spreads (to + 1) pool.old pool.new) }
-    ensures joined { OnOk result (BandJoined ground.now pool.new label.now to band.now) }
+    ensures joined { OnOk result (BandJoined stretch.now pool.new label.now to band.now) }
 {
-    let limits = ground.limits;
+    let limits = stretch.limits;
     if band.up > limits.height {
         return Ok(());
     }
@@ -51,14 +52,14 @@ fn join_band(
     }
     let right = label.right.max(band.right);
     let end = u64::from(right);
-    if end > ground.reach {
+    if end > stretch.reach {
         return Ok(());
     }
     let free = glass_above(limits.bound, limits.height, band.up);
-    let within = (limits.most - wide).min(ground.reach - end);
+    let within = (limits.most - wide).min(stretch.reach - end);
     if is_beyond(
-        ends_of(ground.levels, to),
-        ground.limits.shift,
+        ends_of(stretch.levels, to),
+        stretch.limits.shift,
         free,
         within,
     ) {
@@ -74,76 +75,53 @@ fn join_band(
     Ok(())
 }
 
-/// Goes on from a label of a row by the band that a run of cells makes, where it leaves no more than this.
-fn join_run(
-    pool: &mut Pool,
-    ground: &Ground<'_>,
-    row: usize,
-    label: &Label,
-    slack: u64,
-    to: usize,
-    cells: &Label,
-) -> Result<(), Halt>
+/// Goes on from a label of a row by the band that a run of cells makes, where it leaves no more than it may.
+fn join_run(pool: &mut Pool, onward: &Onward<'_>, to: usize, cells: &Label) -> Result<(), Halt>
     requires pool { to < length pool.old }
-    requires levels { to < length ground.now.levels.now }
-    requires falls { Falls (ends_at ground.now.levels.now to) }
-    requires slack { IsSlack ground.now row label.now slack }
+    requires levels { to < length onward.now.stretch.now.levels.now }
+    requires falls { Falls (ends_at onward.now.stretch.now.levels.now to) }
     ensures spreads { OnOk result (Spreads (to + 1) pool.old pool.new) }
-    ensures joined { OnOk result (RunJoined ground.now pool.new row label.now to cells.now) }
+    ensures joined { OnOk result (RunJoined onward.now.stretch.now pool.new onward.now.row onward.now.label.now to cells.now) }
 {
-    let mut band = band_of(cells, ground.site.waste);
-    let waste = waste_left(ground.rows, row, to, ground.limits.top, band.along.least);
-    if waste > slack {
+    let stretch = onward.stretch;
+    let label = onward.label;
+    let mut band = band_of(cells, stretch.site.waste);
+    let top = stretch.limits.top;
+    let waste = waste_left(stretch.rows, onward.row, to, top, band.along.least);
+    if waste > onward.slack {
         return Ok(());
     }
     band.up = band.up.max(label.up.saturating_add(band.along.least));
-    join_band(pool, ground, label, to, &band)?;
+    join_band(pool, stretch, label, to, &band)?;
     Ok(())
 }
 
 /// The same of each run of cells to a row.
-fn join_runs(
-    pool: &mut Pool,
-    ground: &Ground<'_>,
-    row: usize,
-    label: &Label,
-    slack: u64,
-    to: usize,
-    runs: &[Label],
-) -> Result<(), Halt>
+fn join_runs(pool: &mut Pool, onward: &Onward<'_>, to: usize, runs: &[Label]) -> Result<(), Halt>
     requires pool { to < length pool.old }
-    requires levels { to < length ground.now.levels.now }
-    requires falls { Falls (ends_at ground.now.levels.now to) }
-    requires slack { IsSlack ground.now row label.now slack }
+    requires levels { to < length onward.now.stretch.now.levels.now }
+    requires falls { Falls (ends_at onward.now.stretch.now.levels.now to) }
     ensures spreads { OnOk result (Spreads (to + 1) pool.old pool.new) }
-    ensures joined { OnOk result (RunsJoined ground.now pool.new row label.now to runs.now) }
+    ensures joined { OnOk result (RunsJoined onward.now.stretch.now pool.new onward.now.row onward.now.label.now to runs.now) }
 {
     for cells in runs {
-        join_run(pool, ground, row, label, slack, to, cells)?;
+        join_run(pool, onward, to, cells)?;
     }
     Ok(())
 }
 
 /// The same of each row that cells lead to.
-pub fn join_rows(
-    pool: &mut Pool,
-    ground: &Ground<'_>,
-    row: usize,
-    label: &Label,
-    slack: u64,
-    cells: &Pool,
-) -> Result<(), Halt>
-    requires pool { row < length pool.old }
-    requires cells { row < length cells.now }
-    requires levels { row < length ground.now.levels.now }
-    requires falls { (n : ℕ) → n ≤ row → Falls (ends_at ground.now.levels.now n) }
-    requires slack { IsSlack ground.now row label.now slack }
-    ensures spreads { OnOk result (Spreads row pool.old pool.new) }
-    ensures joined { OnOk result ((to : ℕ) → to < row → RunsJoined ground.now pool.new row label.now to (row_at cells.now to)) }
+pub fn join_rows(pool: &mut Pool, onward: &Onward<'_>, cells: &Pool) -> Result<(), Halt>
+    requires pool { onward.now.row < length pool.old }
+    requires cells { onward.now.row < length cells.now }
+    requires levels { onward.now.row < length onward.now.stretch.now.levels.now }
+    requires falls { (n : ℕ) → n ≤ onward.now.row → Falls (ends_at onward.now.stretch.now.levels.now n) }
+    ensures spreads { OnOk result (Spreads onward.now.row pool.old pool.new) }
+    ensures joined { OnOk result ((to : ℕ) → to < onward.now.row → RunsJoined onward.now.stretch.now pool.new onward.now.row onward.now.label.now to (row_at cells.now to)) }
 {
     let low = cells.low();
-    for to in low..row {
-        join_runs(pool, ground, row, label, slack, to, cells.labels(to))?;
+    for to in low..onward.row {
+        join_runs(pool, onward, to, cells.labels(to))?;
     }
     Ok(())
 }
@@ -151,16 +129,16 @@ pub fn join_rows(
 /// Goes on from a label of a row by a band that no defect is in the way of.
 fn join_move(
     pool: &mut Pool,
-    ground: &Ground<'_>,
+    stretch: &Stretch<'_>,
     row: usize,
     label: &Label,
     band: &Move,
 ) -> Result<(), Halt>
     requires pool { row < length pool.old }
-    requires levels { row < length ground.now.levels.now }
-    requires falls { (n : ℕ) → n ≤ row → Falls (ends_at ground.now.levels.now n) }
+    requires levels { row < length stretch.now.levels.now }
+    requires falls { (n : ℕ) → n ≤ row → Falls (ends_at stretch.now.levels.now n) }
     ensures spreads { OnOk result (Spreads row pool.old pool.new) }
-    ensures joined { OnOk result (MoveJoined ground.now pool.new row label.now band.now) }
+    ensures joined { OnOk result (MoveJoined stretch.now pool.new row label.now band.now) }
 {
     let to = band.to as usize;
     if to >= row {
@@ -172,53 +150,46 @@ fn join_move(
         right: 0,
         up: label.up.saturating_add(band.label.along.least),
     };
-    join_band(pool, ground, label, to, &raised)?;
+    join_band(pool, stretch, label, to, &raised)?;
     Ok(())
 }
 
 /// The same of the band at a place.
 fn join_entry(
     pool: &mut Pool,
-    ground: &Ground<'_>,
+    stretch: &Stretch<'_>,
     row: usize,
     label: &Label,
     place: u32,
 ) -> Result<(), Halt>
     requires pool { row < length pool.old }
-    requires levels { row < length ground.now.levels.now }
-    requires falls { (n : ℕ) → n ≤ row → Falls (ends_at ground.now.levels.now n) }
+    requires levels { row < length stretch.now.levels.now }
+    requires falls { (n : ℕ) → n ≤ row → Falls (ends_at stretch.now.levels.now n) }
     ensures spreads { OnOk result (Spreads row pool.old pool.new) }
-    ensures joined { OnOk result (EntryJoined ground.now pool.new row label.now place) }
+    ensures joined { OnOk result (EntryJoined stretch.now pool.new row label.now place) }
 {
-    let Some(band) = band_at(ground.levels, row, place) else {
+    let Some(band) = band_at(stretch.levels, row, place) else {
         return Ok(());
     };
-    join_move(pool, ground, row, label, &band)?;
+    join_move(pool, stretch, row, label, &band)?;
     Ok(())
 }
 
-/// The same of each band of a list that leaves no more than this.
-pub fn join_list(
-    pool: &mut Pool,
-    ground: &Ground<'_>,
-    row: usize,
-    label: &Label,
-    slack: u64,
-    list: &[Keyed],
-) -> Result<(), Halt>
-    requires pool { row < length pool.old }
-    requires levels { row < length ground.now.levels.now }
-    requires falls { (n : ℕ) → n ≤ row → Falls (ends_at ground.now.levels.now n) }
+/// The same of each band of a list that leaves no more than it may.
+pub fn join_list(pool: &mut Pool, onward: &Onward<'_>, list: &[Keyed]) -> Result<(), Halt>
+    requires pool { onward.now.row < length pool.old }
+    requires levels { onward.now.row < length onward.now.stretch.now.levels.now }
+    requires falls { (n : ℕ) → n ≤ onward.now.row → Falls (ends_at onward.now.stretch.now.levels.now n) }
     requires rises { Rises list.now }
-    ensures spreads { OnOk result (Spreads row pool.old pool.new) }
-    ensures joined { OnOk result ((e : KeyedOf) → Contains list.now e → e.key ≤ slack → EntryJoined ground.now pool.new row label.now e.place) }
+    ensures spreads { OnOk result (Spreads onward.now.row pool.old pool.new) }
+    ensures joined { OnOk result ((e : KeyedOf) → Contains list.now e → e.key ≤ onward.now.slack → EntryJoined onward.now.stretch.now pool.new onward.now.row onward.now.label.now e.place) }
 {
     for at in 0..list.len() {
-        if u64::from(key_at(list, at)) > slack {
+        if u64::from(key_at(list, at)) > onward.slack {
             return Ok(());
         }
         let entry = entry_at(list, at);
-        join_entry(pool, ground, row, label, entry.place)?;
+        join_entry(pool, onward.stretch, onward.row, onward.label, entry.place)?;
     }
     Ok(())
 }

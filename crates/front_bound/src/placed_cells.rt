@@ -7,7 +7,6 @@ ghost use Rattle.front_bound.specs.inner.Placed.{CellJoined, CellsGoOn, CellsPla
 ghost use Rattle.front_bound.specs.inner.Pools.{Spreads, row_at};
 ghost use Rattle.front_bound.specs.inner.Sets.{Fits, HeldTo};
 
-use crate::ground::{Ground, Sought};
 use crate::halt::Halt;
 use crate::labels::Label;
 use crate::moves::Move;
@@ -15,6 +14,7 @@ use crate::places::{Piece, Place, least_places};
 use crate::pools::Pool;
 use crate::rows::{area_left, glass_of, moves_of};
 use crate::sets::SizeSet;
+use crate::stretch::{Sought, Stretch};
 
 /// Lists of places that are used again.
 #[derive(Drop)]
@@ -64,13 +64,13 @@ fn join_places(
 }
 
 /// Whether cells that lead to a row, at least so wide in a band at least so high, leave more beside and over them than the band may.
-fn is_wasteful(ground: &Ground<'_>, sought: &Sought, to: usize, wide: u32, high: u32) -> bool
-    ensures { IsTrue result → (x y : ℕ) → wide ≤ x → high ≤ y → IsLean ground.now sought.now to x y → ⊥ }
+fn is_wasteful(stretch: &Stretch<'_>, sought: &Sought, to: usize, wide: u32, high: u32) -> bool
+    ensures { IsTrue result → (x y : ℕ) → wide ≤ x → high ≤ y → IsLean stretch.now sought.now to x y → ⊥ }
 {
-    let used = glass_of(wide, high).saturating_add(area_left(ground.rows, to));
+    let used = glass_of(wide, high).saturating_add(area_left(stretch.rows, to));
     let most = sought
         .slack
-        .saturating_add(area_left(ground.rows, sought.start));
+        .saturating_add(area_left(stretch.rows, sought.start));
     if used > most {
         return true;
     }
@@ -81,16 +81,16 @@ fn is_wasteful(ground: &Ground<'_>, sought: &Sought, to: usize, wide: u32, high:
 fn join_cell(
     pool: &mut Pool,
     lists: &mut Lists,
-    ground: &Ground<'_>,
+    stretch: &Stretch<'_>,
     sought: &Sought,
     label: &Label,
     cell: &Move,
 ) -> Result<(), Halt>
     requires { cell.now.to < length pool.old }
     ensures spreads { OnOk result (Spreads (cell.now.to + 1) pool.old pool.new) }
-    ensures joined { OnOk result (CellJoined ground.now sought.now pool.new label.now cell.now) }
+    ensures joined { OnOk result (CellJoined stretch.now sought.now pool.new label.now cell.now) }
 {
-    let site = ground.site;
+    let site = stretch.site;
     let Some(sum) = label.along.plus(&cell.label.along, site.widest) else {
         return Ok(());
     };
@@ -102,7 +102,7 @@ fn join_cell(
     if top > site.height {
         return Ok(());
     }
-    if is_wasteful(ground, sought, cell.to as usize, sum.least, shared.least) {
+    if is_wasteful(stretch, sought, cell.to as usize, sum.least, shared.least) {
         return Ok(());
     }
     let piece = Piece {
@@ -114,7 +114,7 @@ fn join_cell(
     least_places(
         &mut lists.found,
         &mut lists.next,
-        ground.holes,
+        stretch.holes,
         &piece,
         label.right,
         sought.low,
@@ -139,7 +139,7 @@ fn join_cell(
 fn join_cells(
     pool: &mut Pool,
     lists: &mut Lists,
-    ground: &Ground<'_>,
+    stretch: &Stretch<'_>,
     sought: &Sought,
     row: usize,
     label: &Label,
@@ -148,10 +148,10 @@ fn join_cells(
     requires row { row ≤ length pool.old }
     requires down { All (λ m. m.to < row) cells.now }
     ensures spreads { OnOk result (Spreads row pool.old pool.new) }
-    ensures joined { OnOk result (All (CellJoined ground.now sought.now pool.new label.now) cells.now) }
+    ensures joined { OnOk result (All (CellJoined stretch.now sought.now pool.new label.now) cells.now) }
 {
     for cell in cells {
-        join_cell(pool, lists, ground, sought, label, cell)?;
+        join_cell(pool, lists, stretch, sought, label, cell)?;
     }
     Ok(())
 }
@@ -160,7 +160,7 @@ fn join_cells(
 fn grow_cells(
     pool: &mut Pool,
     lists: &mut Lists,
-    ground: &Ground<'_>,
+    stretch: &Stretch<'_>,
     sought: &Sought,
     row: usize,
     cells: &[Move],
@@ -168,11 +168,11 @@ fn grow_cells(
     requires row { row < length pool.old }
     requires down { All (λ m. m.to < row) cells.now }
     ensures spreads { OnOk result (Spreads row pool.old pool.new) }
-    ensures goes_on { OnOk result (CellsGoOn ground.now sought.now pool.new row cells.now) }
+    ensures goes_on { OnOk result (CellsGoOn stretch.now sought.now pool.new row cells.now) }
 {
     for at in 0..pool.labels(row).len() {
         let label = pool.label(row, at);
-        join_cells(pool, lists, ground, sought, row, &label, cells)?;
+        join_cells(pool, lists, stretch, sought, row, &label, cells)?;
     }
     Ok(())
 }
@@ -181,14 +181,14 @@ fn grow_cells(
 fn spread_cells(
     pool: &mut Pool,
     lists: &mut Lists,
-    ground: &Ground<'_>,
+    stretch: &Stretch<'_>,
     sought: &Sought,
 ) -> Result<(), Halt>
-    requires start { sought.now.start < length ground.now.rows.now }
-    requires pool { length pool.old ≡ length ground.now.rows.now }
-    requires down { LeadDown ground.now.rows.now }
+    requires start { sought.now.start < length stretch.now.rows.now }
+    requires pool { length pool.old ≡ length stretch.now.rows.now }
+    requires down { LeadDown stretch.now.rows.now }
     ensures spreads { OnOk result (Spreads sought.now.start pool.old pool.new) }
-    ensures goes_on { OnOk result ((n : ℕ) → n ≤ sought.now.start → CellsGoOn ground.now sought.now pool.new n (moves_at ground.now.rows.now n)) }
+    ensures goes_on { OnOk result ((n : ℕ) → n ≤ sought.now.start → CellsGoOn stretch.now sought.now pool.new n (moves_at stretch.now.rows.now n)) }
 {
     let start = sought.start;
     for done in 0..start + 1 {
@@ -197,7 +197,14 @@ fn spread_cells(
         if row < low {
             return Ok(());
         }
-        grow_cells(pool, lists, ground, sought, row, moves_of(ground.rows, row))?;
+        grow_cells(
+            pool,
+            lists,
+            stretch,
+            sought,
+            row,
+            moves_of(stretch.rows, row),
+        )?;
     }
     Ok(())
 }
@@ -206,29 +213,29 @@ fn spread_cells(
 pub fn cells_from(
     pool: &mut Pool,
     lists: &mut Lists,
-    ground: &Ground<'_>,
+    stretch: &Stretch<'_>,
     sought: &Sought,
 ) -> Result<(), Halt>
-    requires start { sought.now.start < length ground.now.rows.now }
-    requires pool { length pool.old ≡ length ground.now.rows.now }
-    requires down { LeadDown ground.now.rows.now }
+    requires start { sought.now.start < length stretch.now.rows.now }
+    requires pool { length pool.old ≡ length stretch.now.rows.now }
+    requires down { LeadDown stretch.now.rows.now }
     ensures len { OnOk result (length pool.new ≡ length pool.old) }
-    ensures placed { OnOk result (CellsPlaced ground.now sought.now pool.new) }
+    ensures placed { OnOk result (CellsPlaced stretch.now sought.now pool.new) }
 {
     pool.clear();
     let none = Label {
         along: SizeSet {
             least: 0,
-            more: ground.site.waste,
+            more: stretch.site.waste,
         },
         across: SizeSet {
-            least: ground.site.least,
+            least: stretch.site.least,
             more: 0,
         },
-        right: ground.site.left,
+        right: stretch.site.left,
         up: 0,
     };
     pool.offer(sought.start, &none)?;
-    spread_cells(pool, lists, ground, sought)?;
+    spread_cells(pool, lists, stretch, sought)?;
     Ok(())
 }

@@ -5,31 +5,30 @@ ghost use Rattle.front_bound.specs.inner.Clear.{EndsPlaced};
 ghost use Rattle.front_bound.specs.inner.Levels.{to_go_at};
 ghost use Rattle.front_bound.specs.inner.Pools.{Spreads, row_at};
 
+use crate::ending::Ending;
 use crate::halt::Halt;
 use crate::holes::past;
 use crate::labels::Label;
-use crate::levels::{Level, to_go};
+use crate::levels::to_go;
+use crate::outset::Outset;
 use crate::pools::Pool;
 use crate::sets::SizeSet;
-use glass_base::{Defect, Instance};
+use glass_base::Defect;
 
 /// Offers the right sides of the strips that a label stands for, behind `begin`.
 fn offer_placed(
-    instance: &Instance,
+    ending: &Ending<'_>,
     holes: &[Defect],
     sides: &mut Pool,
-    row: usize,
     begin: u32,
     strip: &Label,
-    plate: u32,
-    far: u64,
-    most: u64,
 ) -> Result<(), Halt>
-    requires row { row < length sides.old }
-    requires plate { plate ≤ 1000 }
-    ensures spreads { OnOk result (Spreads (row + 1) sides.old sides.new) }
-    ensures held { OnOk result (EndsPlaced instance.now holes.now far most sides.new row plate begin (strip.now ∷ [])) }
+    requires { ending.now.row < length sides.old }
+    ensures spreads { OnOk result (Spreads (ending.now.row + 1) sides.old sides.new) }
+    ensures held { OnOk result (EndsPlaced ending.now.instance.now holes.now ending.now.far ending.now.most sides.new ending.now.row ending.now.plate begin (strip.now ∷ [])) }
 {
+    let instance = ending.instance;
+    let plate = ending.plate;
     let params = instance.params();
     if !strip.along.has(params.height) {
         return Ok(());
@@ -43,8 +42,8 @@ fn offer_placed(
     let end = instance
         .before(plate)
         .saturating_add(u64::from(side))
-        .saturating_add(far);
-    if end > most {
+        .saturating_add(ending.far);
+    if end > ending.most {
         return Ok(());
     }
     let offered = Label {
@@ -56,66 +55,54 @@ fn offer_placed(
         right: 0,
         up: 0,
     };
-    sides.offer(row, &offered)?;
+    sides.offer(ending.row, &offered)?;
     Ok(())
 }
 
 /// The same of each label.
 fn offer_all_placed(
-    instance: &Instance,
+    ending: &Ending<'_>,
     holes: &[Defect],
     sides: &mut Pool,
-    row: usize,
     begin: u32,
     strips: &[Label],
-    plate: u32,
-    far: u64,
-    most: u64,
 ) -> Result<(), Halt>
-    requires row { row < length sides.old }
-    requires plate { plate ≤ 1000 }
-    ensures spreads { OnOk result (Spreads (row + 1) sides.old sides.new) }
-    ensures held { OnOk result (EndsPlaced instance.now holes.now far most sides.new row plate begin strips.now) }
+    requires { ending.now.row < length sides.old }
+    ensures spreads { OnOk result (Spreads (ending.now.row + 1) sides.old sides.new) }
+    ensures held { OnOk result (EndsPlaced ending.now.instance.now holes.now ending.now.far ending.now.most sides.new ending.now.row ending.now.plate begin strips.now) }
 {
     for strip in strips {
-        offer_placed(instance, holes, sides, row, begin, strip, plate, far, most)?;
+        offer_placed(ending, holes, sides, begin, strip)?;
     }
     Ok(())
 }
 
 /// Offers the right sides of all strips of a search.
 pub fn offer_placed_ends(
-    instance: &Instance,
+    outset: &Outset<'_>,
     holes: &[Defect],
     sides: &mut Pool,
     pool: &Pool,
-    levels: &[Level],
-    start: usize,
     begin: u32,
     plate: u32,
-    most: u64,
 ) -> Result<(), Halt>
-    requires sides { start < length sides.old }
-    requires pool { start < length pool.now }
-    requires levels { start < length levels.now }
+    requires sides { outset.now.row < length sides.old }
+    requires pool { outset.now.row < length pool.now }
     requires plate { plate ≤ 1000 }
-    ensures spreads { OnOk result (Spreads start sides.old sides.new) }
-    ensures held { OnOk result ((m : ℕ) → m < start → EndsPlaced instance.now holes.now (to_go_at levels.now m) most sides.new m plate begin (row_at pool.now m)) }
+    ensures spreads { OnOk result (Spreads outset.now.row sides.old sides.new) }
+    ensures held { OnOk result ((m : ℕ) → m < outset.now.row → EndsPlaced outset.now.instance.now holes.now (to_go_at outset.now.fronts.levels.now m) outset.now.most sides.new m plate begin (row_at pool.now m)) }
 {
     let low = pool.low();
-    for row in low..start {
-        let far = to_go(levels, row);
-        offer_all_placed(
-            instance,
-            holes,
-            sides,
-            row,
-            begin,
-            pool.labels(row),
+    for row in low..outset.row {
+        let far = to_go(outset.fronts.levels, row);
+        let ending = Ending {
+            instance: outset.instance,
             plate,
+            row,
             far,
-            most,
-        )?;
+            most: outset.most,
+        };
+        offer_all_placed(&ending, holes, sides, begin, pool.labels(row))?;
     }
     Ok(())
 }

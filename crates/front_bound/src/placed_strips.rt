@@ -1,41 +1,42 @@
 //! The search for strips whose items have places around defects.
 
 ghost use Rattle.std.specs.Prelude.{◌≡◌, ℕ, ◌+◌, ◌<◌, ◌≤◌, ◌⊎◌, IfOk, IfSome, OnOk, length};
-ghost use Rattle.front_bound.specs.inner.Placed.{AreCells, Extended, IsGround, IsSlack, RowPlaced};
+ghost use Rattle.front_bound.specs.inner.Placed.{AreCells, Extended, IsStretch, RowPlaced};
 ghost use Rattle.front_bound.specs.inner.Pools.{Spreads, row_at};
 ghost use Rattle.front_bound.specs.inner.Sets.{HeldTo};
 
-use crate::ground::{Ground, Sought};
 use crate::halt::Halt;
 use crate::labels::Label;
 use crate::levels::list_of;
+use crate::onward::Onward;
 use crate::placed_bands::{join_list, join_rows};
 use crate::placed_cells::{Lists, cells_from};
 use crate::pools::Pool;
 use crate::sets::SizeSet;
 use crate::slack::{most_slack, slack_of};
+use crate::stretch::{Sought, Stretch};
 use glass_base::Defect;
 
 /// Cells above a label that leave no more than this: those that were made before, where they serve, or all anew, for all labels that reach up as far.
 fn cells_above(
     cells: &mut Pool,
     lists: &mut Lists,
-    ground: &Ground<'_>,
-    row: usize,
+    onward: &Onward<'_>,
     labels: &[Label],
-    up: u32,
-    slack: u64,
     made: Option<Sought>,
 ) -> Result<Sought, Halt>
-    requires row { row < length ground.now.rows.now }
-    requires cells { length cells.old ≡ length ground.now.rows.now }
-    requires ground { IsGround ground.now }
-    requires made { IfSome made (AreCells ground.now row cells.old) }
+    requires cells { length cells.old ≡ length onward.now.stretch.now.rows.now }
+    requires stretch { IsStretch onward.now.stretch.now }
+    requires made { IfSome made (AreCells onward.now.stretch.now onward.now.row cells.old) }
     ensures len { OnOk result (length cells.new ≡ length cells.old) }
-    ensures are { IfOk result (AreCells ground.now row cells.new) }
-    ensures low { IfOk result (λ s. s.low ≤ up) }
-    ensures slack { IfOk result (λ s. slack ≤ s.slack) }
+    ensures are { IfOk result (AreCells onward.now.stretch.now onward.now.row cells.new) }
+    ensures low { IfOk result (λ s. s.low ≤ onward.now.label.now.up) }
+    ensures slack { IfOk result (λ s. onward.now.slack ≤ s.slack) }
 {
+    let stretch = onward.stretch;
+    let row = onward.row;
+    let up = onward.label.up;
+    let slack = onward.slack;
     match made {
         Some(old) => {
             if old.low == up && slack <= old.slack {
@@ -47,9 +48,9 @@ fn cells_above(
     let sought = Sought {
         start: row,
         low: up,
-        slack: most_slack(ground, row, labels, up, slack),
+        slack: most_slack(stretch, row, labels, up, slack),
     };
-    cells_from(cells, lists, ground, &sought)?;
+    cells_from(cells, lists, stretch, &sought)?;
     Ok(sought)
 }
 
@@ -64,22 +65,15 @@ fn is_below(holes: &[Defect], low: u32) -> bool {
 }
 
 /// Goes on from a label of a row by each band from there on.
-fn extend_freely(
-    pool: &mut Pool,
-    ground: &Ground<'_>,
-    row: usize,
-    label: &Label,
-    slack: u64,
-) -> Result<(), Halt>
-    requires pool { row < length pool.old }
-    requires levels { row < length ground.now.levels.now }
-    requires ground { IsGround ground.now }
-    requires slack { IsSlack ground.now row label.now slack }
-    ensures spreads { OnOk result (Spreads row pool.old pool.new) }
-    ensures extended { OnOk result (Extended ground.now pool.new row label.now) }
+fn extend_freely(pool: &mut Pool, onward: &Onward<'_>) -> Result<(), Halt>
+    requires pool { onward.now.row < length pool.old }
+    requires stretch { IsStretch onward.now.stretch.now }
+    ensures spreads { OnOk result (Spreads onward.now.row pool.old pool.new) }
+    ensures extended { OnOk result (Extended onward.now.stretch.now pool.new onward.now.row onward.now.label.now) }
 {
-    let list = list_of(ground.levels, row, ground.limits.class);
-    join_list(pool, ground, row, label, slack, list)?;
+    let stretch = onward.stretch;
+    let list = list_of(stretch.levels, onward.row, stretch.limits.class);
+    join_list(pool, onward, list)?;
     Ok(())
 }
 
@@ -88,34 +82,20 @@ fn extend_around(
     pool: &mut Pool,
     cells: &mut Pool,
     lists: &mut Lists,
-    ground: &Ground<'_>,
-    row: usize,
-    label: &Label,
-    slack: u64,
+    onward: &Onward<'_>,
     made: Option<Sought>,
 ) -> Result<Sought, Halt>
-    requires pool { row < length pool.old }
-    requires row { row < length ground.now.rows.now }
-    requires cells { length cells.old ≡ length ground.now.rows.now }
-    requires ground { IsGround ground.now }
-    requires slack { IsSlack ground.now row label.now slack }
-    requires made { IfSome made (AreCells ground.now row cells.old) }
+    requires pool { onward.now.row < length pool.old }
+    requires cells { length cells.old ≡ length onward.now.stretch.now.rows.now }
+    requires stretch { IsStretch onward.now.stretch.now }
+    requires made { IfSome made (AreCells onward.now.stretch.now onward.now.row cells.old) }
     ensures len { OnOk result (length cells.new ≡ length cells.old) }
-    ensures are { IfOk result (AreCells ground.now row cells.new) }
-    ensures spreads { OnOk result (Spreads row pool.old pool.new) }
-    ensures extended { OnOk result (Extended ground.now pool.new row label.now) }
+    ensures are { IfOk result (AreCells onward.now.stretch.now onward.now.row cells.new) }
+    ensures spreads { OnOk result (Spreads onward.now.row pool.old pool.new) }
+    ensures extended { OnOk result (Extended onward.now.stretch.now pool.new onward.now.row onward.now.label.now) }
 {
-    let sought = cells_above(
-        cells,
-        lists,
-        ground,
-        row,
-        pool.labels(row),
-        label.up,
-        slack,
-        made,
-    )?;
-    join_rows(pool, ground, row, label, slack, cells)?;
+    let sought = cells_above(cells, lists, onward, pool.labels(onward.row), made)?;
+    join_rows(pool, onward, cells)?;
     Ok(sought)
 }
 
@@ -124,30 +104,36 @@ fn extend(
     pool: &mut Pool,
     cells: &mut Pool,
     lists: &mut Lists,
-    ground: &Ground<'_>,
+    stretch: &Stretch<'_>,
     row: usize,
     label: &Label,
     made: Option<Sought>,
 ) -> Result<Option<Sought>, Halt>
     requires pool { row < length pool.old }
-    requires row { row < length ground.now.rows.now }
-    requires cells { length cells.old ≡ length ground.now.rows.now }
-    requires ground { IsGround ground.now }
-    requires made { IfSome made (AreCells ground.now row cells.old) }
+    requires row { row < length stretch.now.rows.now }
+    requires cells { length cells.old ≡ length stretch.now.rows.now }
+    requires stretch { IsStretch stretch.now }
+    requires made { IfSome made (AreCells stretch.now row cells.old) }
     ensures len { OnOk result (length cells.new ≡ length cells.old) }
-    ensures made { IfOk result (λ after. IfSome after (AreCells ground.now row cells.new)) }
+    ensures made { IfOk result (λ after. IfSome after (AreCells stretch.now row cells.new)) }
     ensures spreads { OnOk result (Spreads row pool.old pool.new) }
-    ensures extended { OnOk result (Extended ground.now pool.new row label.now) }
+    ensures extended { OnOk result (Extended stretch.now pool.new row label.now) }
 {
-    let Some(slack) = slack_of(ground, row, label) else {
+    let Some(slack) = slack_of(stretch, row, label) else {
         return Ok(made);
     };
+    let onward = Onward {
+        stretch,
+        row,
+        label,
+        slack,
+    };
     // (further on defects are looked at only where one is near: elsewhere the bands of the table serve)
-    if !is_below(ground.near, label.up) {
-        extend_freely(pool, ground, row, label, slack)?;
+    if !is_below(stretch.near, label.up) {
+        extend_freely(pool, &onward)?;
         return Ok(made);
     }
-    let sought = extend_around(pool, cells, lists, ground, row, label, slack, made)?;
+    let sought = extend_around(pool, cells, lists, &onward, made)?;
     Ok(Some(sought))
 }
 
@@ -156,23 +142,23 @@ fn extend_row(
     pool: &mut Pool,
     cells: &mut Pool,
     lists: &mut Lists,
-    ground: &Ground<'_>,
+    stretch: &Stretch<'_>,
     row: usize,
 ) -> Result<(), Halt>
     requires pool { row < length pool.old }
-    requires row { row < length ground.now.rows.now }
-    requires cells { length cells.old ≡ length ground.now.rows.now }
-    requires ground { IsGround ground.now }
+    requires row { row < length stretch.now.rows.now }
+    requires cells { length cells.old ≡ length stretch.now.rows.now }
+    requires stretch { IsStretch stretch.now }
     ensures len { OnOk result (length cells.new ≡ length cells.old) }
     ensures spreads { OnOk result (Spreads (row + 1) pool.old pool.new) }
-    ensures placed { OnOk result (RowPlaced ground.now pool.new row) }
+    ensures placed { OnOk result (RowPlaced stretch.now pool.new row) }
 {
     // (those that reach up as far come one behind the other, so that cells that are made serve for all of them)
     pool.sort(row);
     let mut made = None;
     for at in 0..pool.labels(row).len() {
         let label = pool.label(row, at);
-        let next = extend(pool, cells, lists, ground, row, &label, made)?;
+        let next = extend(pool, cells, lists, stretch, row, &label, made)?;
         made = next;
     }
     Ok(())
@@ -183,30 +169,30 @@ pub fn placed_from(
     pool: &mut Pool,
     cells: &mut Pool,
     lists: &mut Lists,
-    ground: &Ground<'_>,
+    stretch: &Stretch<'_>,
     start: usize,
     low: u32,
 ) -> Result<(), Halt>
-    requires start { start < length ground.now.rows.now }
+    requires start { start < length stretch.now.rows.now }
     requires pool { start < length pool.old }
-    requires cells { length cells.old ≡ length ground.now.rows.now }
-    requires ground { IsGround ground.now }
+    requires cells { length cells.old ≡ length stretch.now.rows.now }
+    requires stretch { IsStretch stretch.now }
     ensures cells { OnOk result (length cells.new ≡ length cells.old) }
     ensures len { OnOk result (length pool.new ≡ length pool.old) }
-    ensures begun { OnOk result ((x w right up : ℕ) → (x ≡ 0) ⊎ (0 + ground.now.site.waste ≤ x) → low ≤ w → ground.now.site.left ≤ right → HeldTo (row_at pool.new start) x w right up) }
-    ensures placed { OnOk result ((n : ℕ) → n ≤ start → RowPlaced ground.now pool.new n) }
+    ensures begun { OnOk result ((x w right up : ℕ) → (x ≡ 0) ⊎ (0 + stretch.now.site.waste ≤ x) → low ≤ w → stretch.now.site.left ≤ right → HeldTo (row_at pool.new start) x w right up) }
+    ensures placed { OnOk result ((n : ℕ) → n ≤ start → RowPlaced stretch.now pool.new n) }
 {
     pool.clear();
     let none = Label {
         along: SizeSet {
             least: 0,
-            more: ground.site.waste,
+            more: stretch.site.waste,
         },
         across: SizeSet {
             least: low,
             more: 0,
         },
-        right: ground.site.left,
+        right: stretch.site.left,
         up: 0,
     };
     pool.offer(start, &none)?;
@@ -216,7 +202,7 @@ pub fn placed_from(
         if row < first {
             return Ok(());
         }
-        extend_row(pool, cells, lists, ground, row)?;
+        extend_row(pool, cells, lists, stretch, row)?;
     }
     Ok(())
 }

@@ -1,16 +1,15 @@
 //! A plan along the fronts, strip by strip from its end back. What comes of it is a guess, which has to be asked of the rules.
 
 ghost use Rattle.std.specs.Prelude.{◌≡◌, ◌<◌, length, OnOk};
-ghost use Rattle.front_bound.specs.inner.Ready.{AreFronts};
 
-use crate::course::{Side, Strip, begins_behind, lefts_of, side_before, strips_between};
-use crate::cutting::{Task, cut_strip, push_step};
+use crate::course::{Between, Side, Strip, begins_behind, lefts_of, side_before, strips_between};
+use crate::cutting::{cut_strip, push_step};
 use crate::far::low_of;
 use crate::halt::Halt;
 use crate::labels::Label;
 use crate::pools::Pool;
 use crate::rows::{area_left, glass_of};
-use crate::sets::SizeSet;
+use crate::task::Task;
 use cut_model::{Step, Trace};
 use glass_base::Run;
 use std::alloc::Global;
@@ -21,22 +20,18 @@ const CHOICES: u64 = 16;
 /// and so many strips for a plan.
 const TRIES: u64 = 1_000;
 
-/// The strips that may lie between two rows: they begin behind a side and end at another one.
+/// The strips that may follow a side of a row, up to one of another row.
 #[derive(Clone, Copy)]
-struct Between<'a> {
-    from: usize,
-    to: usize,
-    /// The side behind which they begin, and where they can begin on the plate.
+struct Candidates<'a> {
+    /// The side behind which they begin.
     side: &'a Label,
-    begins: SizeSet,
-    end: Side,
+    between: Between,
 }
 
-/// The steps of a strip, and the side and the row that it begins behind.
+/// The steps of a strip, and the side that it begins behind.
 #[derive(Drop)]
 struct Found {
     steps: Run<Step>,
-    from: usize,
     before: Side,
 }
 
@@ -45,29 +40,28 @@ fn strip_at(
     alloc: Global,
     pool: &mut Pool,
     task: &Task<'_>,
-    between: &Between<'_>,
+    candidates: &Candidates<'_>,
     class: usize,
     left: u32,
     choice: u64,
 ) -> Result<Option<Found>, Halt>
-    requires from { between.now.from < length task.now.fronts.rows.now }
-    requires to { between.now.to < between.now.from }
+    requires from { candidates.now.between.from < length task.now.fronts.rows.now }
     requires class { class < length task.now.fronts.tops.now }
     requires pool { length pool.old ≡ length task.now.fronts.rows.now }
-    requires fronts { AreFronts task.now.instance.now task.now.fronts }
     ensures { OnOk result (length pool.new ≡ length pool.old) }
 {
+    let between = candidates.between;
+    let from = between.from;
     let end = between.end;
-    let before = side_before(task.instance, between.side, end.plate, left);
-    let is_first = between.from + 1 == task.fronts.rows.len();
+    let before = side_before(task.ground.instance, from, candidates.side, end.plate, left);
+    let is_first = from + 1 == task.fronts.rows.len();
     let kind = if is_first || before.plate != end.plate {
         0
     } else {
         1
     };
     let strip = Strip {
-        from: between.from,
-        to: between.to,
+        from,
         class,
         left,
         end,
@@ -75,11 +69,7 @@ fn strip_at(
     let Some(steps) = cut_strip(alloc, pool, task, &strip, kind, choice)? else {
         return Ok(None);
     };
-    Ok(Some(Found {
-        steps,
-        from: between.from,
-        before,
-    }))
+    Ok(Some(Found { steps, before }))
 }
 
 /// A strip of a class that begins here, by one choice of its bands and cells after another, while tries are left.
@@ -87,16 +77,14 @@ fn strip_by_choice(
     alloc: Global,
     pool: &mut Pool,
     task: &Task<'_>,
-    between: &Between<'_>,
+    candidates: &Candidates<'_>,
     class: usize,
     left: u32,
     tries: &mut u64,
 ) -> Result<Option<Found>, Halt>
-    requires from { between.now.from < length task.now.fronts.rows.now }
-    requires to { between.now.to < between.now.from }
+    requires from { candidates.now.between.from < length task.now.fronts.rows.now }
     requires class { class < length task.now.fronts.tops.now }
     requires pool { length pool.old ≡ length task.now.fronts.rows.now }
-    requires fronts { AreFronts task.now.instance.now task.now.fronts }
     ensures { OnOk result (length pool.new ≡ length pool.old) }
 {
     for choice in 0..CHOICES {
@@ -104,7 +92,7 @@ fn strip_by_choice(
             return Ok(None);
         }
         *tries -= 1;
-        let found = strip_at(alloc, pool, task, between, class, left, choice)?;
+        let found = strip_at(alloc, pool, task, candidates, class, left, choice)?;
         if found.is_some() {
             return Ok(found);
         }
@@ -117,33 +105,28 @@ fn strip_of_class(
     alloc: Global,
     pool: &mut Pool,
     task: &Task<'_>,
-    between: &Between<'_>,
+    candidates: &Candidates<'_>,
     class: usize,
     tries: &mut u64,
 ) -> Result<Option<Found>, Halt>
-    requires from { between.now.from < length task.now.fronts.rows.now }
-    requires to { between.now.to < between.now.from }
+    requires from { candidates.now.between.from < length task.now.fronts.rows.now }
     requires class { class < length task.now.fronts.tops.now }
     requires pool { length pool.old ≡ length task.now.fronts.rows.now }
-    requires fronts { AreFronts task.now.instance.now task.now.fronts }
     ensures { OnOk result (length pool.new ≡ length pool.old) }
 {
-    let begins = between.begins;
+    let between = candidates.between;
     let end = between.end;
-    strips_between(
-        pool,
-        task.instance,
-        &task.fronts,
-        between.from,
-        between.to,
-        &begins,
-        &end,
-        class,
+    strips_between(pool, task, &between, class)?;
+    let height = task.ground.instance.params().height;
+    let lefts = lefts_of(
+        alloc,
+        pool.labels(end.row),
+        height,
+        &between.begins,
+        end.right,
     )?;
-    let height = task.instance.params().height;
-    let lefts = lefts_of(alloc, pool.labels(between.to), height, &begins, end.right)?;
     for left in &lefts {
-        let found = strip_by_choice(alloc, pool, task, between, class, *left, tries)?;
+        let found = strip_by_choice(alloc, pool, task, candidates, class, *left, tries)?;
         if found.is_some() {
             return Ok(found);
         }
@@ -156,23 +139,22 @@ fn strip_of(
     alloc: Global,
     pool: &mut Pool,
     task: &Task<'_>,
-    between: &Between<'_>,
+    candidates: &Candidates<'_>,
     tries: &mut u64,
 ) -> Result<Option<Found>, Halt>
-    requires from { between.now.from < length task.now.fronts.rows.now }
-    requires to { between.now.to < between.now.from }
+    requires from { candidates.now.between.from < length task.now.fronts.rows.now }
     requires pool { length pool.old ≡ length task.now.fronts.rows.now }
-    requires fronts { AreFronts task.now.instance.now task.now.fronts }
     ensures { OnOk result (length pool.new ≡ length pool.old) }
 {
-    let params = task.instance.params();
+    let params = task.ground.instance.params();
     let rows = task.fronts.rows;
-    let room = between
-        .end
+    let between = candidates.between;
+    let end = between.end;
+    let room = end
         .right
         .saturating_sub(between.begins.least)
         .min(params.max1);
-    let area = area_left(rows, between.from).saturating_sub(area_left(rows, between.to));
+    let area = area_left(rows, between.from).saturating_sub(area_left(rows, end.row));
     if glass_of(room, params.height) < area {
         return Ok(None);
     }
@@ -180,7 +162,7 @@ fn strip_of(
         if low_of(task.fronts.tops, class, params.min1) > room {
             return Ok(None);
         }
-        let found = strip_of_class(alloc, pool, task, between, class, tries)?;
+        let found = strip_of_class(alloc, pool, task, candidates, class, tries)?;
         if found.is_some() {
             return Ok(found);
         }
@@ -195,26 +177,21 @@ fn strip_from(
     task: &Task<'_>,
     sides: &[Label],
     from: usize,
-    to: usize,
     end: Side,
     tries: &mut u64,
 ) -> Result<Option<Found>, Halt>
     requires from { from < length task.now.fronts.rows.now }
-    requires to { to < from }
+    requires down { end.row < from }
     requires pool { length pool.old ≡ length task.now.fronts.rows.now }
-    requires fronts { AreFronts task.now.instance.now task.now.fronts }
     ensures { OnOk result (length pool.new ≡ length pool.old) }
 {
     for side in sides {
-        if let Some(begins) = begins_behind(task.instance, side, end.plate) {
-            let between = Between {
-                from,
-                to,
+        if let Some(begins) = begins_behind(task.ground.instance, side, end.plate) {
+            let candidates = Candidates {
                 side,
-                begins,
-                end,
+                between: Between { from, begins, end },
             };
-            let found = strip_of(alloc, pool, task, &between, tries)?;
+            let found = strip_of(alloc, pool, task, &candidates, tries)?;
             if found.is_some() {
                 return Ok(found);
             }
@@ -223,26 +200,24 @@ fn strip_from(
     Ok(None)
 }
 
-/// A strip that ends at a side of a row.
+/// A strip that ends at a side.
 fn strip_to(
     alloc: Global,
     pool: &mut Pool,
     task: &Task<'_>,
     sides: &Pool,
-    to: usize,
     end: Side,
     tries: &mut u64,
 ) -> Result<Option<Found>, Halt>
     requires pool { length pool.old ≡ length task.now.fronts.rows.now }
     requires sides { length sides.now ≡ length task.now.fronts.rows.now }
-    requires fronts { AreFronts task.now.instance.now task.now.fronts }
     ensures { OnOk result (length pool.new ≡ length pool.old) }
 {
-    for from in to.saturating_add(1)..task.fronts.rows.len() {
+    for from in end.row.saturating_add(1)..task.fronts.rows.len() {
         if *tries == 0 {
             return Ok(None);
         }
-        let found = strip_from(alloc, pool, task, sides.labels(from), from, to, end, tries)?;
+        let found = strip_from(alloc, pool, task, sides.labels(from), from, end, tries)?;
         if found.is_some() {
             return Ok(found);
         }
@@ -268,23 +243,20 @@ pub fn trace_to(
 ) -> Result<Option<Trace>, Halt>
     requires pool { length pool.old ≡ length task.now.fronts.rows.now }
     requires sides { length sides.now ≡ length task.now.fronts.rows.now }
-    requires fronts { AreFronts task.now.instance.now task.now.fronts }
     ensures { OnOk result (length pool.new ≡ length pool.old) }
 {
     let mut steps = Run::new(alloc);
-    let mut to = 0;
     let mut end = last;
     let mut tries = TRIES;
     for _ in 0..task.fronts.rows.len() {
-        if to >= task.fronts.rows.len() - 1 {
+        if end.row >= task.fronts.rows.len() - 1 {
             steps.reverse();
             return Ok(Some(Trace { steps }));
         }
-        let Some(found) = strip_to(alloc, pool, task, sides, to, end, &mut tries)? else {
+        let Some(found) = strip_to(alloc, pool, task, sides, end, &mut tries)? else {
             return Ok(None);
         };
         append_back(&mut steps, found.steps.as_slice())?;
-        to = found.from;
         end = found.before;
     }
     Ok(None)

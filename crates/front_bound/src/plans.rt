@@ -7,15 +7,15 @@ ghost use Rattle.plan_trace.specs.Claims.{IsComplete};
 
 use crate::bounds::{longest, table_of};
 use crate::course::last_side;
-use crate::cutting::Task;
 use crate::halt::Halt;
 use crate::planning::trace_to;
 use crate::pools::Pool;
 use crate::runs::sides_within;
 use crate::table::Fronts;
+use crate::task::Task;
 use crate::watch::Watch;
 use cut_model::Trace;
-use defect_map::DefectMap;
+use defect_map::Ground;
 use front_course::laws::courses_bound_losses;
 use glass_base::{Instance, Memory};
 use plan_trace::meets;
@@ -41,28 +41,26 @@ pub struct Shown {
 /// The trace of a course within a length, the shortest one first, where its strips are found: a guess.
 fn trace_within<W: Watch>(
     alloc: Global,
-    instance: &Instance,
-    map: &DefectMap,
+    ground: Ground<'_>,
     fronts: &Fronts<'_>,
     length: u64,
     limit: u64,
     watch: &W,
 ) -> Result<Option<Trace>, Halt>
-    requires { AreFronts instance.now fronts.now }
+    requires { AreFronts ground.instance.now fronts.now }
 {
     if fronts.rows.len() <= 1 {
         return Ok(None);
     }
-    let sides = sides_within(alloc, instance, fronts, length, limit, watch)?;
+    let sides = sides_within(alloc, ground.instance, fronts, length, limit, watch)?;
     let mut pool = Pool::new(alloc, fronts.rows.len(), limit)?;
     let task = Task {
-        instance,
-        map,
+        ground,
         fronts: *fronts,
     };
     let mut least = 0;
     for _ in 0..ENDS {
-        let Some((end, last)) = last_side(instance, sides.labels(0), least) else {
+        let Some((end, last)) = last_side(ground.instance, sides.labels(0), least) else {
             return Ok(None);
         };
         if end > length {
@@ -78,15 +76,14 @@ fn trace_within<W: Watch>(
 }
 
 /// A trace, where it has a step for each item and meets the rules.
-fn checked(instance: &Instance, map: &DefectMap, trace: Option<Trace>) -> Option<Trace>
-    requires map { map.now ≡ instance.now.defects }
-    ensures { IfSome result (λ trace. IsComplete instance.now trace.steps.items) }
+fn checked(ground: Ground<'_>, trace: Option<Trace>) -> Option<Trace>
+    ensures { IfSome result (λ trace. IsComplete ground.entry.instance.now trace.steps.items) }
 {
     let trace = trace?;
-    if trace.steps.len() != instance.items().len() {
+    if trace.steps.len() != ground.instance.items().len() {
         return None;
     }
-    match meets(instance, map, &trace) {
+    match meets(ground.instance, ground.map, &trace) {
         Ok(()) => Some(trace),
         Err(_) => None,
     }
@@ -95,19 +92,17 @@ fn checked(instance: &Instance, map: &DefectMap, trace: Option<Trace>) -> Option
 /// A plan along the fronts within a length, where one is found with no more than `limit` labels.
 fn plan_within<W: Watch>(
     alloc: Global,
-    instance: &Instance,
-    map: &DefectMap,
+    ground: Ground<'_>,
     fronts: &Fronts<'_>,
     length: u64,
     limit: u64,
     watch: &W,
 ) -> Result<Option<Trace>, Halt>
-    requires map { map.now ≡ instance.now.defects }
-    requires fronts { AreFronts instance.now fronts.now }
-    ensures { IfOk result (λ plan. IfSome plan (λ trace. IsComplete instance.now trace.steps.items)) }
+    requires fronts { AreFronts ground.instance.now fronts.now }
+    ensures { IfOk result (λ plan. IfSome plan (λ trace. IsComplete ground.entry.instance.now trace.steps.items)) }
 {
-    match trace_within(alloc, instance, map, fronts, length, limit, watch) {
-        Ok(trace) => Ok(checked(instance, map, trace)),
+    match trace_within(alloc, ground, fronts, length, limit, watch) {
+        Ok(trace) => Ok(checked(ground, trace)),
         Err(Halt::Limit) => Ok(None),
         Err(Halt::Memory) => Err(Halt::Memory),
     }
@@ -116,17 +111,15 @@ fn plan_within<W: Watch>(
 /// A plan along the fronts that is shorter than `most`, within a length that no course is below, or else within longer ones, step by step.
 fn plan_below<W: Watch>(
     alloc: Global,
-    instance: &Instance,
-    map: &DefectMap,
+    ground: Ground<'_>,
     fronts: &Fronts<'_>,
     length: u64,
     most: u64,
     limit: u64,
     watch: &W,
 ) -> Result<Option<Trace>, Halt>
-    requires map { map.now ≡ instance.now.defects }
-    requires fronts { AreFronts instance.now fronts.now }
-    ensures { IfOk result (λ plan. IfSome plan (λ trace. IsComplete instance.now trace.steps.items)) }
+    requires fronts { AreFronts ground.instance.now fronts.now }
+    ensures { IfOk result (λ plan. IfSome plan (λ trace. IsComplete ground.entry.instance.now trace.steps.items)) }
 {
     let mut within = length;
     let mut step = FIRST_STEP;
@@ -134,7 +127,7 @@ fn plan_below<W: Watch>(
         if within >= most {
             return Ok(None);
         }
-        let plan = plan_within(alloc, instance, map, fronts, within, limit, watch)?;
+        let plan = plan_within(alloc, ground, fronts, within, limit, watch)?;
         if plan.is_some() {
             return Ok(plan);
         }
@@ -147,29 +140,18 @@ fn plan_below<W: Watch>(
 /// What fronts show of an instance, with no more than `limit` labels a search.
 fn shown_by_fronts<W: Watch>(
     alloc: Global,
-    instance: &Instance,
-    map: &DefectMap,
+    ground: Ground<'_>,
     most: u64,
     limit: u64,
     watch: &W,
 ) -> Result<Shown, Halt>
-    requires map { map.now ≡ instance.now.defects }
-    ensures shown { IfOk result (λ s. NoCourseShorter instance.now s.length) }
+    ensures shown { IfOk result (λ s. NoCourseShorter ground.entry.instance.now s.length) }
     ensures most { IfOk result (λ s. s.length ≤ most) }
-    ensures plan { IfOk result (λ s. IfSome s.plan (λ trace. IsComplete instance.now trace.steps.items)) }
+    ensures plan { IfOk result (λ s. IfSome s.plan (λ trace. IsComplete ground.entry.instance.now trace.steps.items)) }
 {
-    let table = table_of(alloc, instance, limit, watch)?;
-    let length = longest(alloc, instance, &table, most, limit, watch)?;
-    let plan = plan_below(
-        alloc,
-        instance,
-        map,
-        &table.lend(),
-        length,
-        most,
-        limit,
-        watch,
-    )?;
+    let table = table_of(alloc, ground.instance, limit, watch)?;
+    let length = longest(alloc, ground.instance, &table, most, limit, watch)?;
+    let plan = plan_below(alloc, ground, &table.lend(), length, most, limit, watch)?;
     Ok(Shown { length, plan })
 }
 
@@ -179,20 +161,18 @@ fn shown_by_fronts<W: Watch>(
 /// is looked for where `most` itself is shown, since who knows a plan of that length needs no other.
 pub fn longest_with_plan<W: Watch>(
     alloc: Global,
-    instance: &Instance,
-    map: &DefectMap,
+    ground: Ground<'_>,
     most: u64,
     limit: u64,
     watch: &W,
 ) -> Result<Shown, Memory>
-    requires map { map.now ≡ instance.now.defects }
-    ensures shown { IfOk result (λ s. LosesAtLeast instance.now s.length) }
+    ensures shown { IfOk result (λ s. LosesAtLeast ground.entry.instance.now s.length) }
     ensures most { IfOk result (λ s. s.length ≤ most) }
-    ensures plan { IfOk result (λ s. IfSome s.plan (λ trace. IsComplete instance.now trace.steps.items)) }
+    ensures plan { IfOk result (λ s. IfSome s.plan (λ trace. IsComplete ground.entry.instance.now trace.steps.items)) }
 {
-    let _rules = instance.items();
+    let _rules = ground.instance.items();
     courses_bound_losses();
-    match shown_by_fronts(alloc, instance, map, most, limit, watch) {
+    match shown_by_fronts(alloc, ground, most, limit, watch) {
         Ok(shown) => Ok(shown),
         Err(Halt::Limit) => Ok(Shown {
             length: 0,

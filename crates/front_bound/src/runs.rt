@@ -16,6 +16,7 @@ use crate::halt::Halt;
 use crate::labels::{Label, offer};
 use crate::levels::to_go;
 use crate::nearby::{Class, Space, new_space, place_begins};
+use crate::outset::Outset;
 use crate::pools::Pool;
 use crate::sets::SizeSet;
 use crate::sides::offer_ends;
@@ -108,86 +109,69 @@ fn first_at(begins: &[Label], plate: u32) -> u32
 
 /// Offers where the strips of a class end that begin on a plate.
 fn handle_class(
-    instance: &Instance,
-    fronts: &Fronts<'_>,
+    outset: &Outset<'_>,
     space: &mut Space,
     sides: &mut Pool,
-    row: usize,
     begins: &[Label],
     class: &Class,
-    most: u64,
 ) -> Result<(), Halt>
-    requires row { row < length fronts.now.rows.now }
-    requires fronts { AreFronts instance.now fronts.now }
-    requires space { IsRoomy fronts.now.rows.now space.old }
-    requires sides { length sides.old ≡ length fronts.now.rows.now }
-    requires class { IsClass instance.now fronts.now class.now }
-    ensures space { OnOk result (IsRoomy fronts.now.rows.now space.new) }
-    ensures spreads { OnOk result (Spreads row sides.old sides.new) }
-    ensures goes_on { OnOk result (ClassGoesOn instance.now fronts.now.rows.now (to_go_at fronts.now.levels.now) most sides.new row begins.now class.now.plate class.now.low class.now.limits.top class.now.room class.now.limits.most) }
+    requires space { IsRoomy outset.now.fronts.rows.now space.old }
+    requires sides { length sides.old ≡ length outset.now.fronts.rows.now }
+    requires class { IsClass outset.now.instance.now outset.now.fronts class.now }
+    ensures space { OnOk result (IsRoomy outset.now.fronts.rows.now space.new) }
+    ensures spreads { OnOk result (Spreads outset.now.row sides.old sides.new) }
+    ensures goes_on { OnOk result (ClassGoesOn outset.now.instance.now outset.now.fronts.rows.now (to_go_at outset.now.fronts.levels.now) outset.now.most sides.new outset.now.row begins.now class.now.plate class.now.low class.now.limits.top class.now.room class.now.limits.most) }
 {
     let bound = class.limits.bound;
     if bound < class.low {
         return Ok(());
     }
-    place_begins(instance, fronts, space, sides, row, begins, class, most)?;
+    place_begins(outset, space, sides, begins, class)?;
     let clear = space.clear.as_slice();
     if clear.is_empty() {
         return Ok(());
     }
     strips_from(
         &mut space.strips,
-        fronts.rows,
-        fronts.levels,
+        outset.fronts.rows,
+        outset.fronts.levels,
         &class.limits,
-        row,
+        outset.row,
         class.low,
-        instance.params().waste,
+        outset.instance.params().waste,
     )?;
-    offer_ends(
-        instance,
-        sides,
-        &space.strips,
-        fronts.levels,
-        clear,
-        row,
-        class.plate,
-        most,
-    )?;
+    offer_ends(outset, sides, &space.strips, clear, class.plate)?;
     Ok(())
 }
 
 /// Offers where the strips end that begin on a plate.
 fn handle_plate(
-    instance: &Instance,
-    fronts: &Fronts<'_>,
+    outset: &Outset<'_>,
     space: &mut Space,
     sides: &mut Pool,
-    row: usize,
     begins: &[Label],
     plate: u32,
-    most: u64,
 ) -> Result<(), Halt>
-    requires row { row < length fronts.now.rows.now }
-    requires fronts { AreFronts instance.now fronts.now }
-    requires space { IsRoomy fronts.now.rows.now space.old }
-    requires sides { length sides.old ≡ length fronts.now.rows.now }
+    requires space { IsRoomy outset.now.fronts.rows.now space.old }
+    requires sides { length sides.old ≡ length outset.now.fronts.rows.now }
     requires plate { plate ≤ 1000 }
-    ensures space { OnOk result (IsRoomy fronts.now.rows.now space.new) }
-    ensures spreads { OnOk result (Spreads row sides.old sides.new) }
-    ensures goes_on { OnOk result (PlateGoesOn instance.now fronts.now.rows.now (to_go_at fronts.now.levels.now) most sides.new row begins.now plate (instance.now.params.max1 + 1)) }
+    ensures space { OnOk result (IsRoomy outset.now.fronts.rows.now space.new) }
+    ensures spreads { OnOk result (Spreads outset.now.row sides.old sides.new) }
+    ensures goes_on { OnOk result (PlateGoesOn outset.now.instance.now outset.now.fronts.rows.now (to_go_at outset.now.fronts.levels.now) outset.now.most sides.new outset.now.row begins.now plate (outset.now.instance.now.params.max1 + 1)) }
 {
+    let instance = outset.instance;
     let params = instance.params();
+    let tops = outset.fronts.tops;
     let first = first_at(begins, plate);
     let start = instance.before(plate).saturating_add(u64::from(first));
-    if start > most {
+    if start > outset.most {
         return Ok(());
     }
-    let left = most - start;
+    let left = outset.most - start;
     let room = instance.width(plate).saturating_sub(first);
     let mut low = params.min1;
-    for class in 0..fronts.tops.len() {
-        let top = fronts.tops[class];
+    for class in 0..tops.len() {
+        let top = tops[class];
         let strips = Class {
             plate,
             low,
@@ -198,10 +182,10 @@ fn handle_plate(
                 bound: top.min(params.max1).min(room),
                 height: params.height,
                 most: left,
-                shift: shift_of(fronts.cover),
+                shift: shift_of(outset.fronts.cover),
             },
         };
-        handle_class(instance, fronts, space, sides, row, begins, &strips, most)?;
+        handle_class(outset, space, sides, begins, &strips)?;
         let Some(next) = top.checked_add(1) else {
             return Err(Halt::Limit);
         };
@@ -215,53 +199,49 @@ fn handle_plate(
 
 /// Offers where the strips end that begin on any plate.
 fn handle_plates(
-    instance: &Instance,
-    fronts: &Fronts<'_>,
+    outset: &Outset<'_>,
     space: &mut Space,
     sides: &mut Pool,
-    row: usize,
     begins: &[Label],
-    most: u64,
 ) -> Result<(), Halt>
-    requires row { row < length fronts.now.rows.now }
-    requires fronts { AreFronts instance.now fronts.now }
-    requires space { IsRoomy fronts.now.rows.now space.old }
-    requires sides { length sides.old ≡ length fronts.now.rows.now }
-    ensures space { OnOk result (IsRoomy fronts.now.rows.now space.new) }
-    ensures spreads { OnOk result (Spreads row sides.old sides.new) }
-    ensures goes_on { OnOk result ((plate : ℕ) → plate < instance.now.params.plates → PlateGoesOn instance.now fronts.now.rows.now (to_go_at fronts.now.levels.now) most sides.new row begins.now plate (instance.now.params.max1 + 1)) }
+    requires space { IsRoomy outset.now.fronts.rows.now space.old }
+    requires sides { length sides.old ≡ length outset.now.fronts.rows.now }
+    ensures space { OnOk result (IsRoomy outset.now.fronts.rows.now space.new) }
+    ensures spreads { OnOk result (Spreads outset.now.row sides.old sides.new) }
+    ensures goes_on { OnOk result ((plate : ℕ) → plate < outset.now.instance.now.params.plates → PlateGoesOn outset.now.instance.now outset.now.fronts.rows.now (to_go_at outset.now.fronts.levels.now) outset.now.most sides.new outset.now.row begins.now plate (outset.now.instance.now.params.max1 + 1)) }
 {
-    let plates = instance.params().plates;
+    let plates = outset.instance.params().plates;
     if plates > MOST_PLATES {
         return Err(Halt::Limit);
     }
     for plate in 0..plates {
-        handle_plate(instance, fronts, space, sides, row, begins, plate, most)?;
+        handle_plate(outset, space, sides, begins, plate)?;
     }
     Ok(())
 }
 
 /// Offers where the strips from a row end.
 fn handle_row(
-    instance: &Instance,
-    fronts: &Fronts<'_>,
+    outset: &Outset<'_>,
     space: &mut Space,
     sides: &mut Pool,
     begins: &mut Vec<Label>,
-    row: usize,
-    most: u64,
 ) -> Result<(), Halt>
-    requires row { row < length fronts.now.rows.now }
-    requires fronts { AreFronts instance.now fronts.now }
-    requires space { IsRoomy fronts.now.rows.now space.old }
-    requires sides { length sides.old ≡ length fronts.now.rows.now }
-    ensures space { OnOk result (IsRoomy fronts.now.rows.now space.new) }
-    ensures spreads { OnOk result (Spreads row sides.old sides.new) }
-    ensures goes_on { OnOk result (SidesGoOn instance.now fronts.now.rows.now (to_go_at fronts.now.levels.now) most sides.new row) }
+    requires space { IsRoomy outset.now.fronts.rows.now space.old }
+    requires sides { length sides.old ≡ length outset.now.fronts.rows.now }
+    ensures space { OnOk result (IsRoomy outset.now.fronts.rows.now space.new) }
+    ensures spreads { OnOk result (Spreads outset.now.row sides.old sides.new) }
+    ensures goes_on { OnOk result (SidesGoOn outset.now.instance.now outset.now.fronts.rows.now (to_go_at outset.now.fronts.levels.now) outset.now.most sides.new outset.now.row) }
 {
-    let far = to_go(fronts.levels, row);
-    begins_of(instance, begins, sides.labels(row), far, most)?;
-    handle_plates(instance, fronts, space, sides, row, begins.as_slice(), most)?;
+    let far = to_go(outset.fronts.levels, outset.row);
+    begins_of(
+        outset.instance,
+        begins,
+        sides.labels(outset.row),
+        far,
+        outset.most,
+    )?;
+    handle_plates(outset, space, sides, begins.as_slice())?;
     Ok(())
 }
 
@@ -327,15 +307,13 @@ pub fn sides_within<W: Watch>(
     sides.offer(first, &start)?;
     for done in 0..first {
         watch.looks(done, first);
-        handle_row(
+        let outset = Outset {
             instance,
-            fronts,
-            &mut space,
-            &mut sides,
-            &mut begins,
-            first - done,
+            fronts: *fronts,
+            row: first - done,
             most,
-        )?;
+        };
+        handle_row(&outset, &mut space, &mut sides, &mut begins)?;
     }
     Ok(sides)
 }

@@ -1,32 +1,32 @@
 //! How much a band may leave beside and over its cells, where a strip is to end near enough.
 
 ghost use Rattle.std.specs.Prelude.{◌<◌, ◌≤◌, IfNone, IfSome, length};
-ghost use Rattle.front_bound.specs.inner.Placed.{IsGround, IsSlack, NoneGoesOn};
+ghost use Rattle.front_bound.specs.inner.Placed.{IsStretch, IsSlack, NoneGoesOn};
 
 use crate::ends::near;
-use crate::ground::Ground;
 use crate::labels::Label;
 use crate::levels::ends_of;
+use crate::stretch::Stretch;
 use crate::strips::glass_above;
 
 /// How much a band by which a label of a row goes on may leave beside and over its cells, in mm²; none where no strip can still end near enough.
-pub fn slack_of(ground: &Ground<'_>, row: usize, label: &Label) -> Option<u64>
-    requires row { row < length ground.now.levels.now }
-    requires ground { IsGround ground.now }
-    ensures none { IfNone result (NoneGoesOn ground.now row label.now) }
-    ensures slack { IfSome result (IsSlack ground.now row label.now) }
+pub fn slack_of(stretch: &Stretch<'_>, row: usize, label: &Label) -> Option<u64>
+    requires row { row < length stretch.now.levels.now }
+    requires stretch { IsStretch stretch.now }
+    ensures none { IfNone result (NoneGoesOn stretch.now row label.now) }
+    ensures slack { IfSome result (IsSlack stretch.now row label.now) }
 {
-    let limits = ground.limits;
+    let limits = stretch.limits;
     let wide = u64::from(label.across.least);
     if wide > limits.most {
         return None;
     }
     let end = u64::from(label.right);
-    if end > ground.reach {
+    if end > stretch.reach {
         return None;
     }
-    let within = (limits.most - wide).min(ground.reach - end);
-    let Some(area) = near(ends_of(ground.levels, row), within) else {
+    let within = (limits.most - wide).min(stretch.reach - end);
+    let Some(area) = near(ends_of(stretch.levels, row), within) else {
         return None;
     };
     let whole = glass_above(limits.top, limits.height, label.up);
@@ -37,29 +37,29 @@ pub fn slack_of(ground: &Ground<'_>, row: usize, label: &Label) -> Option<u64>
 }
 
 /// The greater of a slack and of that of one of a row's labels, where this one reaches up to `up`.
-fn more_slack(ground: &Ground<'_>, row: usize, label: &Label, up: u32, slack: u64) -> u64
-    requires row { row < length ground.now.levels.now }
-    requires ground { IsGround ground.now }
+fn more_slack(stretch: &Stretch<'_>, row: usize, label: &Label, up: u32, slack: u64) -> u64
+    requires row { row < length stretch.now.levels.now }
+    requires stretch { IsStretch stretch.now }
     ensures { slack ≤ result }
 {
     if label.up != up {
         return slack;
     }
-    match slack_of(ground, row, label) {
+    match slack_of(stretch, row, label) {
         Some(own) => slack.max(own),
         None => slack,
     }
 }
 
 /// The greatest of a slack and of those of a row's labels that reach up to `up`.
-pub fn most_slack(ground: &Ground<'_>, row: usize, labels: &[Label], up: u32, slack: u64) -> u64
-    requires row { row < length ground.now.levels.now }
-    requires ground { IsGround ground.now }
+pub fn most_slack(stretch: &Stretch<'_>, row: usize, labels: &[Label], up: u32, slack: u64) -> u64
+    requires row { row < length stretch.now.levels.now }
+    requires stretch { IsStretch stretch.now }
     ensures { slack ≤ result }
 {
     let mut most = slack;
     for label in labels {
-        most = more_slack(ground, row, label, up, most);
+        most = more_slack(stretch, row, label, up, most);
     }
     most
 }

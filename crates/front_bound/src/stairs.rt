@@ -206,7 +206,7 @@ pub fn ends_behind(
 ) -> Result<Vec<End>, Halt>
     requires row { row < length rows.now }
     requires levels { row ≤ length levels.now }
-    requires lattice { IsLattice instance.now rows.now }
+    requires lattice { ∥ IsLattice instance.now rows.now ∥₁ }
     requires ends { (n : ℕ) → n < row → EndsFrom instance.now rows.now most (to_go_at levels.now) n (ends_at levels.now n) }
     ensures falls { IfOk result (λ stairs. Falls stairs.items) }
     ensures ends { IfOk result (λ stairs. EndsBehind instance.now rows.now most (to_go_at levels.now) row stairs.items) }

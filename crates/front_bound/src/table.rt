@@ -1,13 +1,14 @@
 //! The table of all rows: their bands, ends, and what is to go from each, from the last front on.
 
 ghost use Rattle.std.specs.Prelude.{◌≡◌, ℕ, ◌+◌, ◌*◌, ◌<◌, ◌≤◌, [], ◌∷◌, ◌++◌, length, map, slice_index_or, IfOk, OnOk};
-ghost use Rattle.front_bound.specs.inner.Lattice.{IsLattice};
 ghost use Rattle.front_bound.specs.inner.Levels.{to_go_at};
 ghost use Rattle.front_bound.specs.inner.Lists.{HasBands, Rises};
-ghost use Rattle.front_bound.specs.inner.Ready.{Built, HasLists, IsClosed, IsOpen, LeavesLeast, Opened};
+ghost use Rattle.front_bound.specs.inner.Ready.{Built, HasLists, IsClosed, IsOpen, LeavesLeast};
 
 use crate::bands::bands_from;
+use crate::behind::Behind;
 use crate::far::far_from;
+use crate::grid::Grid;
 use crate::halt::Halt;
 use crate::keyed::{Keyed, list_for};
 use crate::levels::{Level, push_level, to_go};
@@ -16,7 +17,6 @@ use crate::pools::Pool;
 use crate::rows::{Row, links_of};
 use crate::stairs::{ends_behind, with_itself};
 use crate::watch::Watch;
-use glass_base::Instance;
 use std::alloc::Global;
 
 /// All fronts, with what is known of them.
@@ -90,25 +90,23 @@ fn lists_for(
 /// A row with its bands and ends, of which it is not known what is to go from it.
 fn open_level(
     alloc: Global,
-    instance: &Instance,
-    rows: &[Row],
-    tops: &[u32],
+    grid: &Grid<'_>,
     levels: &[Level],
     pool: &mut Pool,
     row: usize,
-    cover: u64,
 ) -> Result<Level, Halt>
     requires row { row ≡ length levels.now }
-    requires rows { row < length rows.now }
-    requires pool { length pool.old ≡ length rows.now }
-    requires lattice { IsLattice instance.now rows.now }
-    requires built { Built instance.now rows.now tops.now cover levels.now }
+    requires rows { row < length grid.now.rows.now }
+    requires pool { length pool.old ≡ length grid.now.rows.now }
+    requires built { Built grid.now.instance.now grid.now.rows.now grid.now.tops.now grid.now.cover levels.now }
     ensures len { OnOk result (length pool.new ≡ length pool.old) }
-    ensures open { IfOk result (IsOpen instance.now rows.now tops.now cover (to_go_at levels.now) row) }
+    ensures open { IfOk result (IsOpen grid.now.instance.now grid.now.rows.now grid.now.tops.now grid.now.cover (to_go_at levels.now) row) }
 {
+    let instance = grid.instance;
+    let rows = grid.rows;
     let bands = bands_from(alloc, instance, rows, pool, row)?;
-    let lists = lists_for(alloc, rows, row, tops, bands.as_slice())?;
-    let ends = ends_behind(alloc, instance, rows, levels, row, cover)?;
+    let lists = lists_for(alloc, rows, row, grid.tops, bands.as_slice())?;
+    let ends = ends_behind(alloc, instance, rows, levels, row, grid.cover)?;
     Ok(Level {
         bands,
         lists,
@@ -149,110 +147,70 @@ fn base_of(rows: &[Row], levels: &[Level], row: usize) -> u64
 }
 
 /// What is to go from a row at least; nothing from the first one, at which nothing is left.
-fn far_of(
-    instance: &Instance,
-    rows: &[Row],
-    tops: &[u32],
-    levels: &[Level],
-    pool: &mut Pool,
-    start: usize,
-    base: u64,
-    cover: u64,
-    hint: &mut usize,
-) -> Result<u64, Halt>
-    requires pool { start < length pool.old }
-    requires lattice { IsLattice instance.now rows.now }
-    requires opened { Opened instance.now rows.now tops.now cover levels.now start }
-    requires cover { instance.now.params.max1 * instance.now.params.height ≤ cover }
+fn far_of(behind: &Behind<'_>, pool: &mut Pool, base: u64, hint: &mut usize) -> Result<u64, Halt>
+    requires { behind.now.start < length pool.old }
     ensures len { OnOk result (length pool.new ≡ length pool.old) }
-    ensures least { IfOk result (LeavesLeast instance.now rows.now (to_go_at levels.now) start) }
+    ensures least { IfOk result (LeavesLeast behind.now.instance.now behind.now.fronts.rows.now (to_go_at behind.now.fronts.levels.now) behind.now.start) }
 {
-    if start == 0 {
+    if behind.start == 0 {
         return Ok(0);
     }
-    let far = far_from(instance, rows, tops, levels, pool, start, base, cover, hint)?;
+    let far = far_from(behind, pool, base, hint)?;
     Ok(far)
 }
 
 /// Adds the next row to the table.
 fn add_level(
     alloc: Global,
-    instance: &Instance,
-    rows: &[Row],
-    tops: &[u32],
+    grid: &Grid<'_>,
     levels: &mut Vec<Level>,
     pool: &mut Pool,
-    cover: u64,
     hint: &mut usize,
 ) -> Result<(), Halt>
-    requires rows { length levels.old.items < length rows.now }
-    requires pool { length pool.old ≡ length rows.now }
-    requires lattice { IsLattice instance.now rows.now }
-    requires cover { instance.now.params.max1 * instance.now.params.height ≤ cover }
-    requires built { Built instance.now rows.now tops.now cover levels.old.items }
+    requires rows { length levels.old.items < length grid.now.rows.now }
+    requires pool { length pool.old ≡ length grid.now.rows.now }
+    requires built { Built grid.now.instance.now grid.now.rows.now grid.now.tops.now grid.now.cover levels.old.items }
     ensures len { OnOk result (length pool.new ≡ length pool.old) }
     ensures more { OnOk result (length levels.new.items ≡ length levels.old.items + 1) }
-    ensures built { OnOk result (Built instance.now rows.now tops.now cover levels.new.items) }
+    ensures built { OnOk result (Built grid.now.instance.now grid.now.rows.now grid.now.tops.now grid.now.cover levels.new.items) }
 {
     let row = levels.len();
-    let base = base_of(rows, levels.as_slice(), row);
-    let open = open_level(
-        alloc,
-        instance,
-        rows,
-        tops,
-        levels.as_slice(),
-        pool,
-        row,
-        cover,
-    )?;
+    let base = base_of(grid.rows, levels.as_slice(), row);
+    let open = open_level(alloc, grid, levels.as_slice(), pool, row)?;
     push_level(levels, open)?;
-    let far = far_of(
-        instance,
-        rows,
-        tops,
-        levels.as_slice(),
-        pool,
-        row,
-        base,
-        cover,
-        hint,
-    )?;
-    close_level(alloc, levels, far, cover)?;
+    let behind = Behind {
+        instance: grid.instance,
+        fronts: Fronts {
+            rows: grid.rows,
+            tops: grid.tops,
+            levels: levels.as_slice(),
+            cover: grid.cover,
+        },
+        start: row,
+    };
+    let far = far_of(&behind, pool, base, hint)?;
+    close_level(alloc, levels, far, grid.cover)?;
     Ok(())
 }
 
-/// All rows with what is known of them, for classes of strips that end at these widths.
+/// All rows with what is known of them.
 pub fn levels_of<W: Watch>(
     alloc: Global,
-    instance: &Instance,
-    rows: &[Row],
-    tops: &[u32],
+    grid: &Grid<'_>,
     pool: &mut Pool,
-    cover: u64,
     watch: &W,
 ) -> Result<Vec<Level>, Halt>
-    requires pool { length pool.old ≡ length rows.now }
-    requires lattice { IsLattice instance.now rows.now }
-    requires cover { instance.now.params.max1 * instance.now.params.height ≤ cover }
+    requires { length pool.old ≡ length grid.now.rows.now }
     ensures pool { OnOk result (length pool.new ≡ length pool.old) }
-    ensures len { IfOk result (λ levels. length levels.items ≡ length rows.now) }
-    ensures built { IfOk result (λ levels. Built instance.now rows.now tops.now cover levels.items) }
+    ensures len { IfOk result (λ levels. length levels.items ≡ length grid.now.rows.now) }
+    ensures built { IfOk result (λ levels. Built grid.now.instance.now grid.now.rows.now grid.now.tops.now grid.now.cover levels.items) }
 {
     let mut levels = Vec::new(alloc);
     let mut hint = 0;
+    let rows = grid.rows;
     for done in 0..rows.len() {
         watch.looks(done, rows.len());
-        add_level(
-            alloc,
-            instance,
-            rows,
-            tops,
-            &mut levels,
-            pool,
-            cover,
-            &mut hint,
-        )?;
+        add_level(alloc, grid, &mut levels, pool, &mut hint)?;
     }
     Ok(levels)
 }

@@ -2,7 +2,7 @@
 use Rattle.std.proofs.Common.{◌≡◌, ◌≤◌, ℕ, List, length, Bool, true, false, refl, sym, ap, subst, ◌∙◌, inl, inr, Option, None}
 use Rattle.std.specs.Prelude.{nat_le, if◌then◌else◌}
 use Rattle.std.proofs.lemmas.Bool.{leb-true}
-use Rattle.glass_base.specs.Problem.{Problem, IsProblem}
+use Rattle.glass_base.specs.Problem.{Problem}
 use Rattle.glass_base.specs.declared.role.Role.TheVariants as role
 use Rattle.glass_io.specs.Told.{Contents}
 use Rattle.cut_model.specs.Tree.{Forest}
@@ -19,15 +19,16 @@ use Rattle.run_checks.specs.Checks.NotAccepted.{bad_cert, bad_plan, bad_tree, br
 use Rattle.glass_run.specs.Commands.{Answers, AnswersInstance, cert_name, plan_name}
 use Rattle.glass_run.specs.Headlines.{Ended, IsSearchEnd, StoresResumed}
 use Rattle.run_search.specs.Plans.{ending, planned}
-use Rattle.run_search.specs.Resumptions.{GoesOn, GoesOnWithin, IsResumed, Resumes, too_long_to_read}
+use Rattle.run_search.specs.Resumptions.{GoesOn, GoesOnWithin, Resumes, too_long_to_read}
 use Rattle.run_frame.specs.Runs.{Prints, RunsTo, Stands, World}
 use Rattle.run_frame.specs.Texts.{limit_of, text_for, text_or_empty}
 use Rattle.run_frame.specs.declared.status.Status.{Status}
 use Rattle.glass_run.proofs.Headlines.{Says, completed_says, rules_of}
-use Rattle.glass_run.proofs.SearchHeadline.{accepts, accepts_or, bound_exact, completes, left_stopped, stopped_left}
+use Rattle.glass_run.proofs.SearchHeadline.{accepts, bound_exact, completes, left_stopped, stopped_left}
 use Rattle.run_plans.proofs.Statuses.{plan_refused}
 use Rattle.run_checks.proofs.Statuses.{cert_refused}
-use Rattle.run_search.proofs.StoredTexts.{CanBeRead, is_text_of, verified_or}
+use Rattle.run_checks.proofs.RightTexts.{right_passes}
+use Rattle.run_search.proofs.StoredTexts.{verified_or}
 
 -- an answer to what is not accepted has none of the statuses of a search
 never_ended : (b : Problem) (plan_text : Option (List ℕ)) (text : List ℕ) (answer : Answer) → IsSearchEnd answer.status → NotAccepted b plan_text text answer → ⊥
@@ -35,16 +36,6 @@ never_ended b plan_text text answer end (bad_plan reason refused h) = accepts an
 never_ended b plan_text text answer end (bad_cert plan reason said reading h) = accepts answer.status end (cert_refused reason answer h)
 never_ended b plan_text text answer end (broken_plan plan c broken said unlawful first e) = subst (λ (a : Answer). IsSearchEnd a.status) e end
 never_ended b plan_text text answer end (bad_tree plan c at why said lawful wrong first e) = subst (λ (a : Answer). IsSearchEnd a.status) e end
-
--- what was joined can be read again
-can_be_read : (b : Problem) (budget : ℕ) (plan : Option Forest) (c j : Certificate) (best : Option Forest) → IsProblem b → IsResumed b budget plan c j best → CanBeRead b best j
-can_be_read b budget plan c j best problem resumed = record {
-  problem = problem;
-  said = resumed.said.plan_is;
-  text = is_text_of b j problem resumed.good resumed.version resumed.few resumed.said.reading.begins.head;
-  plan_is = resumed.plan_is;
-  good = resumed.good;
-}
 
 -- an answer that is one of two, of which the other has none of the statuses of a search
 one_of : (read : Bool) (good other answer : Answer) → IsSearchEnd answer.status → ¬ IsSearchEnd other.status → answer ≡ (if read then good else other) → (read ≡ true) × (answer ≡ good)
@@ -83,8 +74,8 @@ stores_more line held old new answer result s plan c right g end is stored print
       resumed = g.resumed;
       stored = subst (λ (a : Answer). Stands a.stores old.shelf.contents new.shelf.contents) kept.1 stored;
       prints = subst (λ (a : Answer). Prints a.lines old.paper new.paper) kept.1 prints;
-      accepted = accepts_or s.b (root_ranges s.b) j.loss j g.resumed.good;
-      verified = verified_or s.b g.best j (can_be_read s.b (count_in line count.Budget) plan c j g.best (rules_of line.verb line s.texts s.b s.reads.instance_is) g.resumed);
+      accepted = right_passes s.b (root_ranges s.b) j.loss j g.resumed.good;
+      verified = verified_or s.b g.best j g.resumed.said g.resumed.plan_is g.resumed.good kept.0;
       readable = kept.0;
       ends = ended;
       left_open = ((λ e. stopped_left j (sym ended ∙ e)), (λ some. ended ∙ left_stopped j some));

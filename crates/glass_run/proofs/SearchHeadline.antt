@@ -1,27 +1,23 @@
 -- What a user may conclude from how a search ended.
-use Rattle.std.proofs.Common.{◌≡◌, ◌⊎◌, ℕ, zero, suc, ◌<◌, ◌≤◌, ◌+◌, ◌-◌, ◌*◌, ◌^◌, List, [], ◌∷◌, length, Bool, true, false, cond, arith, refl, sym, ap, subst, ◌∙◌, inl, inr, Option}
+use Rattle.std.proofs.Common.{◌≡◌, ℕ, zero, suc, ◌<◌, ◌≤◌, ◌+◌, ◌-◌, ◌^◌, List, [], ◌∷◌, length, Bool, true, false, cond, arith, refl, sym, ap, subst, ◌∙◌, inl, inr, Option}
 use Rattle.std.specs.Prelude.{◌==◌, is_some}
-use Rattle.std.proofs.Math.Nat.{mul-le-mul_right}
-use Rattle.glass_base.specs.Problem.{Problem, IsProblem}
+use Rattle.glass_base.specs.Problem.{Problem}
 use Rattle.glass_io.specs.Told.{Contents}
-use Rattle.cut_model.specs.Tree.{Forest}
 use Rattle.plan_box.specs.Frames.{frame_of}
 use Rattle.plan_box.specs.Halves.{IsDepth}
 use Rattle.plan_box.specs.Ranges.{Ranges}
 use Rattle.cert_log.specs.declared.certificate.Certificate.{Certificate}
 use Rattle.cert_log.specs.Good.{IsGood, least_of, open_bounds}
 use Rattle.cert_log.proofs.GoodNodes.{good_counts, no_larger_than_full}
-use Rattle.cert_log.proofs.Versions.{has_version}
 use Rattle.run_frame.specs.Answers.{Answer}
 use Rattle.glass_run.specs.Commands.{Answers, AnswersInstance, cert_name, plan_name}
 use Rattle.command_line.specs.Grammar.{Line, count_in, flag_in}
-use Rattle.glass_run.specs.Headlines.{Ended, IsSearch, IsSearchEnd, MissesFloor, StoresSearch}
-use Rattle.run_search.specs.Plans.{IsFound, PlansWithin, ending, handled, most_work, planned}
+use Rattle.glass_run.specs.Headlines.{Ended, IsSearch, IsSearchEnd, StoresSearch}
+use Rattle.run_search.specs.Plans.{PlansWithin, ending, handled, planned}
 use Rattle.run_checks.specs.Checks.{root_ranges}
 use Rattle.run_frame.specs.Texts.{Texts}
 use Rattle.cert_check.specs.declared.verdict.Verdict.{Verdict}
 use Rattle.cert_check.specs.Faults.{Answers as CheckAnswers}
-use Rattle.cert_check.proofs.Accepting.{only_floor}
 use Rattle.run_frame.specs.Runs.{Completes, LineRun, Prints, RunsTo, Stands, World}
 use Rattle.command_line.specs.declared.grammar.Count.TheVariants as count
 use Rattle.command_line.specs.declared.grammar.Flag.TheVariants as flag
@@ -29,8 +25,9 @@ use Rattle.command_line.specs.declared.grammar.Verb.{Verb}
 use Rattle.command_line.specs.declared.grammar.Verb.TheVariants as verb
 use Rattle.run_frame.specs.declared.status.Status.{Status}
 use Rattle.run_frame.specs.declared.status.Status.TheVariants as status
-use Rattle.glass_run.proofs.Headlines.{Says, completed_says, rules_of}
-use Rattle.run_search.proofs.StoredTexts.{CanBeRead, is_text, verified, verified_or}
+use Rattle.glass_run.proofs.Headlines.{Says, completed_says}
+use Rattle.run_checks.proofs.RightTexts.{right_passes}
+use Rattle.run_search.proofs.StoredTexts.{verified_or}
 use Rattle.run_frame.proofs.Statuses.{IsRefused}
 
 -- a run that ended as a search did what its answer says
@@ -126,31 +123,12 @@ plans_by verb.Sheet is line texts b answer h = absurd is
 plans_by verb.Replay is line texts b answer h = absurd is
 plans_by verb.Picture is line texts b answer h = absurd is
 
--- a check accepts a certificate that is right, or does not show its floor
-pub accepts_or : (b : Problem) (rs : List Ranges) (loss : Option ℕ) (c : Certificate) → IsGood b rs loss c → (verdict : Verdict) → CheckAnswers b rs loss c verdict → (verdict ≡ Verdict.Accept c.bound c.left) ⊎ MissesFloor c verdict
-accepts_or b rs loss c good (Verdict.Accept bound left) h = inl (ap (λ (n : Option ℕ). Verdict.Accept n left) h.1 ∙ ap (λ (n : ℕ). Verdict.Accept c.bound n) h.2)
-accepts_or b rs loss c good (Verdict.Refuse at why) h =
-    let fault = only_floor b rs loss c at why good h.0 h.1 in
-    inr (fault.found, fault.less, ap (λ (n : ℕ). Verdict.Refuse n why) fault.line_is ∙ ap (Verdict.Refuse 1) fault.why_is)
-
 -- where there is no floor, it accepts it
 accepts_good : (b : Problem) (rs : List Ranges) (loss : Option ℕ) (c : Certificate) → IsGood b rs loss c → c.floor ≡ 0 → (verdict : Verdict) → CheckAnswers b rs loss c verdict → verdict ≡ Verdict.Accept c.bound c.left
-accepts_good b rs loss c good none verdict h = elim (accepts_or b rs loss c good verdict h) [
+accepts_good b rs loss c good none verdict h = elim (right_passes b rs loss c good verdict h) [
   | inl is ↦ is
   | inr missed ↦ absurd (omega (arith, none, missed.1))
 ]
-
--- what was found can be read again
-can_be_read : (b : Problem) (budget : ℕ) (c : Certificate) (plan : Option Forest) → IsProblem b → length b.items * budget ≤ most_work → IsFound b budget c plan → CanBeRead b plan c
-can_be_read b budget c plan problem work found =
-    let most : 1 * budget ≤ length b.items * budget = mul-le-mul_right budget problem.some in
-    record {
-      problem = problem;
-      said = found.said.plan_is;
-      text = is_text b c problem found.good (has_version c.floor c (found.version, refl)) (omega (arith, found.in_budget, most, work)) found.said.reading.begins.head;
-      plan_is = found.plan_is;
-      good = found.good;
-    }
 
 stores_search : (line : Line) (held : Contents) (old new : World) (answer : Answer) (result : Status) (search : Verb) → IsSearch search → line.verb ≡ search → IsSearchEnd result → result ≡ answer.status → Says line held answer →
     Stands answer.stores old.shelf.contents new.shelf.contents → Prints answer.lines old.paper new.paper → StoresSearch line held old new result
@@ -173,14 +151,17 @@ stores_search line held old new answer result search searches of end is s stored
             prints = subst (λ (a : Answer). Prints a.lines old.paper new.paper) p.1.answer_is prints;
             improvements = p.1.improvements;
             good = found.good;
-            accepted = accepts_or s.b (root_ranges s.b) c.loss c found.good;
-            verified = verified_or s.b p.1.plan c (can_be_read s.b budget c p.1.plan (rules_of line.verb line s.texts s.b s.reads.instance_is) p.0 found);
+            accepted = right_passes s.b (root_ranges s.b) c.loss c found.good;
+            verified = verified_or s.b p.1.plan c found.said found.plan_is found.good found.readable.cert_short;
             unasked = λ off.
                 let none = p.1.unasked off in (
                   none,
                   record {
                     checked = accepts_good s.b (root_ranges s.b) c.loss c found.good none;
-                    verified = verified s.b p.1.plan c (can_be_read s.b budget c p.1.plan (rules_of line.verb line s.texts s.b s.reads.instance_is) p.0 found) none;
+                    verified = λ answer h. elim (verified_or s.b p.1.plan c found.said found.plan_is found.good found.readable.cert_short answer h) [
+                      | inl is ↦ is
+                      | inr missed ↦ absurd (omega (arith, none, missed.1))
+                    ];
                   },
                 );
             readable = found.readable;

@@ -29,6 +29,7 @@ use Rattle.run_plans.specs.Judgements.{IsFirstBroken, lawful_line, unlawful_line
 use Rattle.run_search.specs.Plans.{AreReadable, HasLoss, IsOfSearch, ending, handled, planned, search_lines, search_summary, AreTold}
 use Rattle.run_search.specs.Resumptions.{IsResumed}
 use Rattle.run_frame.specs.Runs.{Prints, RunsTo, Stands, World}
+use Rattle.run_checks.specs.RightTexts.{MissesFloor}
 use Rattle.run_checks.specs.Said.{SayBoth}
 use Rattle.run_frame.specs.Texts.{Texts, limit_of, text_for, text_or_empty, texts_of}
 use Rattle.command_line.specs.declared.grammar.Count.TheVariants as count
@@ -123,10 +124,6 @@ IsSearchEnd status.Optimal = Unit {0}
 IsSearchEnd status.Stopped = Unit {0}
 IsSearchEnd status.Infeasible = Unit {0}
 IsSearchEnd _ = ⊥
-
--- a check of the certificate does not show its floor, but a lesser one
-abbrev pub MissesFloor : Certificate → Verdict → Type 0
-MissesFloor c verdict = (found : ℕ) × (found < c.floor) × (verdict ≡ Verdict.Refuse 1 (Why.WrongFloor c.floor found))
 
 -- a check of the certificate accepts it, and so does `verify` of the two texts, if there is a plan, and else of the certificate alone
 pub record IsAcceptedAgain (b : Problem) (plan : Option Forest) (certificate : Certificate) : Type 0 where

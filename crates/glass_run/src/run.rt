@@ -21,7 +21,7 @@ use run_frame::{
     NoReply, Reply, Status, Text, USAGE_LINE, deliver, fetch_files, read_fault_line, reply_with,
     text_of_role, text_or_empty,
 };
-use run_search::{Opening, freeze_text, plan_instance, resume_texts};
+use run_search::{Opening, Workforce, freeze_text, plan_instance, resume_texts};
 use std::alloc::Global;
 use std::sync::Wait;
 use std::thread::Threads;
@@ -39,6 +39,12 @@ fn reply_by_search<R: Threads + Wait + Sync, G: Gate + Sync>(
     ensures { let said = line_in line.now in IfOk result (λ r. AnswersInstance said.verb said (texts_in texts.now) instance.now (answer_in (stored_as said) r)) }
 {
     let (workers, budget) = (line.count(Count::Workers), line.count(Count::Budget));
+    let workforce = Workforce {
+        rt,
+        gate,
+        workers,
+        budget,
+    };
     match line.verb {
         Verb::Plan | Verb::Gen => {
             let watch = line.flag(Flag::Watch);
@@ -46,17 +52,17 @@ fn reply_by_search<R: Threads + Wait + Sync, G: Gate + Sync>(
                 fronts: line.flag(Flag::Fronts),
                 effort: line.count(Count::Effort),
             };
-            plan_instance(rt, alloc, instance, workers, budget, watch, opening, gate)
+            plan_instance(alloc, &workforce, instance, watch, opening)
         }
         Verb::Resume => {
             let plan = text_of_role(texts, Role::Plan);
             let cert = text_or_empty(texts, Role::Cert);
-            resume_texts(rt, alloc, instance, plan, cert, workers, budget, gate)
+            resume_texts(alloc, &workforce, instance, plan, cert)
         }
         Verb::Freeze => {
             let plan = text_or_empty(texts, Role::Plan);
             let k = line.lead(Lead::Frozen);
-            freeze_text(rt, alloc, instance, plan, k, workers, budget, gate)
+            freeze_text(alloc, &workforce, instance, plan, k)
         }
         Verb::Draft
         | Verb::Judge

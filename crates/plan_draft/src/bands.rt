@@ -11,9 +11,9 @@ use crate::site::Site;
 /// The least upper side of a band from `least` on, in a strip from `left` to `right`.
 fn top_from(site: Site, left: u32, right: u32, least: u32) -> Option<u32>
     requires { left < right }
-    ensures { let b = site.entry.instance.now in MatchOption result (HasNone (IsTop b site.entry.plate left right) least) (IsLeast (IsTop b site.entry.plate left right) least) }
+    ensures { let b = site.entry.ground.instance.now in MatchOption result (HasNone (IsTop b site.entry.plate left right) least) (IsLeast (IsTop b site.entry.plate left right) least) }
 {
-    let params = site.instance.params();
+    let params = site.ground.instance.params();
     let top = level_from(site, least, left, right);
     if u64::from(top) + u64::from(params.waste) <= u64::from(params.height) {
         return Some(top);
@@ -28,9 +28,9 @@ fn top_from(site: Site, left: u32, right: u32, least: u32) -> Option<u32>
 /// Whether the upper side of a band may stand here, in a strip from `left` to `right`.
 fn is_top(site: Site, left: u32, right: u32, top: u32) -> bool
     requires { left < right }
-    ensures { IsTrue result ↔ IsTop site.entry.instance.now site.entry.plate left right top }
+    ensures { IsTrue result ↔ IsTop site.entry.ground.instance.now site.entry.plate left right top }
 {
-    let params = site.instance.params();
+    let params = site.ground.instance.params();
     top == params.height
         || u64::from(top) + u64::from(params.waste) <= u64::from(params.height)
             && is_clear_y(site, top, left, right)
@@ -40,7 +40,7 @@ fn is_top(site: Site, left: u32, right: u32, top: u32) -> bool
 fn is_beside(site: Site, left: u32, right: u32, item: Sides, c: u32, d: u32) -> bool
     requires left { left ≤ 40000 }
     requires band { c < d }
-    ensures { IsTrue result ↔ IsBeside site.entry.instance.now site.entry.plate left right item.w c d }
+    ensures { IsTrue result ↔ IsBeside site.entry.ground.instance.now site.entry.plate left right item.w c d }
 {
     left + item.w == right || is_clear_x(site, left + item.w, c, d)
 }
@@ -50,10 +50,10 @@ fn fills(site: Site, left: u32, right: u32, item: Sides, c: u32) -> bool
     requires strip { left < right }
     requires left { left ≤ 40000 }
     requires low { c ≤ 40000 }
-    ensures { IsTrue result ↔ IsTopOf site.entry.instance.now site.entry.plate left right item.w item.h c (c + item.h) }
+    ensures { IsTrue result ↔ IsTopOf site.entry.ground.instance.now site.entry.plate left right item.w item.h c (c + item.h) }
 {
     let top = c + item.h;
-    site.instance.params().min2 <= item.h
+    site.ground.instance.params().min2 <= item.h
         && is_top(site, left, right, top)
         && is_beside(site, left, right, item, c, top)
 }
@@ -63,9 +63,9 @@ fn top_over(site: Site, left: u32, right: u32, item: Sides, c: u32) -> Option<u3
     requires strip { left < right }
     requires left { left ≤ 40000 }
     requires low { c ≤ 40000 }
-    ensures { let b = site.entry.instance.now in MatchOption result (HasNone (IsOver b site.entry.plate left right item.w item.h c) 0) (IsLeast (IsOver b site.entry.plate left right item.w item.h c) 0) }
+    ensures { let b = site.entry.ground.instance.now in MatchOption result (HasNone (IsOver b site.entry.plate left right item.w item.h c) 0) (IsLeast (IsOver b site.entry.plate left right item.w item.h c) 0) }
 {
-    let params = site.instance.params();
+    let params = site.ground.instance.params();
     if item.w < params.waste || !is_clear_y(site, c + item.h, left, left + item.w) {
         return None;
     }
@@ -87,7 +87,7 @@ fn top_of(site: Site, left: u32, right: u32, item: Sides, c: u32) -> Option<u32>
     requires strip { left < right }
     requires left { left ≤ 40000 }
     requires low { c ≤ 40000 }
-    ensures { let b = site.entry.instance.now in MatchOption result (HasNone (IsTopOf b site.entry.plate left right item.w item.h c) 0) (IsLeast (IsTopOf b site.entry.plate left right item.w item.h c) 0) }
+    ensures { let b = site.entry.ground.instance.now in MatchOption result (HasNone (IsTopOf b site.entry.plate left right item.w item.h c) 0) (IsLeast (IsTopOf b site.entry.plate left right item.w item.h c) 0) }
 {
     if fills(site, left, right, item, c) {
         Some(c + item.h)
@@ -101,12 +101,12 @@ fn blocked_bottom(site: Site, left: u32, right: u32, item: Sides, c: u32) -> Opt
     requires strip { left < right }
     requires left { left ≤ 40000 }
     requires low { c ≤ 40000 }
-    ensures { let b = site.entry.instance.now in MatchOption result (IsBottomOf b site.entry.plate left right item.w item.h c) (IsSkip (IsBottomOf b site.entry.plate left right item.w item.h) c) }
+    ensures { let b = site.entry.ground.instance.now in MatchOption result (IsBottomOf b site.entry.plate left right item.w item.h c) (IsSkip (IsBottomOf b site.entry.plate left right item.w item.h) c) }
 {
     if c == 0 {
         return blocked_item(site, left, 0, item);
     }
-    let waste = site.instance.params().waste;
+    let waste = site.ground.instance.params().waste;
     if c < waste {
         return Some(waste);
     }
@@ -120,9 +120,9 @@ fn blocked_bottom(site: Site, left: u32, right: u32, item: Sides, c: u32) -> Opt
 pub fn band_from(site: Site, left: u32, right: u32, item: Sides) -> Option<Band>
     requires strip { left < right }
     requires left { left ≤ 40000 }
-    ensures { let b = site.entry.instance.now in MatchOption result (HasNone (HasBand b site.entry.plate left right item.w item.h) 0) (IsLeastBand b site.entry.plate left right item.w item.h 0) }
+    ensures { let b = site.entry.ground.instance.now in MatchOption result (HasNone (HasBand b site.entry.plate left right item.w item.h) 0) (IsLeastBand b site.entry.plate left right item.w item.h 0) }
 {
-    let height = site.instance.params().height;
+    let height = site.ground.instance.params().height;
     let mut c = 0;
     while c + item.h <= height {
         match blocked_bottom(site, left, right, item, c) {

@@ -12,7 +12,7 @@ ghost use Rattle.plan_draft.specs.inner.Drafting.{AreMore, IsOneMore, IsUnderWay
 
 use crate::stepping::next_step;
 use cut_model::{Step, Trace};
-use defect_map::DefectMap;
+use defect_map::{DefectMap, Ground};
 use glass_base::{Instance, Item, Memory, Run, append};
 use std::alloc::Global;
 
@@ -35,19 +35,17 @@ fn plates_behind(kind: u32, before: u32) -> u32
 /// Takes the least step of an item from this stack, or gives the item's number where it has none.
 fn draft_item(
     drafting: &mut Drafting,
-    instance: &Instance,
-    map: &DefectMap,
+    ground: Ground<'_>,
     stack: u32,
     item: &Item,
 ) -> Result<Option<u32>, Memory>
-    requires map { map.now ≡ instance.now.defects }
-    requires under_way { IsUnderWay instance.now drafting.old.steps.items drafting.old.plates drafting.old.right }
+    requires under_way { IsUnderWay ground.instance.now drafting.old.steps.items drafting.old.plates drafting.old.right }
     requires range { IsItemInRange item.now }
     requires sides { HasSides item.now }
-    requires due { item_at instance.now stack (drawn (draws_of drafting.old.steps.items) stack) ≡ Some item.now }
-    ensures { IfOk result (λ stopped. MatchOption stopped (IsOneMore instance.now drafting.old.steps.items stack drafting.new.steps.items drafting.new.plates drafting.new.right) (λ number. HasNoNext instance.now drafting.old.steps.items stack × (number ≡ item.now.id))) }
+    requires due { item_at ground.instance.now stack (drawn (draws_of drafting.old.steps.items) stack) ≡ Some item.now }
+    ensures { let b = ground.entry.instance.now in IfOk result (λ stopped. MatchOption stopped (IsOneMore b drafting.old.steps.items stack drafting.new.steps.items drafting.new.plates drafting.new.right) (λ number. HasNoNext b drafting.old.steps.items stack × (number ≡ item.now.id))) }
 {
-    match next_step(instance, map, drafting.plates, drafting.right, stack, item) {
+    match next_step(ground, drafting.plates, drafting.right, stack, item) {
         None => Ok(Some(item.id)),
         Some(step) => {
             append(&mut drafting.steps, step)?;
@@ -61,19 +59,17 @@ fn draft_item(
 /// Takes the least step of each item of a stack, or gives the number of the first one that has none.
 fn draft_stack(
     drafting: &mut Drafting,
-    instance: &Instance,
-    map: &DefectMap,
+    ground: Ground<'_>,
     stack: u32,
 ) -> Result<Option<u32>, Memory>
-    requires map { map.now ≡ instance.now.defects }
-    requires stack { stack < length instance.now.stacks }
-    requires under_way { IsUnderWay instance.now drafting.old.steps.items drafting.old.plates drafting.old.right }
+    requires stack { stack < length ground.instance.now.stacks }
+    requires under_way { IsUnderWay ground.instance.now drafting.old.steps.items drafting.old.plates drafting.old.right }
     requires fresh { drawn (draws_of drafting.old.steps.items) stack ≡ 0 }
-    ensures { let stacks = replicate (length (stack_at instance.now stack)) stack in IfOk result (λ stopped. MatchOption stopped (AreMore instance.now drafting.old.steps.items stacks drafting.new.steps.items drafting.new.plates drafting.new.right) (StopsIn instance.now drafting.old.steps.items stacks)) }
+    ensures { let b = ground.entry.instance.now in let stacks = replicate (length (stack_at b stack)) stack in IfOk result (λ stopped. MatchOption stopped (AreMore b drafting.old.steps.items stacks drafting.new.steps.items drafting.new.plates drafting.new.right) (StopsIn b drafting.old.steps.items stacks)) }
 {
-    for position in instance.stack(stack) {
-        let item = instance.items()[*position as usize];
-        match draft_item(drafting, instance, map, stack, &item)? {
+    for position in ground.instance.stack(stack) {
+        let item = ground.instance.items()[*position as usize];
+        match draft_item(drafting, ground, stack, &item)? {
             Some(number) => return Ok(Some(number)),
             None => {}
         }
@@ -95,13 +91,14 @@ pub fn draft(
     ensures drafted { IfOk result (λ drafted. MatchResult drafted (λ trace. IsDraft instance.now trace.steps.items) (HasNoDraft instance.now)) }
     ensures complete { IfOk result (λ drafted. IfOk drafted (λ trace. IsComplete instance.now trace.steps.items)) }
 {
+    let ground = Ground { instance, map };
     let mut drafting = Drafting {
         steps: Run::new(alloc),
         plates: 0,
         right: 0,
     };
     for stack in 0..instance.stacks() {
-        match draft_stack(&mut drafting, instance, map, stack)? {
+        match draft_stack(&mut drafting, ground, stack)? {
             Some(number) => return Ok(Err(number)),
             None => {}
         }

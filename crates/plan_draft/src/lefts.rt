@@ -14,7 +14,7 @@ use glass_base::Item;
 
 /// The right side of a defect through which the left side of a strip at `left` would run, if there is one.
 fn blocked_line(site: Site, left: u32) -> Option<u32>
-    ensures { let b = site.entry.instance.now in MatchOption result (IsUpright b site.entry.plate 0 left) (IsSkip (IsUpright b site.entry.plate 0) left) }
+    ensures { let b = site.entry.ground.instance.now in MatchOption result (IsUpright b site.entry.plate 0 left) (IsSkip (IsUpright b site.entry.plate 0) left) }
 {
     if left == 0 {
         None
@@ -27,12 +27,12 @@ fn blocked_line(site: Site, left: u32) -> Option<u32>
 fn blocked_left(site: Site, from: u32, left: u32) -> Option<u32>
     requires from { from ≤ left }
     requires left { left ≤ 20000 }
-    ensures { let b = site.entry.instance.now in MatchOption result (IsLeft b site.entry.plate from left) (IsSkip (IsLeft b site.entry.plate from) left) }
+    ensures { let b = site.entry.ground.instance.now in MatchOption result (IsLeft b site.entry.plate from left) (IsSkip (IsLeft b site.entry.plate from) left) }
 {
     if left == from {
         return blocked_line(site, left);
     }
-    let next = from + site.instance.params().waste;
+    let next = from + site.ground.instance.params().waste;
     if left < next {
         return Some(next);
     }
@@ -41,10 +41,10 @@ fn blocked_left(site: Site, from: u32, left: u32) -> Option<u32>
 
 /// Where the left side of a strip is too far right to be of use: at the plate's end, or at the right side of the best place so far.
 fn far_end(site: Site, best: Option<Place>) -> u32
-    ensures { result ≡ end_of (Width site.entry.instance.now site.entry.plate) best }
+    ensures { result ≡ end_of (Width site.entry.ground.instance.now site.entry.plate) best }
 {
     match best {
-        None => site.instance.width(site.plate),
+        None => site.ground.instance.width(site.plate),
         Some(place) => place.b,
     }
 }
@@ -53,12 +53,17 @@ fn far_end(site: Site, best: Option<Place>) -> u32
 pub fn first_place(site: Site, from: u32, item: &Item) -> Option<Place>
     requires range { IsItemInRange item.now }
     requires sides { HasSides item.now }
-    ensures { let b = site.entry.instance.now in MatchOption result (HasNoPlace (IsPlace b site.entry.plate from item.now)) (IsFirstOf (IsPlace b site.entry.plate from item.now)) }
+    ensures { let b = site.entry.ground.instance.now in MatchOption result (HasNoPlace (IsPlace b site.entry.plate from item.now)) (IsFirstOf (IsPlace b site.entry.plate from item.now)) }
 {
-    if from > site.instance.width(site.plate) {
+    if from > site.ground.instance.width(site.plate) {
         return None;
     }
-    let least = site.instance.params().min1.max(item.length.min(item.width));
+    let least = site
+        .ground
+        .instance
+        .params()
+        .min1
+        .max(item.length.min(item.width));
     let mut best: Option<Place> = None;
     let mut left = from;
     while left + least <= far_end(site, best) {

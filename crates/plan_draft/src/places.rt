@@ -16,10 +16,10 @@ use glass_base::Item;
 /// The first place of an item at the left side of a strip that ends at `right`.
 fn place_to(site: Site, left: u32, right: u32, item: Sides, turn: u32) -> Option<Place>
     requires left { left ≤ 20000 }
-    requires wide { left + site.instance.now.params.min1 ≤ right }
-    requires right { IsRight site.instance.now site.plate (left + site.instance.now.params.max1) right }
-    requires behind { Gap site.instance.now.params.waste (left + item.w) right }
-    ensures { let b = site.entry.instance.now in MatchOption result (HasNoPlace (StandsTo b site.entry.plate left turn item.w item.h right)) (IsFirstOf (StandsTo b site.entry.plate left turn item.w item.h right)) }
+    requires wide { left + site.ground.instance.now.params.min1 ≤ right }
+    requires right { IsRight site.ground.instance.now site.plate (left + site.ground.instance.now.params.max1) right }
+    requires behind { Gap site.ground.instance.now.params.waste (left + item.w) right }
+    ensures { let b = site.entry.ground.instance.now in MatchOption result (HasNoPlace (StandsTo b site.entry.plate left turn item.w item.h right)) (IsFirstOf (StandsTo b site.entry.plate left turn item.w item.h right)) }
 {
     match band_from(site, left, right, item) {
         None => None,
@@ -35,10 +35,10 @@ fn place_to(site: Site, left: u32, right: u32, item: Sides, turn: u32) -> Option
 
 /// Whether a strip may end here.
 fn is_right(site: Site, most: u32, right: u32) -> bool
-    ensures { IsTrue result ↔ IsRight site.entry.instance.now site.entry.plate most right }
+    ensures { IsTrue result ↔ IsRight site.entry.ground.instance.now site.entry.plate most right }
 {
-    let params = site.instance.params();
-    let width = site.instance.width(site.plate);
+    let params = site.ground.instance.params();
+    let width = site.ground.instance.width(site.plate);
     right <= most
         && (right == width
             || u64::from(right) + u64::from(params.waste) <= u64::from(width)
@@ -48,9 +48,9 @@ fn is_right(site: Site, most: u32, right: u32) -> bool
 /// The first place of an item at the left side of a strip that is as wide as the item.
 fn place_alone(site: Site, left: u32, item: Sides, turn: u32) -> Option<Place>
     requires left { left ≤ 20000 }
-    ensures { let b = site.entry.instance.now in MatchOption result (HasNoPlace (StandsTo b site.entry.plate left turn item.w item.h (left + item.w))) (IsFirstOf (StandsTo b site.entry.plate left turn item.w item.h (left + item.w))) }
+    ensures { let b = site.entry.ground.instance.now in MatchOption result (HasNoPlace (StandsTo b site.entry.plate left turn item.w item.h (left + item.w))) (IsFirstOf (StandsTo b site.entry.plate left turn item.w item.h (left + item.w))) }
 {
-    let params = site.instance.params();
+    let params = site.ground.instance.params();
     let right = left + item.w;
     if item.w < params.min1 || !is_right(site, left + params.max1, right) {
         return None;
@@ -61,9 +61,9 @@ fn place_alone(site: Site, left: u32, item: Sides, turn: u32) -> Option<Place>
 /// The first place of an item at the left side of a strip in which a waste stands beside it.
 fn place_beside(site: Site, left: u32, item: Sides, turn: u32) -> Option<Place>
     requires left { left ≤ 20000 }
-    ensures { let b = site.entry.instance.now in MatchOption result (HasNoPlace (StandsBeside b site.entry.plate left turn item.w item.h)) (IsFirstOf (StandsBeside b site.entry.plate left turn item.w item.h)) }
+    ensures { let b = site.entry.ground.instance.now in MatchOption result (HasNoPlace (StandsBeside b site.entry.plate left turn item.w item.h)) (IsFirstOf (StandsBeside b site.entry.plate left turn item.w item.h)) }
 {
-    let params = site.instance.params();
+    let params = site.ground.instance.params();
     let least = left + params.min1.max(item.w + params.waste);
     match right_from(site, least, left + params.max1) {
         None => None,
@@ -74,7 +74,7 @@ fn place_beside(site: Site, left: u32, item: Sides, turn: u32) -> Option<Place>
 /// The first place of an item of these sides at the left side of a strip.
 fn place_in_turn(site: Site, left: u32, item: Sides, turn: u32) -> Option<Place>
     requires left { left ≤ 20000 }
-    ensures { let b = site.entry.instance.now in MatchOption result (HasNoPlace (StandsSo b site.entry.plate left turn item.w item.h)) (IsFirstOf (StandsSo b site.entry.plate left turn item.w item.h)) }
+    ensures { let b = site.entry.ground.instance.now in MatchOption result (HasNoPlace (StandsSo b site.entry.plate left turn item.w item.h)) (IsFirstOf (StandsSo b site.entry.plate left turn item.w item.h)) }
 {
     match place_alone(site, left, item, turn) {
         Some(place) => Some(place),
@@ -87,7 +87,7 @@ pub fn place_at(site: Site, left: u32, item: &Item) -> Option<Place>
     requires left { left ≤ 20000 }
     requires range { IsItemInRange item.now }
     requires sides { HasSides item.now }
-    ensures { let b = site.entry.instance.now in MatchOption result (HasNoPlace (StandsAt b site.entry.plate left item.now)) (IsFirstOf (StandsAt b site.entry.plate left item.now)) }
+    ensures { let b = site.entry.ground.instance.now in MatchOption result (HasNoPlace (StandsAt b site.entry.plate left item.now)) (IsFirstOf (StandsAt b site.entry.plate left item.now)) }
 {
     let unturned = Sides {
         w: item.length,

@@ -9,7 +9,7 @@ use crate::lefts::first_place;
 use crate::place::Place;
 use crate::site::Site;
 use cut_model::Step;
-use defect_map::DefectMap;
+use defect_map::Ground;
 use glass_base::{Instance, Item};
 
 /// The step of an item that stands alone at this place.
@@ -30,75 +30,54 @@ fn step_at(stack: u32, kind: u32, place: Place) -> Step
 }
 
 /// The first place of an item on this plate, behind what ends at `from`.
-fn place_on(
-    instance: &Instance,
-    map: &DefectMap,
-    plate: u32,
-    from: u32,
-    item: &Item,
-) -> Option<Place>
-    requires map { map.now ≡ instance.now.defects }
+fn place_on(ground: Ground<'_>, plate: u32, from: u32, item: &Item) -> Option<Place>
     requires range { IsItemInRange item.now }
     requires sides { HasSides item.now }
-    ensures { MatchOption result (HasNoPlace (IsPlace instance.now plate from item.now)) (IsFirstOf (IsPlace instance.now plate from item.now)) }
+    ensures { let b = ground.entry.instance.now in MatchOption result (HasNoPlace (IsPlace b plate from item.now)) (IsFirstOf (IsPlace b plate from item.now)) }
 {
-    let site = Site {
-        instance,
-        map,
-        plate,
-    };
+    let site = Site { ground, plate };
     first_place(site, from, item)
 }
 
 /// The first place of an item on the plate in use, if there is one, behind the last strip, which ends at `right`.
-fn place_in_use(
-    instance: &Instance,
-    map: &DefectMap,
-    plates: u32,
-    right: u32,
-    item: &Item,
-) -> Option<Place>
-    requires map { map.now ≡ instance.now.defects }
+fn place_in_use(ground: Ground<'_>, plates: u32, right: u32, item: &Item) -> Option<Place>
     requires range { IsItemInRange item.now }
     requires sides { HasSides item.now }
-    ensures { let b = instance.now in MatchOption result (1 ≤ plates → HasNoPlace (IsPlace b (plates - 1) right item.now)) (λ p. (1 ≤ plates) × IsFirstOf (IsPlace b (plates - 1) right item.now) p) }
+    ensures { let b = ground.entry.instance.now in MatchOption result (1 ≤ plates → HasNoPlace (IsPlace b (plates - 1) right item.now)) (λ p. (1 ≤ plates) × IsFirstOf (IsPlace b (plates - 1) right item.now) p) }
 {
     if plates == 0 {
         return None;
     }
-    place_on(instance, map, plates - 1, right, item)
+    place_on(ground, plates - 1, right, item)
 }
 
 /// The first place of an item on the next plate, if there is one.
-fn place_on_next(instance: &Instance, map: &DefectMap, plates: u32, item: &Item) -> Option<Place>
-    requires map { map.now ≡ instance.now.defects }
+fn place_on_next(ground: Ground<'_>, plates: u32, item: &Item) -> Option<Place>
     requires range { IsItemInRange item.now }
     requires sides { HasSides item.now }
-    ensures { let b = instance.now in MatchOption result (plates < b.params.plates → HasNoPlace (IsPlace b plates 0 item.now)) (λ p. (plates < b.params.plates) × IsFirstOf (IsPlace b plates 0 item.now) p) }
+    ensures { let b = ground.entry.instance.now in MatchOption result (plates < b.params.plates → HasNoPlace (IsPlace b plates 0 item.now)) (λ p. (plates < b.params.plates) × IsFirstOf (IsPlace b plates 0 item.now) p) }
 {
-    if plates >= instance.params().plates {
+    if plates >= ground.instance.params().plates {
         return None;
     }
-    place_on(instance, map, plates, 0, item)
+    place_on(ground, plates, 0, item)
 }
 
 /// The first step of an item, where so many plates are begun and the last strip ends at `right`.
 pub fn next_step(
-    instance: &Instance,
-    map: &DefectMap,
+    ground: Ground<'_>,
     plates: u32,
     right: u32,
     stack: u32,
     item: &Item,
 ) -> Option<Step>
-    requires map { map.now ≡ instance.now.defects }
     requires range { IsItemInRange item.now }
     requires sides { HasSides item.now }
-    ensures { MatchOption result (HasNoStep instance.now plates right stack item.now) (IsFirstStep instance.now plates right stack item.now) }
+    ensures { let b = ground.entry.instance.now in MatchOption result (HasNoStep b plates right stack item.now) (IsFirstStep b plates right stack item.now) }
 {
-    match place_in_use(instance, map, plates, right, item) {
+    match place_in_use(ground, plates, right, item) {
         Some(place) => Some(step_at(stack, 1, place)),
-        None => match place_on_next(instance, map, plates, item) {
+        None => match place_on_next(ground, plates, item) {
             None => None,
             Some(place) => Some(step_at(stack, 0, place)),
         },

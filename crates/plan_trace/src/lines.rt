@@ -6,35 +6,34 @@ ghost use Rattle.plan_trace.specs.TraceRules.{CrossesNoneX, CrossesNoneY, HitsNo
 
 use crate::laid::Laid;
 use crate::level::Level;
-use defect_map::DefectMap;
-use glass_base::{Instance, Params};
+use defect_map::Ground;
 
 /// Whether an upright line runs through no defect of the plate.
 #[tactic(auto, using(crate::proofs::LaidLemmas::none_passes))]
-fn is_clear_x(map: &DefectMap, plate: u32, x: u32, y0: u32, y1: u32) -> bool
+fn is_clear_x(ground: Ground<'_>, plate: u32, x: u32, y0: u32, y1: u32) -> bool
     requires { y0 < y1 }
-    ensures { IsTrue result ↔ CrossesNoneX map.now plate x y0 y1 }
+    ensures { IsTrue result ↔ CrossesNoneX ground.entry.instance.now.defects plate x y0 y1 }
 {
-    !map.crosses_x(plate, x, y0, y1)
+    !ground.map.crosses_x(plate, x, y0, y1)
 }
 
 /// Whether a level line runs through no defect of the plate.
 #[tactic(auto, using(crate::proofs::LaidLemmas::none_passes))]
-fn is_clear_y(map: &DefectMap, plate: u32, y: u32, x0: u32, x1: u32) -> bool
+fn is_clear_y(ground: Ground<'_>, plate: u32, y: u32, x0: u32, x1: u32) -> bool
     requires { x0 < x1 }
-    ensures { IsTrue result ↔ CrossesNoneY map.now plate y x0 x1 }
+    ensures { IsTrue result ↔ CrossesNoneY ground.entry.instance.now.defects plate y x0 x1 }
 {
-    !map.crosses_y(plate, y, x0, x1)
+    !ground.map.crosses_y(plate, y, x0, x1)
 }
 
 /// Whether the inside of a rectangle meets no defect of the plate.
 #[tactic(auto, using(crate::proofs::LaidLemmas::none_passes))]
-fn is_clear(map: &DefectMap, plate: u32, x0: u32, y0: u32, x1: u32, y1: u32) -> bool
+fn is_clear(ground: Ground<'_>, plate: u32, x0: u32, y0: u32, x1: u32, y1: u32) -> bool
     requires wide { x0 < x1 }
     requires high { y0 < y1 }
-    ensures { IsTrue result ↔ HitsNone map.now plate x0 y0 x1 y1 }
+    ensures { IsTrue result ↔ HitsNone ground.entry.instance.now.defects plate x0 y0 x1 y1 }
 {
-    !map.hits(plate, x0, y0, x1, y1)
+    !ground.map.hits(plate, x0, y0, x1, y1)
 }
 
 /// The lower side of a step's item.
@@ -54,13 +53,13 @@ fn bottom(s: &Laid) -> u32
 }
 
 /// Whether the inside of the item meets no defect.
-pub fn keeps8(map: &DefectMap, s: &Laid) -> bool
+pub fn keeps8(ground: Ground<'_>, s: &Laid) -> bool
     requires { IsFitted s.now }
-    ensures { IsTrue result ↔ TR8 map.now s.now.level (cut_of s.now) }
+    ensures { IsTrue result ↔ TR8 ground.entry.instance.now.defects s.now.level (cut_of s.now) }
 {
     let y = bottom(s);
     is_clear(
-        map,
+        ground,
         s.plates.saturating_sub(1),
         s.step.e,
         y,
@@ -70,45 +69,47 @@ pub fn keeps8(map: &DefectMap, s: &Laid) -> bool
 }
 
 /// Whether the sides of the strip run through no defect.
-fn strip_clear(instance: &Instance, map: &DefectMap, s: &Laid) -> bool
-    ensures { IsTrue result ↔ StripClear instance.now map.now (cut_of s.now) }
+fn strip_clear(ground: Ground<'_>, s: &Laid) -> bool
+    ensures { let b = ground.entry.instance.now in IsTrue result ↔ StripClear b b.defects (cut_of s.now) }
 {
-    let height = instance.params().height;
+    let height = ground.instance.params().height;
     let plate = s.plates.saturating_sub(1);
-    (s.step.a == 0 || is_clear_x(map, plate, s.step.a, 0, height))
-        && (s.step.b >= instance.width(plate) || is_clear_x(map, plate, s.step.b, 0, height))
+    (s.step.a == 0 || is_clear_x(ground, plate, s.step.a, 0, height))
+        && (s.step.b >= ground.instance.width(plate)
+            || is_clear_x(ground, plate, s.step.b, 0, height))
 }
 
 /// Whether the sides of the band run through no defect.
-fn band_clear(params: &Params, map: &DefectMap, s: &Laid) -> bool
+fn band_clear(ground: Ground<'_>, s: &Laid) -> bool
     requires { IsFitted s.now }
-    ensures { IsTrue result ↔ BandClear params.now map.now (cut_of s.now) }
+    ensures { let b = ground.entry.instance.now in IsTrue result ↔ BandClear b.params b.defects (cut_of s.now) }
 {
+    let height = ground.instance.params().height;
     let plate = s.plates.saturating_sub(1);
-    (s.step.c == 0 || is_clear_y(map, plate, s.step.c, s.step.a, s.step.b))
-        && (s.step.d >= params.height || is_clear_y(map, plate, s.step.d, s.step.a, s.step.b))
+    (s.step.c == 0 || is_clear_y(ground, plate, s.step.c, s.step.a, s.step.b))
+        && (s.step.d >= height || is_clear_y(ground, plate, s.step.d, s.step.a, s.step.b))
 }
 
 /// Whether the sides of the item's cell run through no defect.
-fn cell_clear(map: &DefectMap, s: &Laid) -> bool
+fn cell_clear(ground: Ground<'_>, s: &Laid) -> bool
     requires { IsFitted s.now }
-    ensures { IsTrue result ↔ CellClear map.now (cut_of s.now) }
+    ensures { IsTrue result ↔ CellClear ground.entry.instance.now.defects (cut_of s.now) }
 {
     let plate = s.plates.saturating_sub(1);
     let end = s.step.e + s.w;
-    (s.step.e <= s.step.a || is_clear_x(map, plate, s.step.e, s.step.c, s.step.d))
-        && (end >= s.step.b || is_clear_x(map, plate, end, s.step.c, s.step.d))
+    (s.step.e <= s.step.a || is_clear_x(ground, plate, s.step.e, s.step.c, s.step.d))
+        && (end >= s.step.b || is_clear_x(ground, plate, end, s.step.c, s.step.d))
 }
 
 /// Whether the line above an item that does not fill its cell runs through no defect.
-fn upper_clear(map: &DefectMap, s: &Laid) -> bool
+fn upper_clear(ground: Ground<'_>, s: &Laid) -> bool
     requires { IsFitted s.now }
-    ensures { IsTrue result ↔ UpperClear map.now (cut_of s.now) }
+    ensures { IsTrue result ↔ UpperClear ground.entry.instance.now.defects (cut_of s.now) }
 {
     let top = s.step.c + s.h;
     top >= s.step.d
         || is_clear_y(
-            map,
+            ground,
             s.plates.saturating_sub(1),
             top,
             s.step.e,
@@ -117,12 +118,12 @@ fn upper_clear(map: &DefectMap, s: &Laid) -> bool
 }
 
 /// Whether the line below a lifted item runs through no defect.
-fn lower_clear(map: &DefectMap, s: &Laid) -> bool
+fn lower_clear(ground: Ground<'_>, s: &Laid) -> bool
     requires { IsFitted s.now }
-    ensures { IsTrue result ↔ LowerClear map.now (cut_of s.now) }
+    ensures { IsTrue result ↔ LowerClear ground.entry.instance.now.defects (cut_of s.now) }
 {
     is_clear_y(
-        map,
+        ground,
         s.plates.saturating_sub(1),
         s.step.d - s.h,
         s.step.e,
@@ -131,42 +132,42 @@ fn lower_clear(map: &DefectMap, s: &Laid) -> bool
 }
 
 /// Whether the line between the item and the waste of its cell runs through no defect.
-fn lift_clear(map: &DefectMap, s: &Laid) -> bool
+fn lift_clear(ground: Ground<'_>, s: &Laid) -> bool
     requires { IsFitted s.now }
-    ensures { IsTrue result ↔ LiftLine map.now s.now.level s.now.step.lift (cut_of s.now) }
+    ensures { IsTrue result ↔ LiftLine ground.entry.instance.now.defects s.now.level s.now.step.lift (cut_of s.now) }
 {
     if s.step.lift != 0 {
-        return lower_clear(map, s);
+        return lower_clear(ground, s);
     }
     match s.level {
-        Level::NewPlate => upper_clear(map, s),
-        Level::NewStrip => upper_clear(map, s),
-        Level::NewBand => upper_clear(map, s),
-        Level::NewCell => upper_clear(map, s),
+        Level::NewPlate => upper_clear(ground, s),
+        Level::NewStrip => upper_clear(ground, s),
+        Level::NewBand => upper_clear(ground, s),
+        Level::NewCell => upper_clear(ground, s),
         Level::Over => true,
     }
 }
 
 /// Whether the sides of strip and band run through no defect.
-fn outer_clear(instance: &Instance, map: &DefectMap, s: &Laid) -> bool
+fn outer_clear(ground: Ground<'_>, s: &Laid) -> bool
     requires { IsFitted s.now }
-    ensures { IsTrue result ↔ (StripClear instance.now map.now (cut_of s.now) × BandClear instance.now.params map.now (cut_of s.now)) }
+    ensures { let b = ground.entry.instance.now in IsTrue result ↔ (StripClear b b.defects (cut_of s.now) × BandClear b.params b.defects (cut_of s.now)) }
 {
-    strip_clear(instance, map, s) && band_clear(instance.params(), map, s)
+    strip_clear(ground, s) && band_clear(ground, s)
 }
 
 /// Whether the lines in the band run through no defect.
-fn inner_clear(map: &DefectMap, s: &Laid) -> bool
+fn inner_clear(ground: Ground<'_>, s: &Laid) -> bool
     requires { IsFitted s.now }
-    ensures { IsTrue result ↔ (CellClear map.now (cut_of s.now) × LiftLine map.now s.now.level s.now.step.lift (cut_of s.now)) }
+    ensures { let defects = ground.entry.instance.now.defects in IsTrue result ↔ (CellClear defects (cut_of s.now) × LiftLine defects s.now.level s.now.step.lift (cut_of s.now)) }
 {
-    cell_clear(map, s) && lift_clear(map, s)
+    cell_clear(ground, s) && lift_clear(ground, s)
 }
 
 /// Whether the lines of the step's cuts run through no defect.
-pub fn keeps9(instance: &Instance, map: &DefectMap, s: &Laid) -> bool
+pub fn keeps9(ground: Ground<'_>, s: &Laid) -> bool
     requires { IsFitted s.now }
-    ensures { IsTrue result ↔ TR9 instance.now map.now s.now.level (cut_of s.now) }
+    ensures { let b = ground.entry.instance.now in IsTrue result ↔ TR9 b b.defects s.now.level (cut_of s.now) }
 {
-    outer_clear(instance, map, s) && inner_clear(map, s)
+    outer_clear(ground, s) && inner_clear(ground, s)
 }

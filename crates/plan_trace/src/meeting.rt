@@ -9,7 +9,7 @@ use crate::laid::Laid;
 use crate::lines::{keeps8, keeps9};
 use crate::rules::{keeps1, keeps2, keeps3, keeps4, keeps5, keeps6, keeps7};
 use cut_model::{Step, Trace};
-use defect_map::DefectMap;
+use defect_map::{DefectMap, Ground};
 use glass_base::Instance;
 use thiserror::Error;
 
@@ -22,47 +22,38 @@ pub struct TraceBroken {
 }
 
 /// Whether a step keeps the rule of this number.
-fn keeps(
-    instance: &Instance,
-    map: &DefectMap,
-    rule: u32,
-    last: &Laid,
-    here: &Laid,
-    later: &[Step],
-) -> bool
+fn keeps(ground: Ground<'_>, rule: u32, last: &Laid, here: &Laid, later: &[Step]) -> bool
     requires some { 1 ≤ rule }
     requires in_rules { rule ≤ 9 }
-    requires map { map.now ≡ instance.now.defects }
     requires fitted { 8 ≤ rule → IsFitted here.now }
-    ensures { IsTrue result ↔ RuleOf instance.now rule last.now.level (cut_of last.now) here.now.level (cut_of here.now) (ahead later.now) }
+    ensures { IsTrue result ↔ RuleOf ground.entry.instance.now rule last.now.level (cut_of last.now) here.now.level (cut_of here.now) (ahead later.now) }
 {
-    let params = instance.params();
+    let params = ground.instance.params();
     match rule {
         1 => keeps1(params, here),
         2 => keeps2(here),
         3 => keeps3(last, here),
-        4 => keeps4(instance, last, here, later),
+        4 => keeps4(ground.instance, last, here, later),
         5 => keeps5(params, last, here, later),
         6 => keeps6(params, last, here, later),
         7 => keeps7(params, last, here, later),
-        8 => keeps8(map, here),
-        _ => keeps9(instance, map, here),
+        8 => keeps8(ground, here),
+        _ => keeps9(ground, here),
     }
 }
 
 /// The first step that breaks a rule, where no lesser rule is broken.
-fn first_step(instance: &Instance, map: &DefectMap, steps: &[Step], rule: u32) -> Option<u32>
+fn first_step(ground: Ground<'_>, steps: &[Step], rule: u32) -> Option<u32>
     requires few { length steps.now < 2 ^ 32 }
     requires some { 1 ≤ rule }
     requires in_rules { rule ≤ 9 }
-    requires map { map.now ≡ instance.now.defects }
-    requires before { (n : ℕ) → n < rule → RuleHolds instance.now steps.now n }
-    ensures { MatchOption result (RuleHolds instance.now steps.now rule) (BreaksFirst instance.now steps.now rule) }
+    requires before { (n : ℕ) → n < rule → RuleHolds ground.instance.now steps.now n }
+    ensures { let b = ground.entry.instance.now in MatchOption result (RuleHolds b steps.now rule) (BreaksFirst b steps.now rule) }
 {
     let mut last = Laid::none();
     for (i, step) in steps.iter().enumerate() {
-        let here = last.next(instance, &steps[..i], *step);
-        if !keeps(instance, map, rule, &last, &here, &steps[i + 1..]) {
+        let here = last.next(ground.instance, &steps[..i], *step);
+        if !keeps(ground, rule, &last, &here, &steps[i + 1..]) {
             return Some(i as u32);
         }
         last = here;
@@ -71,13 +62,12 @@ fn first_step(instance: &Instance, map: &DefectMap, steps: &[Step], rule: u32) -
 }
 
 /// The first rule that these steps break: `meets` on a list of steps that is no trace of its own.
-pub fn first_broken(instance: &Instance, map: &DefectMap, steps: &[Step]) -> Option<TraceBroken>
+pub fn first_broken(ground: Ground<'_>, steps: &[Step]) -> Option<TraceBroken>
     requires few { length steps.now < 2 ^ 32 }
-    requires map { map.now ≡ instance.now.defects }
-    ensures { MatchOption result (Meets instance.now steps.now) (λ broken. IsFirstBroken instance.now steps.now broken.rule broken.step) }
+    ensures { let b = ground.entry.instance.now in MatchOption result (Meets b steps.now) (λ broken. IsFirstBroken b steps.now broken.rule broken.step) }
 {
     for rule in 1..10 {
-        if let Some(step) = first_step(instance, map, steps, rule) {
+        if let Some(step) = first_step(ground, steps, rule) {
             return Some(TraceBroken { rule, step });
         }
     }
@@ -94,7 +84,7 @@ pub fn meets(instance: &Instance, map: &DefectMap, trace: &Trace) -> Result<(), 
     requires map { map.now ≡ instance.now.defects }
     ensures { let steps = trace.now.steps.items in MatchResult result (λ _. Meets instance.now steps) (λ broken. IsFirstBroken instance.now steps broken.rule broken.step) }
 {
-    match first_broken(instance, map, trace.steps.as_slice()) {
+    match first_broken(Ground { instance, map }, trace.steps.as_slice()) {
         Some(broken) => Err(broken),
         None => Ok(()),
     }

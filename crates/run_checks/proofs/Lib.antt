@@ -1,4 +1,5 @@
 pub mod Accepting
 pub mod CheckedBehind
 pub mod RaisedBounds
+pub mod RightTexts
 pub mod Statuses

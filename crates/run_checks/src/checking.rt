@@ -18,7 +18,7 @@ use cert_check::{Verdict, Why, check_cert, reasoned};
 use cert_log::{BadCert, Certificate, read_cert, write_cert};
 use command_line::Product;
 use cut_model::{Broken, Plan};
-use defect_map::DefectMap;
+use defect_map::{DefectMap, Ground};
 use glass_base::{Instance, Memory, Role};
 use loss_area::loss;
 use plan_csv::read_plan;
@@ -112,20 +112,14 @@ pub(crate) fn read_cert_in(alloc: Global, text: &[u8]) -> Result<Certificate, St
 }
 
 /// Goes on where a plan is lawful, or there is none.
-fn judge_plan_in(
-    alloc: Global,
-    instance: &Instance,
-    map: &DefectMap,
-    plan: &Option<Plan>,
-) -> Result<(), Stop>
-    requires map { map.now ≡ instance.now.defects }
+fn judge_plan_in(alloc: Global, ground: Ground<'_>, plan: &Option<Plan>) -> Result<(), Stop>
     requires fits { FitsToo plan.now }
-    ensures { MatchResult result (λ _. IsLawfulToo instance.now (option_map tree plan.now)) (OnTold (IsUnlawful instance.now (option_map tree plan.now))) }
+    ensures { let b = ground.entry.instance.now in MatchResult result (λ _. IsLawfulToo b (option_map tree plan.now)) (OnTold (IsUnlawful b (option_map tree plan.now))) }
 {
     let Some(plan) = plan else {
         return Ok(());
     };
-    match first_breach(alloc, instance, map, plan)? {
+    match first_breach(alloc, ground, plan)? {
         None => Ok(()),
         Some(broken) => Err(stop_at_breach(alloc, &broken)),
     }
@@ -145,17 +139,15 @@ fn loss_of_plan(instance: &Instance, plan: &Option<Plan>) -> Option<u64>
 /// Goes on where a certificate is right for the box of all plans and for this loss.
 pub(crate) fn check_cert_in(
     alloc: Global,
-    instance: &Instance,
-    map: &DefectMap,
+    ground: Ground<'_>,
     loss: Option<u64>,
     certificate: &Certificate,
 ) -> Result<(), Stop>
-    requires map { map.now ≡ instance.now.defects }
     requires tree { IsTree certificate.now.nodes.items }
     requires version { HasVersion certificate.now }
-    ensures { MatchResult result (λ _. IsGood instance.now (root_ranges instance.now) loss certificate.now) (OnTold (IsWrong instance.now loss certificate.now)) }
+    ensures { let b = ground.entry.instance.now in MatchResult result (λ _. IsGood b (root_ranges b) loss certificate.now) (OnTold (IsWrong b loss certificate.now)) }
 {
-    match check_cert(alloc, instance, map, loss, certificate)? {
+    match check_cert(alloc, ground.instance, ground.map, loss, certificate)? {
         Verdict::Accept { .. } => Ok(()),
         Verdict::Refuse { line, why } => Err(stop_at_check(alloc, line, why)),
     }
@@ -172,21 +164,19 @@ pub struct Checked {
 /// what is told of the first that fails: the text of the plan, that of the certificate, the plan, the certificate.
 pub fn accepted_texts(
     alloc: Global,
-    instance: &Instance,
-    map: &DefectMap,
+    ground: Ground<'_>,
     plan_text: Option<&[u8]>,
     cert_text: &[u8],
 ) -> Result<Checked, Stop>
-    requires { map.now ≡ instance.now.defects }
-    ensures accepted { MatchResult result (λ a. IsAccepted instance.now (option_map (λ bytes. bytes.now) plan_text.entry) cert_text.now (option_map tree a.plan) a.certificate) (OnTold (NotAccepted instance.now (option_map (λ bytes. bytes.now) plan_text.entry) cert_text.now)) }
+    ensures accepted { let b = ground.entry.instance.now in MatchResult result (λ a. IsAccepted b (option_map (λ bytes. bytes.now) plan_text.entry) cert_text.now (option_map tree a.plan) a.certificate) (OnTold (NotAccepted b (option_map (λ bytes. bytes.now) plan_text.entry) cert_text.now)) }
     ensures fits { IfOk result (λ a. FitsToo a.plan) }
     ensures version { IfOk result (λ a. HasVersion a.certificate) }
 {
-    let plan = read_plan_in(alloc, instance, plan_text)?;
+    let plan = read_plan_in(alloc, ground.instance, plan_text)?;
     let certificate = read_cert_in(alloc, cert_text)?;
-    judge_plan_in(alloc, instance, map, &plan)?;
-    let loss = loss_of_plan(instance, &plan);
-    check_cert_in(alloc, instance, map, loss, &certificate)?;
+    judge_plan_in(alloc, ground, &plan)?;
+    let loss = loss_of_plan(ground.instance, &plan);
+    check_cert_in(alloc, ground, loss, &certificate)?;
     Ok(Checked { plan, certificate })
 }
 
@@ -200,7 +190,15 @@ pub(crate) fn verify_texts(
     ensures { IfOk result (λ r. (name : Product → List ℕ) → Verifies instance.now (option_map (λ bytes. bytes.now) plan_text.entry) cert_text.now (answer_in name r)) }
 {
     let map = DefectMap::new(alloc, instance)?;
-    match accepted_texts(alloc, instance, &map, plan_text, cert_text) {
+    match accepted_texts(
+        alloc,
+        Ground {
+            instance,
+            map: &map,
+        },
+        plan_text,
+        cert_text,
+    ) {
         Ok(texts) => Ok(reply_with(alloc, accepted(alloc, &texts.certificate)?)),
         Err(stop) => reply_at(alloc, stop),
     }
@@ -221,18 +219,12 @@ fn reply_with_cert(alloc: Global, certificate: &Certificate) -> Result<Reply, Me
 }
 
 /// The reply that stores a right certificate with its causes named.
-fn convert(
-    alloc: Global,
-    instance: &Instance,
-    map: &DefectMap,
-    certificate: &Certificate,
-) -> Result<Reply, Memory>
-    requires map { map.now ≡ instance.now.defects }
-    requires good { IsGood instance.now (root_ranges instance.now) certificate.now.loss certificate.now }
+fn convert(alloc: Global, ground: Ground<'_>, certificate: &Certificate) -> Result<Reply, Memory>
+    requires good { IsGood ground.instance.now (root_ranges ground.instance.now) certificate.now.loss certificate.now }
     requires version { HasVersion certificate.now }
-    ensures { IfOk result (λ r. (d : CertificateOf) × IsConverted instance.now certificate.now d × ((name : Product → List ℕ) → answer_in name r ≡ converted_of (name Product.Certificate) d)) }
+    ensures { IfOk result (λ r. (d : CertificateOf) × IsConverted ground.entry.instance.now certificate.now d × ((name : Product → List ℕ) → answer_in name r ≡ converted_of (name Product.Certificate) d)) }
 {
-    let named = reasoned(alloc, instance, map, certificate)?;
+    let named = reasoned(alloc, ground.instance, ground.map, certificate)?;
     reply_with_cert(alloc, &named)
 }
 
@@ -247,9 +239,13 @@ pub fn convert_texts(
     ensures { IfOk result (λ r. (name : Product → List ℕ) → Converts instance.now (option_map (λ bytes. bytes.now) plan_text.entry) cert_text.now (name Product.Certificate) (answer_in name r)) }
 {
     let map = DefectMap::new(alloc, instance)?;
-    let accepted = match accepted_texts(alloc, instance, &map, plan_text, cert_text) {
+    let ground = Ground {
+        instance,
+        map: &map,
+    };
+    let accepted = match accepted_texts(alloc, ground, plan_text, cert_text) {
         Ok(accepted) => accepted,
         Err(stop) => return reply_at(alloc, stop),
     };
-    convert(alloc, instance, &map, &accepted.certificate)
+    convert(alloc, ground, &accepted.certificate)
 }

@@ -17,7 +17,7 @@ use crate::lines::line_with_bound;
 use cert_log::Certificate;
 use command_line::Product;
 use cut_model::{Plan, plates_used};
-use defect_map::DefectMap;
+use defect_map::{DefectMap, Ground};
 use glass_base::{Instance, Memory, Role};
 use loss_area::loss;
 use plan_csv::read_plan;
@@ -38,12 +38,11 @@ fn read_whole(alloc: Global, instance: &Instance, bytes: &[u8]) -> Result<Plan, 
 }
 
 /// Goes on where a plan is lawful.
-fn judge_whole(alloc: Global, instance: &Instance, map: &DefectMap, plan: &Plan) -> Result<(), Stop>
-    requires map { map.now ≡ instance.now.defects }
+fn judge_whole(alloc: Global, ground: Ground<'_>, plan: &Plan) -> Result<(), Stop>
     requires fits { Fits (tree plan.now) }
-    ensures { MatchResult result (λ _. IsLawful instance.now (tree plan.now)) (OnTold (IsUnlawful instance.now (Some (tree plan.now)))) }
+    ensures { let b = ground.entry.instance.now in MatchResult result (λ _. IsLawful b (tree plan.now)) (OnTold (IsUnlawful b (Some (tree plan.now)))) }
 {
-    match first_breach(alloc, instance, map, plan)? {
+    match first_breach(alloc, ground, plan)? {
         None => Ok(()),
         Some(broken) => Err(stop_at_breach(alloc, &broken)),
     }
@@ -88,7 +87,11 @@ fn check_behind(
     let (left, tail) = rest(alloc, instance, plan, k)?;
     let map = DefectMap::new(alloc, &left)?;
     let lost = loss(&left, &tail);
-    check_cert_in(alloc, &left, &map, Some(lost), certificate)
+    let ground = Ground {
+        instance: &left,
+        map: &map,
+    };
+    check_cert_in(alloc, ground, Some(lost), certificate)
 }
 
 /// A lawful plan, and a certificate that is right behind its first plates.
@@ -103,21 +106,19 @@ struct CheckedBehind {
 /// plates, the certificate.
 fn accepted_behind(
     alloc: Global,
-    instance: &Instance,
-    map: &DefectMap,
+    ground: Ground<'_>,
     plan_text: &[u8],
     cert_text: &[u8],
     k: u32,
 ) -> Result<CheckedBehind, Stop>
-    requires { map.now ≡ instance.now.defects }
-    ensures accepted { MatchResult result (λ a. IsAcceptedBehindFor instance.now k plan_text.now cert_text.now (tree a.plan) a.certificate) (OnTold (NotAcceptedBehind instance.now k plan_text.now cert_text.now)) }
+    ensures accepted { let b = ground.entry.instance.now in MatchResult result (λ a. IsAcceptedBehindFor b k plan_text.now cert_text.now (tree a.plan) a.certificate) (OnTold (NotAcceptedBehind b k plan_text.now cert_text.now)) }
     ensures fits { IfOk result (λ a. Fits (tree a.plan)) }
 {
-    let plan = read_whole(alloc, instance, plan_text)?;
+    let plan = read_whole(alloc, ground.instance, plan_text)?;
     let certificate = read_cert_in(alloc, cert_text)?;
-    judge_whole(alloc, instance, map, &plan)?;
+    judge_whole(alloc, ground, &plan)?;
     leaves_some(alloc, &plan, k)?;
-    check_behind(alloc, instance, &plan, k, &certificate)?;
+    check_behind(alloc, ground.instance, &plan, k, &certificate)?;
     Ok(CheckedBehind { plan, certificate })
 }
 
@@ -158,7 +159,16 @@ fn verify_behind(
     // Read for its rules.
     let _items = instance.items();
     let map = DefectMap::new(alloc, instance)?;
-    match accepted_behind(alloc, instance, &map, plan_text, cert_text, k) {
+    match accepted_behind(
+        alloc,
+        Ground {
+            instance,
+            map: &map,
+        },
+        plan_text,
+        cert_text,
+        k,
+    ) {
         Ok(checked) => {
             let more = frozen_loss(instance, &checked.plan, k);
             let notice = accepted_with(alloc, &checked.certificate, more)?;

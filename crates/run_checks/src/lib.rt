@@ -3,6 +3,7 @@
 
 pub mod checking;
 pub mod checking_behind;
+pub mod laws;
 pub mod lines;
 
 pub use checking::{Checked, accepted_texts, convert_texts};

@@ -13,7 +13,7 @@ ghost use Rattle.run_plans.specs.Judgements.{Judges, JudgesText, lawful as lawfu
 use crate::lines::{lawful_line, unlawful_line};
 use cut_model::{Broken, Plan, Verdict};
 use cut_rules::judge_cuts;
-use defect_map::DefectMap;
+use defect_map::{DefectMap, Ground};
 use glass_base::{Instance, Memory, Role};
 use loss_area::loss;
 use plan_csv::{BadPlan, read_plan};
@@ -71,16 +71,14 @@ fn order_breach(alloc: Global, instance: &Instance, plan: &Plan) -> Result<Optio
 /// The first breach of a plan, if there is one. The rules on cuts come before those on the order of items.
 pub fn first_breach(
     alloc: Global,
-    instance: &Instance,
-    map: &DefectMap,
+    ground: Ground<'_>,
     plan: &Plan,
 ) -> Result<Option<Broken>, Memory>
-    requires map { map.now ≡ instance.now.defects }
     requires fits { Fits (tree plan.now) }
-    ensures { IfOk result (IsBreachIfAny instance.now (tree plan.now)) }
+    ensures { IfOk result (IsBreachIfAny ground.entry.instance.now (tree plan.now)) }
 {
-    match judge_cuts(instance, map, plan) {
-        Ok(()) => order_breach(alloc, instance, plan),
+    match judge_cuts(ground.instance, ground.map, plan) {
+        Ok(()) => order_breach(alloc, ground.instance, plan),
         Err(broken) => Ok(Some(broken)),
     }
 }
@@ -91,7 +89,14 @@ pub fn verdict_on(alloc: Global, instance: &Instance, plan: &Plan) -> Result<Ver
     ensures { IfOk result (IsVerdict instance.now (tree plan.now)) }
 {
     let map = DefectMap::new(alloc, instance)?;
-    match first_breach(alloc, instance, &map, plan)? {
+    match first_breach(
+        alloc,
+        Ground {
+            instance,
+            map: &map,
+        },
+        plan,
+    )? {
         None => Ok(Verdict::Lawful(loss(instance, plan))),
         Some(broken) => Ok(Verdict::Broken(broken)),
     }

@@ -13,7 +13,7 @@ use crate::lines::instructions_line;
 use command_line::Product;
 use cut_model::Plan;
 use cut_sheet::{sheet_of, write_sheet};
-use defect_map::DefectMap;
+use defect_map::{DefectMap, Ground};
 use glass_base::{Instance, Memory};
 use plan_csv::read_plan;
 use run_frame::{Reply, Status, one_output, refused, reply_with};
@@ -42,7 +42,14 @@ fn sheet_plan(alloc: Global, instance: &Instance, plan: &Plan) -> Result<Reply, 
     ensures { IfOk result (λ r. (name : Product → List ℕ) → Sheets instance.now (name Product.Sheet) (tree plan.now) (answer_in name r)) }
 {
     let map = DefectMap::new(alloc, instance)?;
-    let breach = first_breach(alloc, instance, &map, plan)?;
+    let breach = first_breach(
+        alloc,
+        Ground {
+            instance,
+            map: &map,
+        },
+        plan,
+    )?;
     match breach {
         None => store_sheet(alloc, instance, plan),
         Some(broken) => Ok(reply_with(alloc, unlawful(alloc, &broken)?)),

@@ -29,7 +29,7 @@ use Rattle.run_checks.specs.FrozenChecks.{NotAcceptedBehind, VerifiesBehind, los
 use Rattle.run_checks.specs.FrozenChecks.NotAcceptedBehind.{bad_cert, bad_plan, bad_tree, broken_plan, none_left}
 use Rattle.run_checks.specs.inner.Checked.{line_with_bound}
 use Rattle.run_frame.specs.declared.status.Status.TheVariants as status
-use Rattle.run_search.proofs.StoredTexts.{good_same}
+use Rattle.run_checks.proofs.RightTexts.{good_same}
 
 -- a certificate of what is planned behind the first plates of a plan, where its text and that of the whole plan can be read again
 pub record CanBeReadBehind (b : Problem) (plan : Forest) (k : ℕ) (rest : Problem) (tail : Forest) (c : Certificate) : Type 0 where
@@ -85,7 +85,7 @@ module _ (b : Problem) (plan : Forest) (k : ℕ) (rest : Problem) (tail : Forest
   right other left d is rest_is says =
       let left_is : left ≡ rest = one_rest left (subst (λ (p : Forest). IsRest b p k left) is rest_is) in
       let loss : c.loss ≡ loss_behind rest k whole = can.loss_is ∙ ap (λ (t : Forest). Some (loss_of rest t)) (sym begins.1) in
-      let good : IsGood rest (root_ranges rest) (loss_behind rest k whole) d = subst (λ (o : Option ℕ). IsGood rest (root_ranges rest) o d) loss (good_same rest c.loss c d says can.good) in
+      let good : IsGood rest (root_ranges rest) (loss_behind rest k whole) d = subst (λ (o : Option ℕ). IsGood rest (root_ranges rest) o d) loss (good_same rest (root_ranges rest) c.loss c d says can.good) in
       subst (λ (p : Forest). IsGood left (root_ranges left) (loss_behind left k p) d) (sym is)
       (subst (λ (q : Problem). IsGood q (root_ranges q) (loss_behind q k whole) d) (sym left_is) good)
 

@@ -1,12 +1,11 @@
 -- What a search stores is read again, and accepted.
-use Rattle.std.proofs.Common.{◌≡◌, ℕ, ◌≤◌, ◌⊎◌, List, length, inl, inr, arith, refl, sym, ap, ◌∙◌, subst, Option, Some, None, Ok, Err}
+use Rattle.std.proofs.Common.{◌≡◌, ℕ, ◌≤◌, ◌<◌, ◌^◌, ◌⊎◌, length, arith, refl, sym, ap, subst, Option, Some, None, Ok}
 use Rattle.std.specs.Prelude.{option_map}
 use Rattle.std.proofs.lemmas.List.Elements.{All-weaker}
 use Rattle.glass_base.specs.Problem.{Problem, IsProblem}
 use Rattle.glass_base.specs.declared.role.Role.TheVariants as role
 use Rattle.cut_model.specs.declared.plan.Plan.{Plan}
 use Rattle.cut_model.specs.Families.{families_of}
-use Rattle.cut_model.specs.Lawful.{IsLawful}
 use Rattle.cut_model.specs.Rules.{AddsUp, KeepsCutRules}
 use Rattle.cut_model.specs.Tree.{Forest, tree}
 use Rattle.plan_trace.specs.Claims.{IsGoodPlan}
@@ -14,30 +13,24 @@ use Rattle.plan_box.specs.Frames.{frame_of}
 use Rattle.plan_box.proofs.Shared.{root_is_box}
 use Rattle.plan_csv.specs.PlanTexts.{IsWritable, plan_said}
 use Rattle.plan_csv.specs.Solutions.{solution_text}
-use Rattle.plan_csv.specs.declared.bad_plan.BadPlan.{BadPlan}
 use Rattle.plan_csv.proofs.AddedUp.{plan_within}
 use Rattle.plan_csv.proofs.ReadAgain.{read_again}
 use Rattle.plan_csv.proofs.ShortTexts.{short_text}
-use Rattle.cert_log.specs.declared.bad_cert.BadCert.{BadCert}
 use Rattle.cert_log.specs.declared.certificate.Certificate.{Certificate}
 use Rattle.cert_log.specs.declared.certificate.Node.{Node}
-use Rattle.cert_log.specs.Good.{HasVersion, IsFloor, IsGood, IsVersion, Stands, StepsBelow, least_of, open_bounds}
-use Rattle.cert_log.specs.Outcomes.{IsHead, IsReading}
-use Rattle.cert_log.specs.Readings.{IsTextOf, SaySame}
+use Rattle.cert_log.specs.Good.{HasVersion, IsGood, IsVersion, StepsBelow}
+use Rattle.cert_log.specs.Outcomes.{IsHead}
+use Rattle.cert_log.specs.Readings.{IsTextOf}
 use Rattle.cert_log.specs.Texts.{cert_text, head_of}
 use Rattle.cert_log.specs.Trees.{StepBelow}
 use Rattle.cert_log.specs.Values.{IsNumber}
 use Rattle.cert_log.proofs.GoodNodes.{good_counts, good_left}
 use Rattle.cert_log.proofs.Naming.{good_steps}
-use Rattle.cert_log.proofs.RoundTrip.{round_trip}
 use Rattle.cert_log.proofs.ShortTexts.{short_texts}
 use Rattle.cert_log.proofs.Whole.{written_is_read}
-use Rattle.cert_check.specs.declared.verdict.Why.{Why}
-use Rattle.cert_check.specs.Faults.{IsFloorFault}
-use Rattle.cert_check.proofs.Accepting.{only_floor}
 use Rattle.run_frame.specs.Answers.{Answer}
-use Rattle.run_checks.specs.Checks.{CertRefused, IsLawfulToo, NotAccepted, NotShown, RefusesPlan, Verifies, accepted, loss_in, refused, root_ranges}
-use Rattle.run_checks.specs.Checks.NotAccepted.{bad_cert as bad_certificate, bad_plan, bad_tree, broken_plan}
+use Rattle.run_checks.specs.Checks.{IsAccepted, IsLawfulToo, NotShown, Verifies, accepted, loss_in, root_ranges}
+use Rattle.run_checks.proofs.RightTexts.{right_is_accepted}
 use Rattle.run_search.specs.Plans.{HasLoss, handled, most_work}
 use Rattle.run_checks.specs.Said.{IsPlanIn, SayBoth}
 use Rattle.run_frame.specs.Texts.{limit_of}
@@ -103,21 +96,6 @@ is_text b c problem good version few head =
 pub both_said : (b : Problem) (plan : Option Forest) (c : Certificate) → IsPlanIn b (option_map (solution_text b) plan) plan → IsTextOf (cert_text c) c → SayBoth b (option_map (solution_text b) plan) (cert_text c) plan c
 both_said b plan c said text = record { plan_is = said; reading = written_is_read (cert_text c) c text }
 
--- a text says one plan
-one_plan : (b : Problem) (text : Option (List ℕ)) (plan other : Option Forest) → IsPlanIn b text plan → IsPlanIn b text other → plan ≡ other
-one_plan b None None None h k = refl
-one_plan b None None (Some other) h k = absurd k
-one_plan b None (Some plan) other h k = absurd h
-one_plan b (Some text) None other h k = absurd h
-one_plan b (Some text) (Some plan) None h k = absurd k
-one_plan b (Some text) (Some plan) (Some other) h k = cc (h, k)
-
--- a text that says a plan is not refused
-plan_not_refused : (b : Problem) (text : Option (List ℕ)) (plan : Option Forest) (reason : BadPlan) → IsPlanIn b text plan → RefusesPlan b text reason → ⊥
-plan_not_refused b None plan reason h k = k
-plan_not_refused b (Some text) None reason h k = h
-plan_not_refused b (Some text) (Some plan) reason h k = cc (h, k)
-
 lawful_too : (b : Problem) (loss : Option ℕ) (plan : Option Forest) → HasLoss b loss plan → IsLawfulToo b plan
 lawful_too b loss None has = tt
 lawful_too b None (Some plan) has = absurd has
@@ -129,66 +107,20 @@ its_loss b None (Some plan) has = absurd has
 its_loss b (Some loss) None has = absurd has
 its_loss b (Some loss) (Some plan) has = ap Some (sym has.1)
 
--- what says the same is as right
-pub good_same : (b : Problem) (loss : Option ℕ) (c d : Certificate) → SaySame c d → IsGood b (root_ranges b) loss c → IsGood b (root_ranges b) loss d
-good_same b loss c d same good = record {
-  tree = good.tree;
-  nodes_are = sym same.nodes ∙ good.nodes_are;
-  loss_is = sym same.loss ∙ good.loss_is;
-  floor_is = subst (IsFloor b) same.floor good.floor_is;
-  stands = subst (λ (floor : ℕ). Stands b floor loss (root_ranges b) good.tree) same.floor good.stands;
-  left_is = sym same.left ∙ good.left_is ∙ ap (λ (floor : ℕ). length (open_bounds b floor (root_ranges b) good.tree)) same.floor;
-  bound_is = sym same.bound ∙ good.bound_is ∙ ap (λ (floor : ℕ). least_of loss (open_bounds b floor (root_ranges b) good.tree)) same.floor;
+-- so they are accepted
+pub is_accepted : (b : Problem) (plan : Option Forest) (c : Certificate) → SayBoth b (option_map (solution_text b) plan) (cert_text c) plan c → HasLoss b c.loss plan → IsGood b (root_ranges b) c.loss c
+    → IsAccepted b (option_map (solution_text b) plan) (cert_text c) plan c
+is_accepted b plan c said has good = record {
+  said = said;
+  lawful = lawful_too b c.loss plan has;
+  good = subst (λ (loss : Option ℕ). IsGood b (root_ranges b) loss c) (its_loss b c.loss plan has) good;
 }
 
--- a floor that was not shown, of a certificate that says the same
-pub not_shown : {b : Problem} (c d : Certificate) (line : ℕ) (why : Why) (answer : Answer) → SaySame c d → IsFloorFault b d line why → answer ≡ refused line why → NotShown c answer
-not_shown c d line why answer same fault is = (
-  fault.found,
-  omega (arith, fault.less, same.floor),
-  is ∙ ap (λ (n : ℕ). refused n why) fault.line_is ∙ ap (refused 1) (fault.why_is ∙ ap (λ (floor : ℕ). Why.WrongFloor floor fault.found) (sym same.floor)),
-)
+-- the text of a certificate that is read has few bytes
+few_bytes : (bytes : ℕ) → bytes ≤ limit_of role.Cert → bytes < 2 ^ 63
+few_bytes bytes short = omega (arith, short)
 
--- a plan and a right certificate for its loss, where the texts of both can be read again
-pub record CanBeRead (b : Problem) (plan : Option Forest) (c : Certificate) : Type 0 where
-  pub problem : IsProblem b
-  pub said : IsPlanIn b (option_map (solution_text b) plan) plan
-  pub text : IsTextOf (cert_text c) c
-  pub plan_is : HasLoss b c.loss plan
-  pub good : IsGood b (root_ranges b) c.loss c
-
-module _ (b : Problem) (plan : Option Forest) (c : Certificate) (can : CanBeRead b plan c) where
-  same : (d : Certificate) → IsReading (cert_text c) (Ok d) → SaySame c d
-  same d reading = round_trip (cert_text c) c (Ok d) can.text reading
-
-  no_refusal : (reason : BadCert) (answer : Answer) → IsReading (cert_text c) (Err reason) → CertRefused reason answer → ⊥
-  no_refusal reason answer reading told = subst (λ (r : BadCert). CertRefused r answer) (round_trip (cert_text c) c (Err reason) can.text reading) told
-
-  right : (other : Option Forest) (d : Certificate) → SayBoth b (option_map (solution_text b) plan) (cert_text c) other d → IsGood b (root_ranges b) (loss_in b other) d
-  right other d said =
-      let loss = its_loss b c.loss plan can.plan_is ∙ ap (loss_in b) (one_plan b (option_map (solution_text b) plan) plan other can.said said.plan_is) in
-      subst (λ (o : Option ℕ). IsGood b (root_ranges b) o d) loss (good_same b c.loss c d (same d said.reading) can.good)
-
-  lawful : (other : Forest) → IsPlanIn b (option_map (solution_text b) plan) (Some other) → IsLawful b other
-  lawful other said = subst (IsLawfulToo b) (one_plan b (option_map (solution_text b) plan) plan (Some other) can.said said) (lawful_too b c.loss plan can.plan_is)
-
-  only_not_shown : (answer : Answer) → NotAccepted b (option_map (solution_text b) plan) (cert_text c) answer → NotShown c answer
-  only_not_shown answer (bad_plan reason refuses told) = absurd (plan_not_refused b (option_map (solution_text b) plan) plan reason can.said refuses)
-  only_not_shown answer (bad_certificate other reason said reading told) = absurd (no_refusal reason answer reading told)
-  only_not_shown answer (broken_plan other d broken said unlawful first is) = absurd (unlawful (lawful other said.plan_is))
-  only_not_shown answer (bad_tree other d line why said keeps wrong first is) =
-      not_shown c d line why answer (same d said.reading) (only_floor b (root_ranges b) (loss_in b other) d line why (right other d said) first wrong) is
-
-  -- `verify` of the texts accepts them, or does not show the floor
-  pub verified_or : (answer : Answer) → Verifies b (option_map (solution_text b) plan) (cert_text c) answer → (answer ≡ accepted c) ⊎ NotShown c answer
-  verified_or answer h = elim h [
-    | inl v ↦ inl (let says = same v.1 v.2.said.reading in v.3 ∙ cc (says.bound, says.left))
-    | inr refused ↦ inr (only_not_shown answer refused)
-  ]
-
-  -- where there is no floor, it accepts them
-  pub verified : c.floor ≡ 0 → (answer : Answer) → Verifies b (option_map (solution_text b) plan) (cert_text c) answer → answer ≡ accepted c
-  verified none answer h = elim (verified_or answer h) [
-    | inl is ↦ is
-    | inr missed ↦ absurd (omega (arith, none, missed.1))
-  ]
+-- `verify` of the texts accepts them, or does not show the floor
+pub verified_or : (b : Problem) (plan : Option Forest) (c : Certificate) → SayBoth b (option_map (solution_text b) plan) (cert_text c) plan c → HasLoss b c.loss plan → IsGood b (root_ranges b) c.loss c →
+    length (cert_text c) ≤ limit_of role.Cert → (answer : Answer) → Verifies b (option_map (solution_text b) plan) (cert_text c) answer → (answer ≡ accepted c) ⊎ NotShown c answer
+verified_or b plan c said has good short = right_is_accepted b (option_map (solution_text b) plan) (cert_text c) plan c (few_bytes (length (cert_text c)) short) (is_accepted b plan c said has good)

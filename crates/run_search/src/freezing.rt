@@ -15,11 +15,12 @@ ghost use Rattle.run_search.specs.inner.Searches.{IsFoundBehind, IsHistoryFrom};
 use crate::lines::six_lines;
 use crate::planning::{MOST_WORK, best_plan, certificate_of, ending, ending_word, handled};
 use crate::searching::history_from;
+use crate::workforce::Workforce;
 use box_workers::{Gate, first_loss};
 use cert_log::{Certificate, History, write_cert};
 use command_line::Product;
 use cut_model::{Plan, plates_used};
-use defect_map::DefectMap;
+use defect_map::{DefectMap, Ground};
 use first_plan::Start;
 use glass_base::{Instance, Memory, Role, Run, append};
 use plan_csv::{read_plan, write_plan};
@@ -41,49 +42,47 @@ struct FoundFrom {
 
 /// The history of a search that goes on from a lawful plan.
 fn history_behind<R: Threads + Wait + Sync, G: Gate + Sync>(
-    rt: &R,
     alloc: Global,
+    workforce: &Workforce<'_, R, G>,
     instance: &Instance,
     plan: &Plan,
-    workers: u32,
-    budget: u32,
-    gate: &G,
 ) -> Result<History, Memory>
     requires fits { Fits (tree plan.now) }
     requires lawful { IsLawful instance.now (tree plan.now) }
-    requires workers { (1 ≤ workers) × (workers ≤ 8) }
-    requires budget { (1 ≤ budget) × (budget ≤ 10000000) }
-    ensures { IfOk result (λ h. IsHistoryFrom instance.now (tree plan.now) budget h) }
+    ensures { IfOk result (λ h. IsHistoryFrom instance.now (tree plan.now) workforce.now.budget h) }
 {
     let map = DefectMap::new(alloc, instance)?;
     let first = Some(trace_of(alloc, instance, plan)?);
     let _loss = first_loss(instance, &first);
     let start = Start { first, floor: 0 };
-    history_from(rt, alloc, instance, &map, start, workers, budget, gate)
+    history_from(
+        alloc,
+        workforce,
+        Ground {
+            instance,
+            map: &map,
+        },
+        start,
+    )
 }
 
 /// What a search finds that goes on from a lawful plan.
 fn find_from<R: Threads + Wait + Sync, G: Gate + Sync>(
-    rt: &R,
     alloc: Global,
+    workforce: &Workforce<'_, R, G>,
     instance: &Instance,
     plan: &Plan,
-    workers: u32,
-    budget: u32,
-    gate: &G,
 ) -> Result<FoundFrom, Memory>
     requires fits { Fits (tree plan.now) }
     requires lawful { IsLawful instance.now (tree plan.now) }
-    requires workers { (1 ≤ workers) × (workers ≤ 8) }
-    requires budget { (1 ≤ budget) × (budget ≤ 10000000) }
-    ensures found { IfOk result (λ found. IsFoundFrom instance.now (tree plan.now) budget found.certificate (tree found.best)) }
+    ensures found { IfOk result (λ found. IsFoundFrom instance.now (tree plan.now) workforce.now.budget found.certificate (tree found.best)) }
     ensures fits { IfOk result (λ found. Fits (tree found.best)) }
     ensures few { IfOk result (λ found. count (tree found.best) ≤ 12 * length instance.now.items) }
     ensures head { IfOk result (λ found. IsHead (head_of found.certificate)) }
 {
     // Read for its rules.
     let _items = instance.items();
-    let history = history_behind(rt, alloc, instance, plan, workers, budget, gate)?;
+    let history = history_behind(alloc, workforce, instance, plan)?;
     let certificate = certificate_of(alloc, instance, &history)?;
     let plan = best_plan(alloc, instance, &history)?;
     match plan {
@@ -155,49 +154,39 @@ fn reply_with_whole(
 
 /// What a search finds that plans anew what stands behind the first `k` plates.
 fn find_behind<R: Threads + Wait + Sync, G: Gate + Sync>(
-    rt: &R,
     alloc: Global,
+    workforce: &Workforce<'_, R, G>,
     instance: &Instance,
     plan: &Plan,
     k: u32,
-    workers: u32,
-    budget: u32,
-    gate: &G,
 ) -> Result<FoundFrom, Memory>
     requires fits { Fits (tree plan.now) }
     requires lawful { IsLawful instance.now (tree plan.now) }
     requires fewer { k < neighbour_count (tree plan.now) }
-    requires workers { (1 ≤ workers) × (workers ≤ 8) }
-    requires budget { (1 ≤ budget) × (budget ≤ 10000000) }
-    ensures found { IfOk result (λ found. IsFoundBehind instance.now (tree plan.now) k budget found.certificate (tree found.best)) }
+    ensures found { IfOk result (λ found. IsFoundBehind instance.now (tree plan.now) k workforce.now.budget found.certificate (tree found.best)) }
     ensures fits { IfOk result (λ found. Fits (tree found.best)) }
 {
     let (left, tail) = rest(alloc, instance, plan, k)?;
-    find_from(rt, alloc, &left, &tail, workers, budget, gate)
+    find_from(alloc, workforce, &left, &tail)
 }
 
 /// The reply to a lawful plan with more than `k` plates: what a search finds behind these.
 fn plan_behind<R: Threads + Wait + Sync, G: Gate + Sync>(
-    rt: &R,
     alloc: Global,
+    workforce: &Workforce<'_, R, G>,
     instance: &Instance,
     plan: &Plan,
     k: u32,
-    workers: u32,
-    budget: u32,
-    gate: &G,
 ) -> Result<Reply, Memory>
     requires fits { Fits (tree plan.now) }
     requires rows { count (tree plan.now) ≤ 1000000000 }
     requires lawful { IsLawful instance.now (tree plan.now) }
     requires fewer { k < neighbour_count (tree plan.now) }
-    requires workers { (1 ≤ workers) × (workers ≤ 8) }
-    requires budget { (1 ≤ budget) × (budget ≤ 10000000) }
-    ensures { IfOk result (λ r. (name : Product → List ℕ) → Freezes instance.now k budget (tree plan.now) (name Product.Plan) (name Product.Certificate) (answer_in name r)) }
+    ensures { IfOk result (λ r. (name : Product → List ℕ) → Freezes instance.now k workforce.now.budget (tree plan.now) (name Product.Plan) (name Product.Certificate) (answer_in name r)) }
 {
     // Read for its rules.
     let _items = instance.items();
-    let found = find_behind(rt, alloc, instance, plan, k, workers, budget, gate)?;
+    let found = find_behind(alloc, workforce, instance, plan, k)?;
     let whole = glue(alloc, plan, k, &found.best)?;
     let more = frozen_loss(instance, plan, k);
     reply_with_whole(alloc, instance, &found.certificate, &whole, more)
@@ -205,23 +194,25 @@ fn plan_behind<R: Threads + Wait + Sync, G: Gate + Sync>(
 
 /// The reply to a plan: its first breach, a refusal where it has no more than `k` plates, or what a search finds behind these.
 fn freeze_plan<R: Threads + Wait + Sync, G: Gate + Sync>(
-    rt: &R,
     alloc: Global,
+    workforce: &Workforce<'_, R, G>,
     instance: &Instance,
     plan: &Plan,
     k: u32,
-    workers: u32,
-    budget: u32,
-    gate: &G,
 ) -> Result<Reply, Memory>
     requires fits { Fits (tree plan.now) }
     requires rows { count (tree plan.now) ≤ 1000000000 }
-    requires workers { (1 ≤ workers) × (workers ≤ 8) }
-    requires budget { (1 ≤ budget) × (budget ≤ 10000000) }
-    ensures { IfOk result (λ r. (name : Product → List ℕ) → FreezesPlan instance.now k budget (tree plan.now) (name Product.Plan) (name Product.Certificate) (answer_in name r)) }
+    ensures { IfOk result (λ r. (name : Product → List ℕ) → FreezesPlan instance.now k workforce.now.budget (tree plan.now) (name Product.Plan) (name Product.Certificate) (answer_in name r)) }
 {
     let map = DefectMap::new(alloc, instance)?;
-    if let Some(broken) = first_breach(alloc, instance, &map, plan)? {
+    if let Some(broken) = first_breach(
+        alloc,
+        Ground {
+            instance,
+            map: &map,
+        },
+        plan,
+    )? {
         return Ok(reply_with(alloc, unlawful(alloc, &broken)?));
     }
     let plates = plates_used(plan);
@@ -229,26 +220,21 @@ fn freeze_plan<R: Threads + Wait + Sync, G: Gate + Sync>(
         let notice = bad_input(alloc, Role::Plan, 16, u64::from(k), plates)?;
         return Ok(reply_with(alloc, notice));
     }
-    plan_behind(rt, alloc, instance, plan, k, workers, budget, gate)
+    plan_behind(alloc, workforce, instance, plan, k)
 }
 
 /// The reply to the plan that a text says, or to its refusal.
 fn freeze_said<R: Threads + Wait + Sync, G: Gate + Sync>(
-    rt: &R,
     alloc: Global,
+    workforce: &Workforce<'_, R, G>,
     instance: &Instance,
     bytes: &[u8],
     k: u32,
-    workers: u32,
-    budget: u32,
-    gate: &G,
 ) -> Result<Reply, Memory>
-    requires workers { (1 ≤ workers) × (workers ≤ 8) }
-    requires budget { (1 ≤ budget) × (budget ≤ 10000000) }
-    ensures { IfOk result (λ r. (name : Product → List ℕ) → FreezesSaid instance.now k budget (plan_said instance.now bytes.now) (name Product.Plan) (name Product.Certificate) (answer_in name r)) }
+    ensures { IfOk result (λ r. (name : Product → List ℕ) → FreezesSaid instance.now k workforce.now.budget (plan_said instance.now bytes.now) (name Product.Plan) (name Product.Certificate) (answer_in name r)) }
 {
     match read_plan(alloc, instance, bytes) {
-        Ok(plan) => freeze_plan(rt, alloc, instance, &plan, k, workers, budget, gate),
+        Ok(plan) => freeze_plan(alloc, workforce, instance, &plan, k),
         Err(reason) => Ok(reply_with(alloc, refused(alloc, plan_refusal(reason))?)),
     }
 }
@@ -256,23 +242,18 @@ fn freeze_said<R: Threads + Wait + Sync, G: Gate + Sync>(
 /// The reply to the text of a plan: its first `k` plates stay as they are, and the best plan that a search finds stands behind them; or a
 /// refusal, first where the number of items times the budget is above 160,000,000.
 pub fn freeze_text<R: Threads + Wait + Sync, G: Gate + Sync>(
-    rt: &R,
     alloc: Global,
+    workforce: &Workforce<'_, R, G>,
     instance: &Instance,
     bytes: &[u8],
     k: u32,
-    workers: u32,
-    budget: u32,
-    gate: &G,
 ) -> Result<Reply, Memory>
-    requires workers { (1 ≤ workers) × (workers ≤ 8) }
-    requires budget { (1 ≤ budget) × (budget ≤ 10000000) }
-    ensures { IfOk result (λ r. (name : Product → List ℕ) → FreezesWithin instance.now k budget bytes.now (name Product.Plan) (name Product.Certificate) (answer_in name r)) }
+    ensures { IfOk result (λ r. (name : Product → List ℕ) → FreezesWithin instance.now k workforce.now.budget bytes.now (name Product.Plan) (name Product.Certificate) (answer_in name r)) }
 {
     let items = instance.items().len() as u64;
-    if items * u64::from(budget) > MOST_WORK {
-        let notice = bad_input(alloc, Role::Batch, 9, items, u64::from(budget))?;
+    if items * u64::from(workforce.budget) > MOST_WORK {
+        let notice = bad_input(alloc, Role::Batch, 9, items, u64::from(workforce.budget))?;
         return Ok(reply_with(alloc, notice));
     }
-    freeze_said(rt, alloc, instance, bytes, k, workers, budget, gate)
+    freeze_said(alloc, workforce, instance, bytes, k)
 }

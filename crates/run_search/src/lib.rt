@@ -7,8 +7,10 @@ pub mod planning;
 pub mod resuming;
 mod searching;
 mod starting;
+mod workforce;
 
 pub use freezing::freeze_text;
 pub use planning::plan_instance;
 pub use resuming::resume_texts;
 pub use starting::Opening;
+pub use workforce::Workforce;

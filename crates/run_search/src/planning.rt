@@ -19,12 +19,13 @@ ghost use Rattle.run_checks.specs.Checks.{FitsToo};
 use crate::lines::search_lines;
 use crate::searching::{Searched, search_from};
 use crate::starting::{Opening, start_of};
+use crate::workforce::Workforce;
 use best_board::Entry;
 use box_workers::{Gate, first_loss};
 use cert_log::{Certificate, History, Node, assemble, write_cert};
 use command_line::Product;
 use cut_model::{Plan, plates_used};
-use defect_map::DefectMap;
+use defect_map::{DefectMap, Ground};
 use glass_base::{Instance, Memory, Role, Run, append};
 use plan_csv::write_plan;
 use plan_trace::plan_of;
@@ -47,48 +48,41 @@ pub(crate) struct Found {
 
 /// A search that begins with what is known before it.
 fn search_with<R: Threads + Wait + Sync, G: Gate + Sync>(
-    rt: &R,
     alloc: Global,
-    instance: &Instance,
-    map: &DefectMap,
-    workers: u32,
-    budget: u32,
+    workforce: &Workforce<'_, R, G>,
+    ground: Ground<'_>,
     watch: bool,
     opening: Opening,
-    gate: &G,
 ) -> Result<Searched, Memory>
-    requires map { map.now ≡ instance.now.defects }
-    requires workers { (1 ≤ workers) × (workers ≤ 8) }
-    requires budget { (1 ≤ budget) × (budget ≤ 10000000) }
-    ensures history { IfOk result (λ s. IsWatchedHistory instance.now budget watch s.history s.improvements) }
+    ensures history { IfOk result (λ s. IsWatchedHistory ground.entry.instance.now workforce.now.budget watch s.history s.improvements) }
     ensures unasked { IfOk result (λ s. opening.fronts ≡ false → s.history.floor ≡ 0) }
 {
-    let start = start_of(rt, alloc, instance, map, workers, opening, gate)?;
-    let _loss = first_loss(instance, &start.first);
-    search_from(
-        rt, alloc, instance, map, start, workers, budget, watch, gate,
-    )
+    let start = start_of(alloc, workforce, ground, opening)?;
+    let _loss = first_loss(ground.instance, &start.first);
+    search_from(alloc, workforce, ground, start, watch)
 }
 
 /// A search for a plan of the instance.
 fn search_for<R: Threads + Wait + Sync, G: Gate + Sync>(
-    rt: &R,
     alloc: Global,
+    workforce: &Workforce<'_, R, G>,
     instance: &Instance,
-    workers: u32,
-    budget: u32,
     watch: bool,
     opening: Opening,
-    gate: &G,
 ) -> Result<Searched, Memory>
-    requires workers { (1 ≤ workers) × (workers ≤ 8) }
-    requires budget { (1 ≤ budget) × (budget ≤ 10000000) }
-    ensures history { IfOk result (λ s. IsWatchedHistory instance.now budget watch s.history s.improvements) }
+    ensures history { IfOk result (λ s. IsWatchedHistory instance.now workforce.now.budget watch s.history s.improvements) }
     ensures unasked { IfOk result (λ s. opening.fronts ≡ false → s.history.floor ≡ 0) }
 {
     let map = DefectMap::new(alloc, instance)?;
     search_with(
-        rt, alloc, instance, &map, workers, budget, watch, opening, gate,
+        alloc,
+        workforce,
+        Ground {
+            instance,
+            map: &map,
+        },
+        watch,
+        opening,
     )
 }
 
@@ -136,24 +130,19 @@ pub(crate) fn best_plan(
 
 /// What a search finds that may close or split so many boxes.
 fn find<R: Threads + Wait + Sync, G: Gate + Sync>(
-    rt: &R,
     alloc: Global,
+    workforce: &Workforce<'_, R, G>,
     instance: &Instance,
-    workers: u32,
-    budget: u32,
     watch: bool,
     opening: Opening,
-    gate: &G,
 ) -> Result<Found, Memory>
-    requires workers { (1 ≤ workers) × (workers ≤ 8) }
-    requires budget { (1 ≤ budget) × (budget ≤ 10000000) }
-    ensures found { IfOk result (λ found. IsToldFound instance.now budget watch found.certificate (option_map tree found.plan) (losses_in found.improvements)) }
+    ensures found { IfOk result (λ found. IsToldFound instance.now workforce.now.budget watch found.certificate (option_map tree found.plan) (losses_in found.improvements)) }
     ensures unasked { IfOk result (λ found. opening.fronts ≡ false → found.certificate.floor ≡ 0) }
     ensures fits { IfOk result (λ found. FitsToo found.plan) }
 {
     // Read for its rules.
     let _items = instance.items();
-    let searched = search_for(rt, alloc, instance, workers, budget, watch, opening, gate)?;
+    let searched = search_for(alloc, workforce, instance, watch, opening)?;
     let certificate = certificate_of(alloc, instance, &searched.history)?;
     let plan = best_plan(alloc, instance, &searched.history)?;
     let Searched {
@@ -304,24 +293,19 @@ fn reply_with_found(alloc: Global, instance: &Instance, found: &Found) -> Result
 /// budget is above 160,000,000. Where the opening asks fronts, the search begins with what they show: with the best of three plans, and with a loss that no lawful plan is below; where
 /// it has an effort, with the best plan that wide beams find with it.
 pub fn plan_instance<R: Threads + Wait + Sync, G: Gate + Sync>(
-    rt: &R,
     alloc: Global,
+    workforce: &Workforce<'_, R, G>,
     instance: &Instance,
-    workers: u32,
-    budget: u32,
     watch: bool,
     opening: Opening,
-    gate: &G,
 ) -> Result<Reply, Memory>
-    requires workers { (1 ≤ workers) × (workers ≤ 8) }
-    requires budget { (1 ≤ budget) × (budget ≤ 10000000) }
-    ensures { IfOk result (λ r. (name : Product → List ℕ) → PlansWithin instance.now budget watch opening.fronts (name Product.Plan) (name Product.Certificate) (answer_in name r)) }
+    ensures { IfOk result (λ r. (name : Product → List ℕ) → PlansWithin instance.now workforce.now.budget watch opening.fronts (name Product.Plan) (name Product.Certificate) (answer_in name r)) }
 {
     let items = instance.items().len() as u64;
-    if items * u64::from(budget) > MOST_WORK {
-        let notice = bad_input(alloc, Role::Batch, 9, items, u64::from(budget))?;
+    if items * u64::from(workforce.budget) > MOST_WORK {
+        let notice = bad_input(alloc, Role::Batch, 9, items, u64::from(workforce.budget))?;
         return Ok(reply_with(alloc, notice));
     }
-    let found = find(rt, alloc, instance, workers, budget, watch, opening, gate)?;
+    let found = find(alloc, workforce, instance, watch, opening)?;
     reply_with_found(alloc, instance, &found)
 }

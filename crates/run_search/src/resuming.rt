@@ -18,13 +18,14 @@ ghost use Rattle.run_frame.specs.Forms.{answer_in};
 
 use crate::planning::{Found, MOST_WORK, best_plan, reply_with_text};
 use crate::searching::history_of_boxes;
+use crate::workforce::Workforce;
 use box_workers::{Gate, first_loss};
 use cert_check::reasoned;
 use cert_log::{History, assemble, best_loss, write_cert};
 use cert_resume::{join, left_boxes};
 use command_line::Product;
 use cut_model::{Plan, Trace};
-use defect_map::DefectMap;
+use defect_map::{DefectMap, Ground};
 use first_plan::Start;
 use glass_base::{Instance, Memory, Role, Run};
 use plan_box::PlanBox;
@@ -76,75 +77,57 @@ fn history_of_none(alloc: Global, instance: &Instance, start: Start) -> History
 
 /// The history of a search of these boxes, of which there may be none.
 fn history_of_open<R: Threads + Wait + Sync, G: Gate + Sync>(
-    rt: &R,
     alloc: Global,
-    instance: &Instance,
-    map: &DefectMap,
+    workforce: &Workforce<'_, R, G>,
+    ground: Ground<'_>,
     boxes: Run<PlanBox>,
     start: Start,
-    workers: u32,
-    budget: u32,
-    gate: &G,
 ) -> Result<History, Memory>
-    requires map { map.now ≡ instance.now.defects }
     requires few { length boxes.items ≤ 160000000 }
     requires ids { numbered 0 boxes.items }
-    requires frames { All (λ (x : PlainBox). x.frame ≡ frame_of instance.now) boxes.items }
-    requires first { IsFirst instance.now start.first }
-    requires floor { IsFloor instance.now start.floor }
-    requires workers { (1 ≤ workers) × (workers ≤ 8) }
-    requires budget { (1 ≤ budget) × (budget ≤ 10000000) }
-    ensures { IfOk result (λ h. IsLawful instance.now (course_from boxes.items (first_loss_of instance.now start.first) budget start.floor) h) }
+    requires frames { All (λ (x : PlainBox). x.frame ≡ frame_of ground.instance.now) boxes.items }
+    requires first { IsFirst ground.instance.now start.first }
+    requires floor { IsFloor ground.instance.now start.floor }
+    ensures { let b = ground.entry.instance.now in IfOk result (λ h. IsLawful b (course_from boxes.items (first_loss_of b start.first) workforce.now.budget start.floor) h) }
 {
     if boxes.is_empty() {
-        return Ok(history_of_none(alloc, instance, start));
+        return Ok(history_of_none(alloc, ground.instance, start));
     }
-    history_of_boxes(
-        rt, alloc, instance, map, boxes, start, workers, budget, gate,
-    )
+    history_of_boxes(alloc, workforce, ground, boxes, start)
 }
 
 /// What is found by a search that goes on in the open boxes of a right certificate.
 fn go_on<R: Threads + Wait + Sync, G: Gate + Sync>(
-    rt: &R,
     alloc: Global,
-    instance: &Instance,
-    map: &DefectMap,
+    workforce: &Workforce<'_, R, G>,
+    ground: Ground<'_>,
     checked: &Checked,
-    workers: u32,
-    budget: u32,
-    gate: &G,
 ) -> Result<Found, Memory>
-    requires map { map.now ≡ instance.now.defects }
     requires fits { FitsToo checked.now.plan }
-    requires lawful { IsLawfulToo instance.now (option_map tree checked.now.plan) }
-    requires good { IsGood instance.now (root_ranges instance.now) (loss_in instance.now (option_map tree checked.now.plan)) checked.now.certificate }
+    requires lawful { IsLawfulToo ground.instance.now (option_map tree checked.now.plan) }
+    requires good { IsGood ground.instance.now (root_ranges ground.instance.now) (loss_in ground.instance.now (option_map tree checked.now.plan)) checked.now.certificate }
     requires version { HasVersion checked.now.certificate }
     requires few { checked.now.certificate.left ≤ 160000000 }
-    requires workers { (1 ≤ workers) × (workers ≤ 8) }
-    requires budget { (1 ≤ budget) × (budget ≤ 10000000) }
-    ensures resumed { IfOk result (λ found. IsResumed instance.now budget (option_map tree checked.now.plan) checked.now.certificate found.certificate (option_map tree found.plan)) }
+    ensures resumed { IfOk result (λ found. IsResumed ground.entry.instance.now workforce.now.budget (option_map tree checked.now.plan) checked.now.certificate found.certificate (option_map tree found.plan)) }
     ensures version { IfOk result (λ found. HasVersion found.certificate) }
     ensures fits { IfOk result (λ found. FitsToo found.plan) }
     ensures unwatched { IfOk result (λ found. found.improvements ≡ None) }
 {
     // Read for its rules.
-    let _items = instance.items();
-    let named = reasoned(alloc, instance, map, &checked.certificate)?;
-    let boxes = left_boxes(alloc, instance, &named)?;
-    let first = first_trace(alloc, instance, &checked.plan)?;
-    let _loss = first_loss(instance, &first);
+    let _items = ground.instance.items();
+    let named = reasoned(alloc, ground.instance, ground.map, &checked.certificate)?;
+    let boxes = left_boxes(alloc, ground.instance, &named)?;
+    let first = first_trace(alloc, ground.instance, &checked.plan)?;
+    let _loss = first_loss(ground.instance, &first);
     let start = Start {
         first,
         floor: named.floor,
     };
-    let history = history_of_open(
-        rt, alloc, instance, map, boxes, start, workers, budget, gate,
-    )?;
-    let parts = assemble(alloc, instance, &history)?;
+    let history = history_of_open(alloc, workforce, ground, boxes, start)?;
+    let parts = assemble(alloc, ground.instance, &history)?;
     let _left = history.left.len();
     let certificate = join(alloc, &named, parts, best_loss(&history))?;
-    let plan = best_plan(alloc, instance, &history)?;
+    let plan = best_plan(alloc, ground.instance, &history)?;
     Ok(Found {
         certificate,
         plan,
@@ -172,55 +155,47 @@ fn reply_if_readable(alloc: Global, instance: &Instance, found: &Found) -> Resul
 /// The reply to an instance and a plan and a certificate that are accepted: what a search finds in the open boxes, or a refusal where the number
 /// of items times the sum of the budget and the number of open boxes is above 160,000,000, or where what comes could not be read again.
 fn resume_within<R: Threads + Wait + Sync, G: Gate + Sync>(
-    rt: &R,
     alloc: Global,
-    instance: &Instance,
-    map: &DefectMap,
+    workforce: &Workforce<'_, R, G>,
+    ground: Ground<'_>,
     checked: &Checked,
-    workers: u32,
-    budget: u32,
-    gate: &G,
 ) -> Result<Reply, Memory>
-    requires map { map.now ≡ instance.now.defects }
     requires fits { FitsToo checked.now.plan }
-    requires lawful { IsLawfulToo instance.now (option_map tree checked.now.plan) }
-    requires good { IsGood instance.now (root_ranges instance.now) (loss_in instance.now (option_map tree checked.now.plan)) checked.now.certificate }
+    requires lawful { IsLawfulToo ground.instance.now (option_map tree checked.now.plan) }
+    requires good { IsGood ground.instance.now (root_ranges ground.instance.now) (loss_in ground.instance.now (option_map tree checked.now.plan)) checked.now.certificate }
     requires version { HasVersion checked.now.certificate }
-    requires workers { (1 ≤ workers) × (workers ≤ 8) }
-    requires budget { (1 ≤ budget) × (budget ≤ 10000000) }
-    ensures { IfOk result (λ r. (name : Product → List ℕ) → GoesOnWithin instance.now budget (option_map tree checked.now.plan) checked.now.certificate (name Product.Plan) (name Product.Certificate) (answer_in name r)) }
+    ensures { IfOk result (λ r. (name : Product → List ℕ) → GoesOnWithin ground.entry.instance.now workforce.now.budget (option_map tree checked.now.plan) checked.now.certificate (name Product.Plan) (name Product.Certificate) (answer_in name r)) }
 {
     // Read for its length.
     let _nodes = checked.certificate.nodes.len();
-    let items = instance.items().len() as u64;
-    let boxes = u64::from(budget) + checked.certificate.left;
+    let items = ground.instance.items().len() as u64;
+    let boxes = u64::from(workforce.budget) + checked.certificate.left;
     if items.saturating_mul(boxes) > MOST_WORK {
         let notice = bad_input(alloc, Role::Cert, 15, items, boxes)?;
         return Ok(reply_with(alloc, notice));
     }
-    let found = go_on(rt, alloc, instance, map, checked, workers, budget, gate)?;
-    reply_if_readable(alloc, instance, &found)
+    let found = go_on(alloc, workforce, ground, checked)?;
+    reply_if_readable(alloc, ground.instance, &found)
 }
 
 /// The reply to the texts of a plan, or none, and of a certificate: what a search finds that goes on in the boxes that the certificate leaves
 /// open, or a refusal as by `verify`, or of what would be too much work.
 pub fn resume_texts<R: Threads + Wait + Sync, G: Gate + Sync>(
-    rt: &R,
     alloc: Global,
+    workforce: &Workforce<'_, R, G>,
     instance: &Instance,
     plan_text: Option<&[u8]>,
     cert_text: &[u8],
-    workers: u32,
-    budget: u32,
-    gate: &G,
 ) -> Result<Reply, Memory>
-    requires workers { (1 ≤ workers) × (workers ≤ 8) }
-    requires budget { (1 ≤ budget) × (budget ≤ 10000000) }
-    ensures { IfOk result (λ r. (name : Product → List ℕ) → Resumes instance.now (option_map (λ bytes. bytes.now) plan_text.entry) cert_text.now budget (name Product.Plan) (name Product.Certificate) (answer_in name r)) }
+    ensures { IfOk result (λ r. (name : Product → List ℕ) → Resumes instance.now (option_map (λ bytes. bytes.now) plan_text.entry) cert_text.now workforce.now.budget (name Product.Plan) (name Product.Certificate) (answer_in name r)) }
 {
     let map = DefectMap::new(alloc, instance)?;
-    match accepted_texts(alloc, instance, &map, plan_text, cert_text) {
-        Ok(checked) => resume_within(rt, alloc, instance, &map, &checked, workers, budget, gate),
+    let ground = Ground {
+        instance,
+        map: &map,
+    };
+    match accepted_texts(alloc, ground, plan_text, cert_text) {
+        Ok(checked) => resume_within(alloc, workforce, ground, &checked),
         Err(stop) => reply_at(alloc, stop),
     }
 }

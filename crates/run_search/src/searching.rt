@@ -9,10 +9,11 @@ ghost use Rattle.plan_box.specs.Ranges.{PlainBox};
 ghost use Rattle.run_search.specs.Plans.{course, course_from};
 ghost use Rattle.run_search.specs.inner.Searches.{AreWatched};
 
+use crate::workforce::Workforce;
 use best_board::Entry;
 use box_workers::{Gate, first_loss, search, search_watched, start_boxes};
 use cert_log::History;
-use defect_map::DefectMap;
+use defect_map::Ground;
 use first_plan::Start;
 use glass_base::{Instance, Memory, Run};
 use plan_box::PlanBox;
@@ -30,35 +31,42 @@ pub(crate) struct Searched {
 
 /// A search of these boxes.
 fn search_of_boxes<R: Threads + Wait + Sync, G: Gate + Sync>(
-    rt: &R,
     alloc: Global,
-    instance: &Instance,
-    map: &DefectMap,
+    workforce: &Workforce<'_, R, G>,
+    ground: Ground<'_>,
     boxes: Run<PlanBox>,
     start: Start,
-    workers: u32,
-    budget: u32,
     watch: bool,
-    gate: &G,
 ) -> Result<Searched, Memory>
-    requires map { map.now ≡ instance.now.defects }
     requires boxes { (1 ≤ length boxes.items) × (length boxes.items ≤ 160000000) }
     requires ids { numbered 0 boxes.items }
-    requires frames { All (λ (x : PlainBox). x.frame ≡ frame_of instance.now) boxes.items }
-    requires first { IsFirst instance.now start.first }
-    requires floor { IsFloor instance.now start.floor }
-    requires workers { (1 ≤ workers) × (workers ≤ 8) }
-    requires budget { (1 ≤ budget) × (budget ≤ 10000000) }
-    ensures lawful { IfOk result (λ s. IsLawful instance.now (course_from boxes.items (first_loss_of instance.now start.first) budget start.floor) s.history) }
-    ensures watched { IfOk result (λ s. AreWatched instance.now (first_loss_of instance.now start.first) s.history.best watch s.improvements) }
+    requires frames { All (λ (x : PlainBox). x.frame ≡ frame_of ground.instance.now) boxes.items }
+    requires first { IsFirst ground.instance.now start.first }
+    requires floor { IsFloor ground.instance.now start.floor }
+    ensures lawful { let b = ground.entry.instance.now in IfOk result (λ s. IsLawful b (course_from boxes.items (first_loss_of b start.first) workforce.now.budget start.floor) s.history) }
+    ensures watched { let b = ground.entry.instance.now in IfOk result (λ s. AreWatched b (first_loss_of b start.first) s.history.best watch s.improvements) }
 {
     let Start { first, floor } = start;
-    let loss = first_loss(instance, &first);
-    gate.sees(loss);
-    let (shared, mut seat) = SharedBest::with_floor(alloc, loss, u64::from(budget), floor)?;
+    let loss = first_loss(ground.instance, &first);
+    workforce.gate.sees(loss);
+    let (shared, mut seat) = SharedBest::with_floor(
+        alloc,
+        loss,
+        u64::from(workforce.budget),
+        floor,
+    )?;
     if watch {
         let (history, list) = search_watched(
-            rt, alloc, instance, map, boxes, first, workers, &shared, &mut seat, gate,
+            workforce.rt,
+            alloc,
+            ground.instance,
+            ground.map,
+            boxes,
+            first,
+            workforce.workers,
+            &shared,
+            &mut seat,
+            workforce.gate,
         )?;
         return Ok(Searched {
             history,
@@ -66,7 +74,16 @@ fn search_of_boxes<R: Threads + Wait + Sync, G: Gate + Sync>(
         });
     }
     let history = search(
-        rt, alloc, instance, map, boxes, first, workers, &shared, &mut seat, gate,
+        workforce.rt,
+        alloc,
+        ground.instance,
+        ground.map,
+        boxes,
+        first,
+        workforce.workers,
+        &shared,
+        &mut seat,
+        workforce.gate,
     )?;
     Ok(Searched {
         history,
@@ -76,81 +93,54 @@ fn search_of_boxes<R: Threads + Wait + Sync, G: Gate + Sync>(
 
 /// The history of a search of these boxes.
 pub(crate) fn history_of_boxes<R: Threads + Wait + Sync, G: Gate + Sync>(
-    rt: &R,
     alloc: Global,
-    instance: &Instance,
-    map: &DefectMap,
+    workforce: &Workforce<'_, R, G>,
+    ground: Ground<'_>,
     boxes: Run<PlanBox>,
     start: Start,
-    workers: u32,
-    budget: u32,
-    gate: &G,
 ) -> Result<History, Memory>
-    requires map { map.now ≡ instance.now.defects }
     requires boxes { (1 ≤ length boxes.items) × (length boxes.items ≤ 160000000) }
     requires ids { numbered 0 boxes.items }
-    requires frames { All (λ (x : PlainBox). x.frame ≡ frame_of instance.now) boxes.items }
-    requires first { IsFirst instance.now start.first }
-    requires floor { IsFloor instance.now start.floor }
-    requires workers { (1 ≤ workers) × (workers ≤ 8) }
-    requires budget { (1 ≤ budget) × (budget ≤ 10000000) }
-    ensures { IfOk result (λ h. IsLawful instance.now (course_from boxes.items (first_loss_of instance.now start.first) budget start.floor) h) }
+    requires frames { All (λ (x : PlainBox). x.frame ≡ frame_of ground.instance.now) boxes.items }
+    requires first { IsFirst ground.instance.now start.first }
+    requires floor { IsFloor ground.instance.now start.floor }
+    ensures { let b = ground.entry.instance.now in IfOk result (λ h. IsLawful b (course_from boxes.items (first_loss_of b start.first) workforce.now.budget start.floor) h) }
 {
     let Searched {
         history,
         improvements: _,
-    } = search_of_boxes(
-        rt, alloc, instance, map, boxes, start, workers, budget, false, gate,
-    )?;
+    } = search_of_boxes(alloc, workforce, ground, boxes, start, false)?;
     Ok(history)
 }
 
 /// A search of all plans.
 pub(crate) fn search_from<R: Threads + Wait + Sync, G: Gate + Sync>(
-    rt: &R,
     alloc: Global,
-    instance: &Instance,
-    map: &DefectMap,
+    workforce: &Workforce<'_, R, G>,
+    ground: Ground<'_>,
     start: Start,
-    workers: u32,
-    budget: u32,
     watch: bool,
-    gate: &G,
 ) -> Result<Searched, Memory>
-    requires map { map.now ≡ instance.now.defects }
-    requires first { IsFirst instance.now start.first }
-    requires floor { IsFloor instance.now start.floor }
-    requires workers { (1 ≤ workers) × (workers ≤ 8) }
-    requires budget { (1 ≤ budget) × (budget ≤ 10000000) }
-    ensures lawful { IfOk result (λ s. IsLawful instance.now (course instance.now (first_loss_of instance.now start.first) budget start.floor) s.history) }
-    ensures watched { IfOk result (λ s. AreWatched instance.now (first_loss_of instance.now start.first) s.history.best watch s.improvements) }
+    requires first { IsFirst ground.instance.now start.first }
+    requires floor { IsFloor ground.instance.now start.floor }
+    ensures lawful { let b = ground.entry.instance.now in IfOk result (λ s. IsLawful b (course b (first_loss_of b start.first) workforce.now.budget start.floor) s.history) }
+    ensures watched { let b = ground.entry.instance.now in IfOk result (λ s. AreWatched b (first_loss_of b start.first) s.history.best watch s.improvements) }
 {
-    let boxes = start_boxes(alloc, instance)?;
-    search_of_boxes(
-        rt, alloc, instance, map, boxes, start, workers, budget, watch, gate,
-    )
+    let boxes = start_boxes(alloc, ground.instance)?;
+    search_of_boxes(alloc, workforce, ground, boxes, start, watch)
 }
 
 /// The history of a search of all plans.
 pub(crate) fn history_from<R: Threads + Wait + Sync, G: Gate + Sync>(
-    rt: &R,
     alloc: Global,
-    instance: &Instance,
-    map: &DefectMap,
+    workforce: &Workforce<'_, R, G>,
+    ground: Ground<'_>,
     start: Start,
-    workers: u32,
-    budget: u32,
-    gate: &G,
 ) -> Result<History, Memory>
-    requires map { map.now ≡ instance.now.defects }
-    requires first { IsFirst instance.now start.first }
-    requires floor { IsFloor instance.now start.floor }
-    requires workers { (1 ≤ workers) × (workers ≤ 8) }
-    requires budget { (1 ≤ budget) × (budget ≤ 10000000) }
-    ensures { IfOk result (λ h. IsLawful instance.now (course instance.now (first_loss_of instance.now start.first) budget start.floor) h) }
+    requires first { IsFirst ground.instance.now start.first }
+    requires floor { IsFloor ground.instance.now start.floor }
+    ensures { let b = ground.entry.instance.now in IfOk result (λ h. IsLawful b (course b (first_loss_of b start.first) workforce.now.budget start.floor) h) }
 {
-    let boxes = start_boxes(alloc, instance)?;
-    history_of_boxes(
-        rt, alloc, instance, map, boxes, start, workers, budget, gate,
-    )
+    let boxes = start_boxes(alloc, ground.instance)?;
+    history_of_boxes(alloc, workforce, ground, boxes, start)
 }

@@ -5,8 +5,9 @@ ghost use Rattle.cert_log.specs.Good.{IsFloor};
 ghost use Rattle.first_plan.specs.FirstPlans.{IsFirstPlan};
 ghost use Rattle.plan_draft.specs.Drafts.{HasNoDraft};
 
+use crate::workforce::Workforce;
 use box_workers::Gate;
-use defect_map::DefectMap;
+use defect_map::Ground;
 use first_plan::{Effort, Progress, Start, Team, first_plan, improve, start_by_fronts};
 use front_bound::watch::Watch;
 use glass_base::{Instance, Memory};
@@ -48,57 +49,51 @@ impl<'a, G: Gate> Progress for Telling<'a, G> {
 /// The first plan, and where fronts are asked, what they show.
 fn begun<G: Gate>(
     alloc: Global,
-    instance: &Instance,
-    map: &DefectMap,
+    ground: Ground<'_>,
     fronts: bool,
     telling: &Telling<G>,
 ) -> Result<Start, Memory>
-    requires map { map.now ≡ instance.now.defects }
-    ensures plan { IfOk result (λ start. IfSome start.first (λ trace. IsFirstPlan instance.now trace.steps.items)) }
-    ensures none { IfOk result (λ start. IfNone start.first ((number : ℕ) × HasNoDraft instance.now number)) }
-    ensures floor { IfOk result (λ start. IsFloor instance.now start.floor) }
+    ensures plan { IfOk result (λ start. IfSome start.first (λ trace. IsFirstPlan ground.entry.instance.now trace.steps.items)) }
+    ensures none { IfOk result (λ start. IfNone start.first ((number : ℕ) × HasNoDraft ground.entry.instance.now number)) }
+    ensures floor { IfOk result (λ start. IsFloor ground.entry.instance.now start.floor) }
     ensures unasked { IfOk result (λ start. fronts ≡ false → start.floor ≡ 0) }
 {
     if fronts {
-        return start_by_fronts(alloc, instance, map, telling);
+        return start_by_fronts(alloc, ground, telling);
     }
-    let first = first_plan(alloc, instance, map)?;
+    let first = first_plan(alloc, ground.instance, ground.map)?;
     Ok(Start { first, floor: 0 })
 }
 
 /// What a search begins with: the first plan, a better one where work is done for it, and where fronts are asked, what they show.
 pub(crate) fn start_of<R: Threads + Sync, G: Gate>(
-    rt: &R,
     alloc: Global,
-    instance: &Instance,
-    map: &DefectMap,
-    workers: u32,
+    workforce: &Workforce<'_, R, G>,
+    ground: Ground<'_>,
     opening: Opening,
-    gate: &G,
 ) -> Result<Start, Memory>
-    requires map { map.now ≡ instance.now.defects }
-    ensures plan { IfOk result (λ start. IfSome start.first (λ trace. IsFirstPlan instance.now trace.steps.items)) }
-    ensures none { IfOk result (λ start. IfNone start.first ((number : ℕ) × HasNoDraft instance.now number)) }
-    ensures floor { IfOk result (λ start. IsFloor instance.now start.floor) }
+    ensures plan { IfOk result (λ start. IfSome start.first (λ trace. IsFirstPlan ground.entry.instance.now trace.steps.items)) }
+    ensures none { IfOk result (λ start. IfNone start.first ((number : ℕ) × HasNoDraft ground.entry.instance.now number)) }
+    ensures floor { IfOk result (λ start. IsFloor ground.entry.instance.now start.floor) }
     ensures unasked { IfOk result (λ start. opening.fronts ≡ false → start.floor ≡ 0) }
 {
     let effort = Effort {
         millions: opening.effort,
-        threads: workers,
+        threads: workforce.workers,
     };
     let telling = Telling {
-        gate,
+        gate: workforce.gate,
         effort: opening.effort,
     };
-    let Start { first, floor } = begun(alloc, instance, map, opening.fronts, &telling)?;
+    let Start { first, floor } = begun(alloc, ground, opening.fronts, &telling)?;
     let team = Team {
-        rt,
+        rt: workforce.rt,
         effort,
         progress: &telling,
     };
     match first {
         Some(first) if opening.effort > 0 => {
-            let better = improve(alloc, &team, instance, map, first, floor)?;
+            let better = improve(alloc, &team, ground, first, floor)?;
             Ok(Start {
                 first: Some(better),
                 floor,

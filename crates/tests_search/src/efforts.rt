@@ -1,7 +1,7 @@
 //! More work for a better first plan: by one thread and by four the same plan, and never a worse one for more.
 
 use cut_model::{Step, Trace};
-use defect_map::DefectMap;
+use defect_map::{DefectMap, Ground};
 use first_plan::{Effort, Progress, Team, first_plan, improve};
 use glass_base::{Instance, Run};
 use glass_gen::generate;
@@ -70,7 +70,16 @@ fn work_out<R: Threads + Sync>(
         effort: Effort { millions, threads },
         progress: &notes,
     };
-    let best = improve(alloc, &team, instance, &map, first, 0)?;
+    let best = improve(
+        alloc,
+        &team,
+        Ground {
+            instance,
+            map: &map,
+        },
+        first,
+        0,
+    )?;
     Ok(Outcome {
         steps: steps_of(alloc, &best)?,
         loss: notes.loss.load(Ordering::SeqCst),

@@ -7,7 +7,7 @@ use Rattle.best_board.proofs.settling.put_between.Goals.{then-is_between+in_ok-p
 
 pub loop-entry-preserved : goal.loop-entry-preserved
 loop-entry-preserved c =
-    let b = c.args.instance.now in let e = c.entry-item.result in let i = c.loop-entry.entry-index in
+    let b = c.args.ground.instance.now in let e = c.entry-item.result in let i = c.loop-entry.entry-index in
     elim c.if-is_between.branch [
       | then-is_between+in_ok-put_plan w ↦
           let is : IsBetween b c.args.most c.args.least (found e) = search rules in

@@ -13,7 +13,7 @@ use Rattle.box_bound.proofs.probing.broken_at.Goals as goal
 
 pub write-requires : goal.write-requires
 write-requires c =
-    let count = whole_count c.args.instance.now c.args.bx.now c.args.leasts.now c.requires.leasts c.requires.whole c.frame-frame.ensures.rules c.requires.instance in
+    let count = whole_count c.args.ground.instance.now c.args.bx.now c.args.leasts.now c.requires.leasts c.requires.whole c.frame-frame.ensures.rules c.requires.instance in
     ap length c.kept.ensures ∙ count ∙ sym c.requires.trace
 
 pub returns-clause-trace : goal.returns-clause-trace
@@ -22,9 +22,9 @@ returns-clause-trace c =
 
 pub returns-clause-broken : goal.returns-clause-broken
 returns-clause-broken c =
-    subst (λ (xs : List Step). MatchOption c.first_broken.result (Meets c.args.instance.now xs) (λ broken. IsFirstBroken c.args.instance.now xs broken.rule broken.step)) c.as_slice.ensures c.first_broken.ensures
+    subst (λ (xs : List Step). MatchOption c.first_broken.result (Meets c.args.ground.instance.now xs) (λ broken. IsFirstBroken c.args.ground.instance.now xs broken.rule broken.step)) c.as_slice.ensures c.first_broken.ensures
 
-pub first_broken-requires-clause-few : goal.first_broken-requires-clause-few
-first_broken-requires-clause-few c =
-    let count = whole_count c.args.instance.now c.args.bx.now c.args.leasts.now c.requires.leasts c.requires.whole c.frame-frame.ensures.rules c.requires.instance in
+pub first_broken-requires : goal.first_broken-requires
+first_broken-requires c =
+    let count = whole_count c.args.ground.instance.now c.args.bx.now c.args.leasts.now c.requires.leasts c.requires.whole c.frame-frame.ensures.rules c.requires.instance in
     omega (arith, ap length c.as_slice.ensures, ap length c.write.ensures, length-map c.kept.result.now (λ (k : Kept). least_step (late k)), ap length c.kept.ensures, count, c.items-items.ensures.rules.few_items)

@@ -9,7 +9,7 @@ use Rattle.box_bound.proofs.refuting.is_broken.Goals as goal
 
 pub returns : goal.returns
 returns c =
-    let b = c.args.instance.now in
+    let b = c.args.ground.instance.now in
     let kept = c.args.steps.now in
     let all : take (length kept) c.loop-i.numbers ≡ map (λ (k : Kept). least_step (late k)) kept =
     ap (λ n. take n c.loop-i.numbers) (omega arith) ∙ c.loop-i.invariant.written ∙ ap (map (λ (k : Kept). least_step (late k))) (take_all c.loop-i.i kept (omega arith)) in

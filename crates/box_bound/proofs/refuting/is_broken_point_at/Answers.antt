@@ -11,12 +11,12 @@ pub returns-clause-broken : goal.returns-clause-broken
 returns-clause-broken c =
     let rs = c.args.bx.now.ranges in
     let numbers : List Step = map (λ (k : Kept). least_step (late k)) c.kept.result.now in
-    let same : numbers ≡ least_steps (known c.args.instance.now rs) = ap (map (λ (k : Kept). least_step (late k))) c.kept.ensures ∙ sym (least_map (λ k. k.level) late c.args.leasts.now.steps) ∙ ap least_steps c.requires.leasts.values in
-    point_test c.args.instance.now rs numbers c.is_broken.result (c.is_point.ensures.0 c.if-not-is_point.false) c.requires.possible same c.is_broken.ensures
+    let same : numbers ≡ least_steps (known c.args.ground.instance.now rs) = ap (map (λ (k : Kept). least_step (late k))) c.kept.ensures ∙ sym (least_map (λ k. k.level) late c.args.leasts.now.steps) ∙ ap least_steps c.requires.leasts.values in
+    point_test c.args.ground.instance.now rs numbers c.is_broken.result (c.is_point.ensures.0 c.if-not-is_point.false) c.requires.possible same c.is_broken.ensures
 
 pub returns-clause-met : goal.returns-clause-met
 returns-clause-met c = λ kept point.
     let rs = c.args.bx.now.ranges in
     let numbers : List Step = map (λ (k : Kept). least_step (late k)) c.kept.result.now in
-    let same : numbers ≡ least_steps (known c.args.instance.now rs) = ap (map (λ (k : Kept). least_step (late k))) c.kept.ensures ∙ sym (least_map (λ k. k.level) late c.args.leasts.now.steps) ∙ ap least_steps c.requires.leasts.values in
-    met_from c.args.instance.now numbers (least_steps (known c.args.instance.now rs)) c.is_broken.result kept same c.is_broken.ensures
+    let same : numbers ≡ least_steps (known c.args.ground.instance.now rs) = ap (map (λ (k : Kept). least_step (late k))) c.kept.ensures ∙ sym (least_map (λ k. k.level) late c.args.leasts.now.steps) ∙ ap least_steps c.requires.leasts.values in
+    met_from c.args.ground.instance.now numbers (least_steps (known c.args.ground.instance.now rs)) c.is_broken.result kept same c.is_broken.ensures

@@ -15,7 +15,7 @@ use Rattle.box_bound.proofs.refuting.refuted_early.Goals as goal
 
 pub returns-clause-first : goal.returns-clause-first
 returns-clause-first c =
-    let b = c.args.instance.now in
+    let b = c.args.ground.instance.now in
     let rs = c.args.bx.now.ranges in
     let had = c.decided_ranges-ranges.ensures in
     let items : length c.items.result.now ≡ length rs =
@@ -29,7 +29,7 @@ returns-clause-first c =
 
 pub returns-clause-numbers : goal.returns-clause-numbers
 returns-clause-numbers c =
-    let b = c.args.instance.now in
+    let b = c.args.ground.instance.now in
     let rs = c.args.bx.now.ranges in
     let had = c.decided_ranges-ranges.ensures in
     ap (λ (n : ℕ). take n c.seen_in-seen.new.steps) (sym had.count) ∙ c.seen_in-seen.ensures.steps

@@ -18,14 +18,14 @@ loop-i-init c =
       many = refl;
       last = c.step_before-last.ensures;
       found =
-          seen_start c.args.instance.now c.args.whole (map late_fixed c.args.steps.now) c.args.seen.now.items c.args.start c.seen_before-found.result c.requires.before c.seen_before-found.ensures.none
+          seen_start c.args.ground.instance.now c.args.whole (map late_fixed c.args.steps.now) c.args.seen.now.items c.args.start c.seen_before-found.result c.requires.before c.seen_before-found.ensures.none
           (λ some. c.seen_before-found.ensures.some some ∙ ap (λ (xs : List (Option Reason)). get_or xs (c.args.start - 1) None) c.as_slice.ensures);
       seen = c.requires.before;
     }
 
 pub loop-i-preserved : goal.loop-i-preserved
 loop-i-preserved c =
-    let b = c.args.instance.now in
+    let b = c.args.ground.instance.now in
     let steps = c.args.steps.now in
     let ranges = c.args.ranges.now in
     let i = c.loop-i.i in

@@ -11,7 +11,7 @@ use Rattle.box_bound.proofs.walking.seen_behind.Goals as goal
 
 pub returns-in-Some-split_first : goal.returns-in-Some-split_first
 returns-in-Some-split_first c = λ ks head levels seen.
-    let b = c.args.instance.now in
+    let b = c.args.ground.instance.now in
     let step = c.args.step.now in
     let there = subst (λ (o : Option Kept). IsHead o ks) c.in-Some.is head in
     subst (λ (o : Option Reason). IsFirstIfAny (λ reason. SomeFixed (FactOf b c.args.whole reason) step.level (late step) ks) o) (sym c.earlier.ensures)

@@ -13,7 +13,7 @@ use Rattle.box_bound.proofs.walking.seen_in.Goals as goal
 
 pub returns-clause-seen : goal.returns-clause-seen
 returns-clause-seen c =
-    let b = c.args.instance.now in
+    let b = c.args.ground.instance.now in
     let ranges = c.args.ranges.now in
     let whole = c.args.whole in
     let none = c.none-none.result in

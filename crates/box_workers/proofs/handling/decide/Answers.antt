@@ -48,7 +48,7 @@ returns-in-Some-closing_cause-clause-decides c =
 pub choose-step-requires : goal.choose-step-requires
 choose-step-requires c =
     let i = c.improve-broken.ensures.improves in
-    no_point c.args.instance.now c.args.bx.now c.look-seen.result i.0 c.improve-broken.new.hand.loss c.bound_at-bound.result c.requires.frame c.frame-frame.ensures.rules c.params-params.ensures.rules.some c.in_default.ensures.first i.1.is_probed (let e = i.1.loss in omega arith) c.bound_at-bound.ensures (let t = c.in_default-closing_cause.ensures in let m = c.min-threshold.ensures in omega arith)
+    no_point c.args.ground.instance.now c.args.bx.now c.look-seen.result i.0 c.improve-broken.new.hand.loss c.bound_at-bound.result c.requires.frame c.frame-frame.ensures.rules c.params-params.ensures.rules.some c.in_default.ensures.first i.1.is_probed (let e = i.1.loss in omega arith) c.bound_at-bound.ensures (let t = c.in_default-closing_cause.ensures in let m = c.min-threshold.ensures in omega arith)
 
 pub returns-clause-decides : goal.returns-clause-decides
 returns-clause-decides c =

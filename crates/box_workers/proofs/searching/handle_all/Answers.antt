@@ -8,5 +8,5 @@ returns g c = record {
   hand = c.spread.new.hand;
   before = c.in_ok-waiting.waiting.items;
   begun = c.in_ok-waiting.ensures.begun;
-  ended = subst (λ (n : ℕ). HasEnded c.args.instance.now c.args.shared.now n c.in_ok-waiting.waiting.items c.spread.new.seat c.run.new.seat c.spread.new.hand c.run.new.hand c.run.new.waiting.items) c.len-starts.ensures c.in_ok-run.ensures.ends;
+  ended = subst (λ (n : ℕ). HasEnded c.args.desk.now.ground.instance.now c.args.desk.now.shared.now n c.in_ok-waiting.waiting.items c.spread.new.seat c.run.new.seat c.spread.new.hand c.run.new.hand c.run.new.waiting.items) c.requires.starts c.in_ok-run.ensures.ends;
 }

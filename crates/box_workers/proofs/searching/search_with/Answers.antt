@@ -6,12 +6,12 @@ use Rattle.box_workers.proofs.searching.search_with.Goals as goal
 
 pub settle-requires-clause-small : goal.settle-requires-clause-small
 settle-requires-clause-small g c =
-    all_announced c.args.instance.now c.args.shared.now c.args.start.items c.args.workers c.args.seat.now c.handle_all.new.seat c.in_ok-hand.hand c.handle_all.new.hand c.in_ok-waiting.waiting.items c.in_ok-waiting.ensures
+    all_announced c.args.desk.now.ground.instance.now c.args.desk.now.shared.now c.args.start.items c.args.workers c.args.seat.now c.handle_all.new.seat c.in_ok-hand.hand c.handle_all.new.hand c.in_ok-waiting.waiting.items c.in_ok-waiting.ensures
 
 pub finish-requires : goal.finish-requires
 finish-requires g c =
     let d = c.in_ok-waiting.ensures in
-    let done = all_done c.args.instance.now c.args.shared.now c.args.start.items c.args.workers c.args.seat.now c.handle_all.new.seat c.in_ok-hand.hand c.handle_all.new.hand c.in_ok-waiting.waiting.items d in record {
+    let done = all_done c.args.desk.now.ground.instance.now c.args.desk.now.shared.now c.args.start.items c.args.workers c.args.seat.now c.handle_all.new.seat c.in_ok-hand.hand c.handle_all.new.hand c.in_ok-waiting.waiting.items d in record {
       leasts = d.ended.run.leasts;
       bounds = done.bounds;
       frames = d.ended.run.frames;
@@ -21,17 +21,17 @@ finish-requires g c =
 
 pub returns-clause-seat : goal.returns-clause-seat
 returns-clause-seat g c =
-    IfOk-weaker c.finish.result _ _ (λ h f. all_whole c.args.instance.now c.args.shared.now c.args.start.items c.args.workers c.args.seat.now c.handle_all.new.seat c.in_ok-hand.hand c.handle_all.new.hand c.in_ok-waiting.waiting.items c.in_ok-waiting.ensures
+    IfOk-weaker c.finish.result _ _ (λ h f. all_whole c.args.desk.now.ground.instance.now c.args.desk.now.shared.now c.args.start.items c.args.workers c.args.seat.now c.handle_all.new.seat c.in_ok-hand.hand c.handle_all.new.hand c.in_ok-waiting.waiting.items c.in_ok-waiting.ensures
     c.requires.newcomer c.settle.new.seat c.settle.ensures.same) c.finish.ensures
 
 pub returns-clause-lawful : goal.returns-clause-lawful
 returns-clause-lawful g c =
-    IfOk-weaker c.finish.result _ _ (λ h f. all_lawful c.args.instance.now c.args.shared.now c.args.start.items c.args.workers c.args.seat.now c.handle_all.new.seat c.in_ok-hand.hand c.handle_all.new.hand c.in_ok-waiting.waiting.items c.in_ok-waiting.ensures
-    c.requires.newcomer c.settle.new.seat c.settle.ensures.same c.args.first c.len-starts.result c.len-starts.ensures h
-    (subst (λ (m : ℕ). Finishes c.args.instance.now c.len-starts.result m c.handle_all.new.hand c.in_ok-waiting.waiting.items c.args.first h) c.floor-floor.ensures f) c.params-params.ensures.rules (search rules) c.settle.ensures.whole c.requires.ids c.requires.frames c.requires.loss c.requires.floor) c.finish.ensures
+    IfOk-weaker c.finish.result _ _ (λ h f. all_lawful c.args.desk.now.ground.instance.now c.args.desk.now.shared.now c.args.start.items c.args.workers c.args.seat.now c.handle_all.new.seat c.in_ok-hand.hand c.handle_all.new.hand c.in_ok-waiting.waiting.items c.in_ok-waiting.ensures
+    c.requires.newcomer c.settle.new.seat c.settle.ensures.same c.args.first c.args.desk.now.starts c.requires.count h
+    (subst (λ (m : ℕ). Finishes c.args.desk.now.ground.instance.now c.args.desk.now.starts m c.handle_all.new.hand c.in_ok-waiting.waiting.items c.args.first h) c.floor-floor.ensures f) c.params-params.ensures.rules (search rules) c.settle.ensures.whole c.requires.ids c.requires.frames c.requires.loss c.requires.floor) c.finish.ensures
 
 pub returns-clause-shows : goal.returns-clause-shows
 returns-clause-shows g c =
-    IfOk-weaker c.finish.result _ _ (λ h f. all_shown c.args.instance.now c.args.shared.now c.args.start.items c.args.workers c.args.seat.now c.handle_all.new.seat c.in_ok-hand.hand c.handle_all.new.hand c.in_ok-waiting.waiting.items c.in_ok-waiting.ensures
-    c.requires.newcomer c.settle.new.seat c.settle.ensures.same c.args.first c.len-starts.result c.len-starts.ensures h
-    (subst (λ (m : ℕ). Finishes c.args.instance.now c.len-starts.result m c.handle_all.new.hand c.in_ok-waiting.waiting.items c.args.first h) c.floor-floor.ensures f) c.params-params.ensures.rules (search rules) c.settle.ensures.whole c.requires.ids c.requires.frames c.requires.loss c.requires.floor) c.finish.ensures
+    IfOk-weaker c.finish.result _ _ (λ h f. all_shown c.args.desk.now.ground.instance.now c.args.desk.now.shared.now c.args.start.items c.args.workers c.args.seat.now c.handle_all.new.seat c.in_ok-hand.hand c.handle_all.new.hand c.in_ok-waiting.waiting.items c.in_ok-waiting.ensures
+    c.requires.newcomer c.settle.new.seat c.settle.ensures.same c.args.first c.args.desk.now.starts c.requires.count h
+    (subst (λ (m : ℕ). Finishes c.args.desk.now.ground.instance.now c.args.desk.now.starts m c.handle_all.new.hand c.in_ok-waiting.waiting.items c.args.first h) c.floor-floor.ensures f) c.params-params.ensures.rules (search rules) c.settle.ensures.whole c.requires.ids c.requires.frames c.requires.loss c.requires.floor) c.finish.ensures

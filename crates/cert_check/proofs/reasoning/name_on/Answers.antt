@@ -31,13 +31,13 @@ pub pass-requires-clause-may_go : goal.pass-requires-clause-may_go
 pass-requires-clause-may_go c =
     let k = (goal.at.pass-requires-clause-may_go c).In-loop-node in
     let n = c.loop-node.invariant.naming in
-    may_go_next c.args.instance.now _ c.args.cert.now.loss c.args.cert.now c.loop-node.node-index _ n.done no_node _ c.requires.good n.come (within k) (node_is k) (waits_next k)
+    may_go_next c.args.ground.instance.now _ c.args.cert.now.loss c.args.cert.now c.loop-node.node-index _ n.done no_node _ c.requires.good n.come (within k) (node_is k) (waits_next k)
 
 pub loop-node-preserved : goal.loop-node-preserved
 loop-node-preserved c =
     let k = (goal.at.loop-node-preserved c).In-loop-node in
     record {
-      naming = naming_goes_on c.args.instance.now _ c.args.cert.now.nodes.items c.loop-node.node-index _ _ _ _ no_node _ _ c.loop-node.invariant.naming (within k) (node_is k) (waits_next k)
+      naming = naming_goes_on c.args.ground.instance.now _ c.args.cert.now.nodes.items c.loop-node.node-index _ _ _ _ no_node _ _ c.loop-node.invariant.naming (within k) (node_is k) (waits_next k)
           c.name_node-named.ensures.named c.in_ok-append.ensures.ok c.in_ok-pass.ensures.boxes;
       room = c.name_node-named.ensures.room;
       frame = c.in_ok-pass.ensures.frame ∙ c.loop-node.invariant.frame;

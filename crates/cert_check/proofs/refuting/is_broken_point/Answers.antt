@@ -11,7 +11,7 @@ use Rattle.cert_check.proofs.refuting.is_broken_point.Goals as goal
 
 pub returns-clause-broken : goal.returns-clause-broken
 returns-clause-broken c =
-    let b = c.args.instance.now in
+    let b = c.args.ground.instance.now in
     let rs = map unpacked c.args.ranges.now in
     let steps = c.args.steps.now in
     let ss : List Step = take (length steps) c.as_slice.result.now in

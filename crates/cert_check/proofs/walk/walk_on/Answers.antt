@@ -17,7 +17,7 @@ no_node = Node.Split 0 Var.Stack
 
 pub loop-node-init : goal.loop-node-init
 loop-node-init c = record {
-  walking = starts c.args.instance.now (root_of (frame_of c.args.instance.now) 0).ranges c.args.loss c.args.cert.now c.args.path.now.boxes c.requires.boxes;
+  walking = starts c.args.ground.instance.now (root_of (frame_of c.args.ground.instance.now) 0).ranges c.args.loss c.args.cert.now c.args.path.now.boxes c.requires.boxes;
   room = c.requires.room;
   frame = c.requires.frame;
   line = omega arith;
@@ -46,16 +46,16 @@ pass-requires-clause-waits c = waits_next (goal.at.pass-requires-clause-waits c)
 pub returns-in-Some : goal.returns-in-Some
 returns-in-Some c =
     let k = (goal.at.returns-in-Some c).In-loop-node in
-    stops c.args.instance.now _ c.args.loss c.args.cert.now c.loop-node.node-index _ _ _ _ no_node _ c.in-Some.why c.loop-node.invariant.walking (within k) (node_is k) (waits_next k)
+    stops c.args.ground.instance.now _ c.args.loss c.args.cert.now c.loop-node.node-index _ _ _ _ no_node _ c.in-Some.why c.loop-node.invariant.walking (within k) (node_is k) (waits_next k)
     c.in-Some.ensures.judged c.read.ensures
 
 pub loop-node-preserved : goal.loop-node-preserved
 loop-node-preserved c =
     let k = (goal.at.loop-node-preserved c).In-loop-node in
     let n : Node = get_or c.as_slice-node-items.result.now c.loop-node.node-index no_node in
-    let passes : NodePasses c.args.instance.now c.args.cert.now.floor c.args.loss (top c.loop-node.path.boxes) n = search rules in
+    let passes : NodePasses c.args.ground.instance.now c.args.cert.now.floor c.args.loss (top c.loop-node.path.boxes) n = search rules in
     record {
-      walking = walks c.args.instance.now _ c.args.loss c.args.cert.now c.loop-node.node-index _ _ _ _ _ _ no_node n c.loop-node.invariant.walking (within k) (node_is k) (waits_next k)
+      walking = walks c.args.ground.instance.now _ c.args.loss c.args.cert.now c.loop-node.node-index _ _ _ _ _ _ no_node n c.loop-node.invariant.walking (within k) (node_is k) (waits_next k)
           passes c.read.ensures c.count.ensures.counts c.in_ok-pass.ensures.boxes;
       room = c.count.ensures.room;
       frame = c.in_ok-pass.ensures.frame ∙ c.loop-node.invariant.frame;
@@ -68,7 +68,7 @@ returns c =
     let w = c.loop-node.invariant.walking in
     let e = all_done _ c.args.cert.now.nodes.items c.loop-node.node-index _ w.done w.come
     (let e = ap (λ (ns : List Node). length ns) c.as_slice-node-items.ensures in let t = c.loop-node-test.false in omega arith) in (
-      subst (λ (xs : List Visit). All (Passes c.args.instance.now c.args.cert.now.floor c.args.loss) xs) (sym e) w.passed,
-      w.least ∙ ap (λ (xs : List Visit). least_of c.args.loss (visit_bounds c.args.instance.now c.args.cert.now.floor xs)) (sym e),
-      w.left ∙ ap (λ (xs : List Visit). length (visit_bounds c.args.instance.now c.args.cert.now.floor xs)) (sym e),
+      subst (λ (xs : List Visit). All (Passes c.args.ground.instance.now c.args.cert.now.floor c.args.loss) xs) (sym e) w.passed,
+      w.least ∙ ap (λ (xs : List Visit). least_of c.args.loss (visit_bounds c.args.ground.instance.now c.args.cert.now.floor xs)) (sym e),
+      w.left ∙ ap (λ (xs : List Visit). length (visit_bounds c.args.ground.instance.now c.args.cert.now.floor xs)) (sym e),
     )

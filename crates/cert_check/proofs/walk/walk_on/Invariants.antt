@@ -7,9 +7,9 @@ use Rattle.cert_check.proofs.walk.walk_on.Given as goal
 
 abbrev pub invariant-loop-node : goal.invariant-loop-node
 invariant-loop-node l = record {
-  walking : IsWalking l.instance (root_of (frame_of l.instance) 0).ranges l.loss l.cert l.node-index l.path.boxes l.place l.tally;
-  room : HasRoom (length l.instance.items) l.scratch;
-  frame : l.path.frame ≡ frame_of l.instance;
+  walking : IsWalking l.ground.instance.now (root_of (frame_of l.ground.instance.now) 0).ranges l.loss l.cert l.node-index l.path.boxes l.place l.tally;
+  room : HasRoom (length l.ground.instance.now.items) l.scratch;
+  frame : l.path.frame ≡ frame_of l.ground.instance.now;
   line : l.place.line ≤ l.node-index + 1;
   left : l.tally.left ≤ l.node-index;
 }

@@ -5,4 +5,4 @@ use Rattle.cut_rules.specs.Breaches.{KeepsCutRule}
 use Rattle.cut_rules.proofs.judge.first_of.Given as goal
 
 abbrev pub invariant-loop-rule : goal.invariant-loop-rule
-invariant-loop-rule l = All (λ rule. All (KeepsCutRule l.instance rule) (families_of l.instance (tree l.plan))) (take l.rule-index l.rules)
+invariant-loop-rule l = All (λ rule. All (KeepsCutRule l.ground.instance.now rule) (families_of l.ground.instance.now (tree l.plan))) (take l.rule-index l.rules)

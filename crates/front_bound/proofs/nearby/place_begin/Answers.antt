@@ -1,4 +1,5 @@
-use Rattle.std.proofs.Common.{sym, ap, subst, arith}
+use Rattle.std.proofs.Common.{[], ◌∷◌, sym, ap, subst, arith}
+use Rattle.std.proofs.Math.Logic.{∥∥₁_map}
 use Rattle.glass_base.specs.declared.params.Params.{Params}
 use Rattle.front_bound.specs.inner.Clear.{AreHoles}
 use Rattle.front_bound.specs.inner.Levels.{bands_at, list_at, to_go_at}
@@ -6,33 +7,43 @@ use Rattle.front_bound.specs.inner.Lists.{HasBands}
 use Rattle.front_bound.proofs.PlacedRuns.{placed_goes_on}
 use Rattle.front_bound.proofs.SideLemmas.{built_ready, class_none, true_false}
 use Rattle.front_bound.proofs.Fronts.{lead_down}
+use Rattle.front_bound.proofs.Known.{class_known, down_known, fronts_built}
 use Rattle.front_bound.proofs.Leasts.{fits}
 use Rattle.front_bound.proofs.nearby.place_begin.Goals as goal
 
 pub returns-then-not-has-clause-goes_on : goal.returns-then-not-has-clause-goes_on
 returns-then-not-has-clause-goes_on c = λ _.
-    class_none c.args.instance.now c.args.fronts.now.rows.now (to_go_at c.args.fronts.now.levels.now) c.args.most c.args.sides.now c.args.row c.args.begin.now c.args.class.now.plate c.args.class.now.low c.args.class.now.limits.top c.args.class.now.room
+    class_none c.args.outset.now.instance.now c.args.outset.now.fronts.rows.now (to_go_at c.args.outset.now.fronts.levels.now) c.args.outset.now.most c.args.sides.now c.args.outset.now.row c.args.begin.now c.args.class.now.plate c.args.class.now.low c.args.class.now.limits.top c.args.class.now.room
     c.args.class.now.limits.most (λ has. true_false c.has.result (c.has.ensures.1 has) c.if-not-has.true)
 
-pub placed_from-requires-clause-ground : goal.placed_from-requires-clause-ground
-placed_from-requires-clause-ground c = record {
-  len = c.requires.fronts.len;
-  down = lead_down c.args.instance.now c.args.fronts.now.rows.now c.requires.fronts.lattice;
-  bound = omega (arith, c.min-bound.ensures, c.requires.class.bound);
-  falls = λ n lt. (c.requires.fronts.built.each n lt).falls;
-  rises = λ n lt. (c.requires.fronts.built.each n lt).rises c.args.class.now.limits.class c.requires.class.class;
-  bands = λ n lt. subst (λ k. HasBands c.args.fronts.now.rows.now n k (bands_at c.args.fronts.now.levels.now n) (list_at c.args.fronts.now.levels.now n c.args.class.now.limits.class)) (sym c.requires.class.top)
-      ((c.requires.fronts.built.each n lt).lists c.args.class.now.limits.class 0 c.requires.class.class);
-}
+pub placed_from-requires-clause-stretch : goal.placed_from-requires-clause-stretch
+placed_from-requires-clause-stretch c =
+    let b = c.args.outset.now.instance.now in
+    let fronts = c.args.outset.now.fronts in
+    let class = c.args.class.now.limits.class in
+    let built = fronts_built b fronts c.args.outset.now.built in
+    record {
+      len = c.args.outset.now.even;
+      down = down_known fronts.rows.now (∥∥₁_map c.args.outset.now.built (λ are. lead_down b fronts.rows.now are.lattice));
+      bound = omega (arith, c.min-bound.ensures, c.requires.class.bound);
+      falls = λ n lt. (built.each n lt).falls;
+      rises = λ n lt. (built.each n lt).rises class c.requires.class.class;
+      bands = λ n lt. subst (λ k. HasBands fronts.rows.now n k (bands_at fronts.levels.now n) (list_at fronts.levels.now n class)) (sym c.requires.class.top) ((built.each n lt).lists class 0 c.requires.class.class);
+    }
 
 pub returns-clause-goes_on : goal.returns-clause-goes_on
 returns-clause-goes_on c = λ _.
-    placed_goes_on c.args.instance.now _ c.requires.fronts.lattice c.args.fronts.now.cover
-    (fits c.args.instance.now _ c.args.fronts.now.cover c.requires.class.height (omega (arith, c.min-bound.ensures, c.requires.class.narrow)) c.requires.fronts.enough) (to_go_at c.args.fronts.now.levels.now) c.args.row
-    (built_ready c.args.instance.now c.args.fronts.now.rows.now c.args.fronts.now.tops.now c.args.fronts.now.cover c.args.fronts.now.levels.now c.requires.fronts.built c.args.row (omega (arith, c.requires.row, c.requires.fronts.len))) c.args.class.now.plate
-    c.placed_from.new.pool
+    let b = c.args.outset.now.instance.now in
+    let fronts = c.args.outset.now.fronts in
+    let row = c.args.outset.now.row in
+    let most = c.args.outset.now.most in
+    let class = c.args.class.now in
+    let holes = c.in_ok-holes_of-2.ensures in
+    class_known b fronts.rows.now (to_go_at fronts.levels.now) most c.offer_placed_ends.new.sides row (c.args.begin.now ∷ []) class.plate class.low class.limits.top class.room class.limits.most (∥∥₁_map c.args.outset.now.built (λ are.
+    placed_goes_on b _ are.lattice fronts.cover (fits b _ fronts.cover c.requires.class.height (omega (arith, c.min-bound.ensures, c.requires.class.narrow)) are.enough) (to_go_at fronts.levels.now) row
+    (built_ready b fronts.rows.now fronts.tops.now fronts.cover fronts.levels.now are.built row (omega (arith, c.args.outset.now.inside, are.len))) class.plate c.placed_from.new.pool
     (record {
-      are = subst (λ l. AreHoles c.args.instance.now c.args.class.now.plate l) (sym c.as_slice.ensures.value) c.in_ok-holes_of-2.ensures;
+      are = subst (λ l. AreHoles b class.plate l) (sym c.as_slice.ensures.value) holes;
       height = ap (λ (p : Params). p.height) c.params-params.ensures.value;
       least = ap (λ (p : Params). p.min2) c.params-params.ensures.value;
       waste = ap (λ (p : Params). p.waste) c.params-params.ensures.value;
@@ -40,7 +51,7 @@ returns-clause-goes_on c = λ _.
       bound = omega (arith, c.min-bound.ensures, c.requires.class.bound);
       placed = c.in_ok-placed_from.ensures.placed;
     })
-    c.args.class.now.low c.in_ok-placed_from.ensures.begun c.as_slice-3.result.now (subst (λ l. AreHoles c.args.instance.now c.args.class.now.plate l) (sym c.as_slice-3.ensures.value) c.in_ok-holes_of-2.ensures) c.args.most c.offer_placed_ends.new.sides
-    c.args.begin.now c.args.class.now.limits.top c.args.class.now.room c.args.class.now.limits.most (omega arith) c.width-width.ensures.value (omega (arith, c.saturating_sub-reach.ensures, c.before-2.ensures.value)) (omega (arith, c.saturating_sub.ensures, c.from.ensures))
+    class.low c.in_ok-placed_from.ensures.begun c.as_slice-3.result.now (subst (λ l. AreHoles b class.plate l) (sym c.as_slice-3.ensures.value) holes) most c.offer_placed_ends.new.sides
+    c.args.begin.now class.limits.top class.room class.limits.most (omega arith) c.width-width.ensures.value (omega (arith, c.saturating_sub-reach.ensures, c.before-2.ensures.value)) (omega (arith, c.saturating_sub.ensures, c.from.ensures))
     (λ w top most room inside. omega (arith, c.requires.class.fits w top most room, inside, c.min-bound.ensures, c.saturating_sub-2.ensures, c.width-width.ensures.value))
-    c.in_ok-offer_placed_ends.ensures.held
+    c.in_ok-offer_placed_ends.ensures.held))

@@ -8,7 +8,7 @@ use Rattle.front_bound.proofs.nearby.place_begins.Given as goal
 
 abbrev pub invariant-loop-begin : goal.invariant-loop-begin
 invariant-loop-begin l = record {
-  space : IsRoomy l.fronts.rows.now l.space;
-  spreads : Spreads l.row l.fn.sides l.sides;
-  goes_on : (k : ℕ) (d : Label) → k < l.begin-index → BeginGoesOn l.instance l.fronts.rows.now (to_go_at l.fronts.levels.now) l.most l.sides l.row l.space.clear.items (get_or l.begins k d) l.class.plate l.class.low l.class.limits.top l.class.room l.class.limits.most;
+  space : IsRoomy l.outset.fronts.rows.now l.space;
+  spreads : Spreads l.outset.row l.fn.sides l.sides;
+  goes_on : (k : ℕ) (d : Label) → k < l.begin-index → BeginGoesOn l.outset.instance.now l.outset.fronts.rows.now (to_go_at l.outset.fronts.levels.now) l.outset.most l.sides l.outset.row l.space.clear.items (get_or l.begins k d) l.class.plate l.class.low l.class.limits.top l.class.room l.class.limits.most;
 }

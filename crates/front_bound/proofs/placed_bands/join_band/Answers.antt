@@ -23,18 +23,18 @@ unfolding BandJoined
 returns-then-wide-limits-clause-joined c = λ x d w right low up own next beside above can.
     absurd (omega (arith, least_first c.meet-shared.result w (c.meet-shared.ensures w own.0.1 next.1), c.if-wide-limits.true, c.from-wide.ensures, can.near))
 
-pub returns-then-end-ground-clause-joined : goal.returns-then-end-ground-clause-joined
+pub returns-then-end-stretch-clause-joined : goal.returns-then-end-stretch-clause-joined
 unfolding BandJoined
-returns-then-end-ground-clause-joined c = λ x d w right low up own next beside above can.
-    absurd (omega (arith, c.if-end-ground.true, c.from-end.ensures, c.max-right.ensures, own.1, beside, can.reaches))
+returns-then-end-stretch-clause-joined c = λ x d w right low up own next beside above can.
+    absurd (omega (arith, c.if-end-stretch.true, c.from-end.ensures, c.max-right.ensures, own.1, beside, can.reaches))
 
 pub returns-then-is_beyond-clause-joined : goal.returns-then-is_beyond-clause-joined
 unfolding BandJoined
 returns-then-is_beyond-clause-joined c = λ x d w right low up own next beside above can.
     let wide = least_first c.meet-shared.result w (c.meet-shared.ensures w own.0.1 next.1) in
-    let free : can.area ≤ c.glass_above-free.result = omega (arith, can.within, less_glass w c.args.ground.now.limits.bound c.args.ground.now.limits.height up c.args.band.now.up can.narrow above, c.glass_above-free.ensures) in
+    let free : can.area ≤ c.glass_above-free.result = omega (arith, can.within, less_glass w c.args.stretch.now.limits.bound c.args.stretch.now.limits.height up c.args.band.now.up can.narrow above, c.glass_above-free.ensures) in
     let far = c.is_beyond.ensures c.if-is_beyond.true can.area can.far (subst (λ l. Ended l can.area can.far) (sym c.ends_of.ensures) can.ends) free in
-    absurd (omega (arith, far, can.near, can.reaches, wide, c.from-wide.ensures, c.from-end.ensures, c.min-within.ensures, c.max-right.ensures, own.1, beside, c.if-wide-limits.false, c.if-end-ground.false))
+    absurd (omega (arith, far, can.near, can.reaches, wide, c.from-wide.ensures, c.from-end.ensures, c.min-within.ensures, c.max-right.ensures, own.1, beside, c.if-wide-limits.false, c.if-end-stretch.false))
 
 pub returns-clause-joined : goal.returns-clause-joined
 unfolding BandJoined

@@ -10,4 +10,4 @@ returns-in_default-clause-joined c = λ m is. absurd (c.in_default.not-Some m (c
 pub returns-clause-joined : goal.returns-clause-joined
 unfolding EntryJoined
 returns-clause-joined c = λ m is.
-    subst (MoveJoined c.args.ground.now c.join_move.new.pool c.args.row c.args.label.now) (same_some c.in-Some.band m (sym c.in-Some.is ∙ c.band_at.ensures ∙ is)) c.in_ok-join_move.ensures.joined
+    subst (MoveJoined c.args.stretch.now c.join_move.new.pool c.args.row c.args.label.now) (same_some c.in-Some.band m (sym c.in-Some.is ∙ c.band_at.ensures ∙ is)) c.in_ok-join_move.ensures.joined

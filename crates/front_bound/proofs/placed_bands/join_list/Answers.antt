@@ -7,19 +7,19 @@ use Rattle.front_bound.proofs.PoolRows.{spreads_then}
 use Rattle.front_bound.proofs.PlacedRows.{entry_kept}
 use Rattle.front_bound.proofs.placed_bands.join_list.Goals as goal
 
-pub returns-then-from-slack-clause-joined : goal.returns-then-from-slack-clause-joined
-returns-then-from-slack-clause-joined c =
-    before_high c.args.list.now c.loop-at.at c.args.slack (λ (e : Keyed). EntryJoined c.args.ground.now c.loop-at.pool c.args.row c.args.label.now e.place) c.requires.rises c.loop-at-test.true
-    (omega (arith, c.if-from-slack.true, c.key_at.ensures, c.from.ensures)) c.loop-at.invariant.joined
+pub returns-then-from-onward-clause-joined : goal.returns-then-from-onward-clause-joined
+returns-then-from-onward-clause-joined c =
+    before_high c.args.list.now c.loop-at.at c.args.onward.now.slack (λ (e : Keyed). EntryJoined c.args.onward.now.stretch.now c.loop-at.pool c.args.onward.now.row c.args.onward.now.label.now e.place) c.requires.rises c.loop-at-test.true
+    (omega (arith, c.if-from-onward.true, c.key_at.ensures, c.from.ensures)) c.loop-at.invariant.joined
 
 pub loop-at-preserved : goal.loop-at-preserved
 loop-at-preserved c = record {
-  spreads = spreads_then c.args.row c.args.pool.now c.loop-at.pool c.join_entry.new.pool c.loop-at.invariant.spreads c.in_ok-join_entry.ensures.spreads;
-  joined = up_to (λ (e : Keyed). EntryJoined c.args.ground.now c.join_entry.new.pool c.args.row c.args.label.now e.place) c.args.list.now c.loop-at.at c.entry_at-entry.result c.loop-at-test.true
-      (λ k d lt. entry_kept c.args.ground.now c.args.row c.loop-at.pool c.join_entry.new.pool c.in_ok-join_entry.ensures.spreads c.args.row c.args.label.now (get_or c.args.list.now k d).place (c.loop-at.invariant.joined k d lt))
-      (subst (λ (e : Keyed). EntryJoined c.args.ground.now c.join_entry.new.pool c.args.row c.args.label.now e.place) c.entry_at-entry.ensures c.in_ok-join_entry.ensures.joined);
+  spreads = spreads_then c.args.onward.now.row c.args.pool.now c.loop-at.pool c.join_entry.new.pool c.loop-at.invariant.spreads c.in_ok-join_entry.ensures.spreads;
+  joined = up_to (λ (e : Keyed). EntryJoined c.args.onward.now.stretch.now c.join_entry.new.pool c.args.onward.now.row c.args.onward.now.label.now e.place) c.args.list.now c.loop-at.at c.entry_at-entry.result c.loop-at-test.true
+      (λ k d lt. entry_kept c.args.onward.now.stretch.now c.args.onward.now.row c.loop-at.pool c.join_entry.new.pool c.in_ok-join_entry.ensures.spreads c.args.onward.now.row c.args.onward.now.label.now (get_or c.args.list.now k d).place (c.loop-at.invariant.joined k d lt))
+      (subst (λ (e : Keyed). EntryJoined c.args.onward.now.stretch.now c.join_entry.new.pool c.args.onward.now.row c.args.onward.now.label.now e.place) c.entry_at-entry.ensures c.in_ok-join_entry.ensures.joined);
 }
 
 pub returns-clause-joined : goal.returns-clause-joined
 returns-clause-joined c = λ e has low.
-    contained_each (λ (e : Keyed). EntryJoined c.args.ground.now c.loop-at.pool c.args.row c.args.label.now e.place) c.args.list.now (λ k d lt. c.loop-at.invariant.joined k d (omega (arith, lt, c.loop-at-test.false))) e has
+    contained_each (λ (e : Keyed). EntryJoined c.args.onward.now.stretch.now c.loop-at.pool c.args.onward.now.row c.args.onward.now.label.now e.place) c.args.list.now (λ k d lt. c.loop-at.invariant.joined k d (omega (arith, lt, c.loop-at-test.false))) e has

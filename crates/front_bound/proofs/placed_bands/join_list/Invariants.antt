@@ -6,6 +6,6 @@ use Rattle.front_bound.proofs.placed_bands.join_list.Given as goal
 
 abbrev pub invariant-loop-at : goal.invariant-loop-at
 invariant-loop-at l = record {
-  spreads : Spreads l.row l.fn.pool l.pool;
-  joined : (k : ℕ) (d : Keyed) → k < l.at → EntryJoined l.ground l.pool l.row l.label (get_or l.list k d).place;
+  spreads : Spreads l.onward.row l.fn.pool l.pool;
+  joined : (k : ℕ) (d : Keyed) → k < l.at → EntryJoined l.onward.stretch.now l.pool l.onward.row l.onward.label.now (get_or l.list k d).place;
 }

@@ -5,6 +5,6 @@ use Rattle.front_bound.proofs.placed_bands.join_rows.Given as goal
 
 abbrev pub invariant-loop-to : goal.invariant-loop-to
 invariant-loop-to l = record {
-  spreads : Spreads l.row l.fn.pool l.pool;
-  joined : (n : ℕ) → n < l.to → RunsJoined l.ground l.pool l.row l.label n (row_at l.fn.cells n);
+  spreads : Spreads l.onward.row l.fn.pool l.pool;
+  joined : (n : ℕ) → n < l.to → RunsJoined l.onward.stretch.now l.pool l.onward.row l.onward.label.now n (row_at l.fn.cells n);
 }

@@ -4,12 +4,12 @@ use Rattle.front_bound.specs.inner.Placed.{BandJoined, RunJoined, IsSlack}
 use Rattle.front_bound.proofs.HeldLists.{least_first}
 use Rattle.front_bound.proofs.placed_bands.join_run.Goals as goal
 
-pub returns-then-waste-slack-clause-joined : goal.returns-then-waste-slack-clause-joined
+pub returns-then-waste-onward-clause-joined : goal.returns-then-waste-onward-clause-joined
 unfolding RunJoined IsSlack
-returns-then-waste-slack-clause-joined c = λ x d w right low up own cells can.
+returns-then-waste-onward-clause-joined c = λ x d w right low up own cells can.
     let high = least_first c.band_of-band.result.along d (c.band_of-band.ensures.sizes w d cells.0).0 in
-    let less = mul-le c.args.ground.now.limits.top c.band_of-band.result.along.least c.args.ground.now.limits.top d (omega arith) high in
-    absurd (omega (arith, less, c.requires.slack c.args.to x d w right low up own can, c.waste_left-waste.ensures, c.if-waste-slack.true))
+    let less = mul-le c.args.onward.now.stretch.now.limits.top c.band_of-band.result.along.least c.args.onward.now.stretch.now.limits.top d (omega arith) high in
+    absurd (omega (arith, less, c.args.onward.now.lean c.args.to x d w right low up own can, c.waste_left-waste.ensures, c.if-waste-onward.true))
 
 pub returns-clause-joined : goal.returns-clause-joined
 unfolding RunJoined BandJoined

@@ -7,5 +7,5 @@ use Rattle.front_bound.proofs.placed_bands.join_runs.Given as goal
 abbrev pub invariant-loop-cells : goal.invariant-loop-cells
 invariant-loop-cells l = record {
   spreads : Spreads (l.to + 1) l.fn.pool l.pool;
-  joined : (k : ℕ) (d : Label) → k < l.cells-index → RunJoined l.ground l.pool l.row l.label l.to (get_or l.runs k d);
+  joined : (k : ℕ) (d : Label) → k < l.cells-index → RunJoined l.onward.stretch.now l.pool l.onward.row l.onward.label.now l.to (get_or l.runs k d);
 }

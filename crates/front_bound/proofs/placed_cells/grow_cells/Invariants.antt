@@ -7,5 +7,5 @@ use Rattle.front_bound.proofs.placed_cells.grow_cells.Given as goal
 abbrev pub invariant-loop-at : goal.invariant-loop-at
 invariant-loop-at l = record {
   spreads : Spreads l.row l.fn.pool l.pool;
-  joined : (k : ℕ) (d : Label) → k < l.at → All (CellJoined l.ground l.sought l.pool (get_or (row_at l.fn.pool l.row) k d)) l.cells;
+  joined : (k : ℕ) (d : Label) → k < l.at → All (CellJoined l.stretch l.sought l.pool (get_or (row_at l.fn.pool l.row) k d)) l.cells;
 }

@@ -10,6 +10,6 @@ loop-cell-preserved c = record {
   spreads =
       spreads_then c.args.row c.args.pool.now c.loop-cell.pool c.join_cell.new.pool c.loop-cell.invariant.spreads
       (spreads_from _ c.args.row c.loop-cell.pool c.join_cell.new.pool (leads_below c.args.cells.now c.args.row c.loop-cell.cell-index _ c.requires.down c.loop-cell-test.true) c.in_ok-join_cell.ensures.spreads);
-  joined = up_to (CellJoined c.args.ground.now c.args.sought.now c.join_cell.new.pool c.args.label.now) c.args.cells.now c.loop-cell.cell-index _ c.loop-cell-test.true
-      (λ k d lt. cell_joined_kept c.args.ground.now c.args.sought.now _ c.loop-cell.pool c.join_cell.new.pool c.args.label.now (get_or c.args.cells.now k d) c.in_ok-join_cell.ensures.spreads (c.loop-cell.invariant.joined k d lt)) c.in_ok-join_cell.ensures.joined;
+  joined = up_to (CellJoined c.args.stretch.now c.args.sought.now c.join_cell.new.pool c.args.label.now) c.args.cells.now c.loop-cell.cell-index _ c.loop-cell-test.true
+      (λ k d lt. cell_joined_kept c.args.stretch.now c.args.sought.now _ c.loop-cell.pool c.join_cell.new.pool c.args.label.now (get_or c.args.cells.now k d) c.in_ok-join_cell.ensures.spreads (c.loop-cell.invariant.joined k d lt)) c.in_ok-join_cell.ensures.joined;
 }

@@ -7,5 +7,5 @@ use Rattle.front_bound.proofs.placed_cells.join_cells.Given as goal
 abbrev pub invariant-loop-cell : goal.invariant-loop-cell
 invariant-loop-cell l = record {
   spreads : Spreads l.row l.fn.pool l.pool;
-  joined : (k : ℕ) (d : Move) → k < l.cell-index → CellJoined l.ground l.sought l.pool l.label (get_or l.cells k d);
+  joined : (k : ℕ) (d : Move) → k < l.cell-index → CellJoined l.stretch l.sought l.pool l.label (get_or l.cells k d);
 }

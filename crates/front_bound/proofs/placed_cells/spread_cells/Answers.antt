@@ -24,12 +24,12 @@ loop-done-preserved c =
       goes_on = λ n after le.
           elim (cases_lt row n) [
             | inl above ↦
-                cells_kept c.args.ground.now c.args.sought.now row c.loop-done.pool c.grow_cells.new.pool n (moves_at c.args.ground.now.rows.now n) c.in_ok-grow_cells.ensures.spreads (omega (arith, above))
+                cells_kept c.args.stretch.now c.args.sought.now row c.loop-done.pool c.grow_cells.new.pool n (moves_at c.args.stretch.now.rows.now n) c.in_ok-grow_cells.ensures.spreads (omega (arith, above))
                 (c.loop-done.invariant.goes_on n (omega (arith, above, c.loop-done-test.true)) le)
             | inr below ↦
                 let same : row ≡ n = omega (arith, below, after, le, c.loop-done-test.true) in
-                subst (λ k. CellsGoOn c.args.ground.now c.args.sought.now c.grow_cells.new.pool k (moves_at c.args.ground.now.rows.now k)) same
-                (subst (λ l. CellsGoOn c.args.ground.now c.args.sought.now c.grow_cells.new.pool row l) c.moves_of.ensures c.in_ok-grow_cells.ensures.goes_on)
+                subst (λ k. CellsGoOn c.args.stretch.now c.args.sought.now c.grow_cells.new.pool k (moves_at c.args.stretch.now.rows.now k)) same
+                (subst (λ l. CellsGoOn c.args.stretch.now c.args.sought.now c.grow_cells.new.pool row l) c.moves_of.ensures c.in_ok-grow_cells.ensures.goes_on)
           ];
     }
 
@@ -38,5 +38,5 @@ returns-then-row-low-clause-goes_on c = λ n le.
     let row : ℕ = c.args.sought.now.start - c.loop-done.done in
     elim (cases_lt row n) [
       | inl above ↦ c.loop-done.invariant.goes_on n (omega (arith, above, c.loop-done-test.true)) le
-      | inr below ↦ cells_none c.args.ground.now c.args.sought.now c.loop-done.pool n (moves_at c.args.ground.now.rows.now n) (c.low-low.ensures n (omega (arith, below, c.if-row-low.true)))
+      | inr below ↦ cells_none c.args.stretch.now c.args.sought.now c.loop-done.pool n (moves_at c.args.stretch.now.rows.now n) (c.low-low.ensures n (omega (arith, below, c.if-row-low.true)))
     ]

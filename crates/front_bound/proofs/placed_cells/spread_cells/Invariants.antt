@@ -7,5 +7,5 @@ use Rattle.front_bound.proofs.placed_cells.spread_cells.Given as goal
 abbrev pub invariant-loop-done : goal.invariant-loop-done
 invariant-loop-done l = record {
   spreads : Spreads l.sought.start l.fn.pool l.pool;
-  goes_on : (n : ℕ) → l.sought.start < n + l.done → n ≤ l.sought.start → CellsGoOn l.ground l.sought l.pool n (moves_at l.ground.rows.now n);
+  goes_on : (n : ℕ) → l.sought.start < n + l.done → n ≤ l.sought.start → CellsGoOn l.stretch l.sought l.pool n (moves_at l.stretch.rows.now n);
 }

@@ -6,6 +6,6 @@ use Rattle.front_bound.proofs.placed_sides.offer_all_placed.Given as goal
 
 abbrev pub invariant-loop-strip : goal.invariant-loop-strip
 invariant-loop-strip l = record {
-  spreads : Spreads (l.row + 1) l.fn.sides l.sides;
-  held : (k : ℕ) (d : Label) → k < l.strip-index → EndsPlaced l.instance l.holes l.far l.most l.sides l.row l.plate l.begin (get_or l.strips k d ∷ []);
+  spreads : Spreads (l.ending.row + 1) l.fn.sides l.sides;
+  held : (k : ℕ) (d : Label) → k < l.strip-index → EndsPlaced l.ending.instance.now l.holes l.ending.far l.ending.most l.sides l.ending.row l.ending.plate l.begin (get_or l.strips k d ∷ []);
 }

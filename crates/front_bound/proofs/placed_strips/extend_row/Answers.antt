@@ -10,7 +10,7 @@ use Rattle.front_bound.proofs.placed_strips.extend_row.Goals as goal
 pub loop-at-preserved : goal.loop-at-preserved
 loop-at-preserved c =
     let xs : List Label = row_at c.sort.new.self c.args.row in
-    let P : Label → Type 0 = Extended c.args.ground.now c.extend.new.pool c.args.row in
+    let P : Label → Type 0 = Extended c.args.stretch.now c.extend.new.pool c.args.row in
     let same : row_at c.loop-at.pool c.args.row ≡ xs = c.loop-at.invariant.spreads.same c.args.row (omega arith) in
     let is : c.label-label.result ≡ get_or xs c.loop-at.at c.label-label.result = c.label-label.ensures ∙ ap (λ l. get_or l c.loop-at.at c.label-label.result) same in
     let lt : c.loop-at.at < length xs = omega (arith, c.loop-at-test.true, ap length c.labels-at-end.ensures) in
@@ -19,7 +19,7 @@ loop-at-preserved c =
       spreads = spreads_then c.args.row c.sort.new.self c.loop-at.pool c.extend.new.pool c.loop-at.invariant.spreads c.in_ok-next.ensures.spreads;
       made = c.in_ok-next.ensures.made;
       extended = up_to P xs c.loop-at.at c.label-label.result lt
-          (λ k d before. extended_kept c.args.ground.now c.args.row c.loop-at.pool c.extend.new.pool c.in_ok-next.ensures.spreads c.args.row (get_or xs k d) (c.loop-at.invariant.extended k d before))
+          (λ k d before. extended_kept c.args.stretch.now c.args.row c.loop-at.pool c.extend.new.pool c.in_ok-next.ensures.spreads c.args.row (get_or xs k d) (c.loop-at.invariant.extended k d before))
           (subst P is c.in_ok-next.ensures.extended);
     }
 
@@ -30,5 +30,5 @@ pub returns-clause-placed : goal.returns-clause-placed
 unfolding RowPlaced
 returns-clause-placed c =
     let same : row_at c.loop-at.pool c.args.row ≡ row_at c.sort.new.self c.args.row = c.loop-at.invariant.spreads.same c.args.row (omega arith) in
-    λ k d lt. subst (λ l. Extended c.args.ground.now c.loop-at.pool c.args.row (get_or l k d)) (sym same)
+    λ k d lt. subst (λ l. Extended c.args.stretch.now c.loop-at.pool c.args.row (get_or l k d)) (sym same)
     (c.loop-at.invariant.extended k d (omega (arith, lt, ap length same, c.loop-at-test.false, ap length c.labels-at-end.ensures)))

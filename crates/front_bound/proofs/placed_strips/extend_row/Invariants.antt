@@ -8,6 +8,6 @@ abbrev pub invariant-loop-at : goal.invariant-loop-at
 invariant-loop-at l = record {
   cells : length l.cells ≡ length l.fn.cells;
   spreads : Spreads l.row l.initial.pool l.pool;
-  made : IfSome l.made (AreCells l.ground l.row l.cells);
-  extended : (k : ℕ) (d : Label) → k < l.at → Extended l.ground l.pool l.row (get_or (row_at l.initial.pool l.row) k d);
+  made : IfSome l.made (AreCells l.stretch l.row l.cells);
+  extended : (k : ℕ) (d : Label) → k < l.at → Extended l.stretch l.pool l.row (get_or (row_at l.initial.pool l.row) k d);
 }

@@ -16,11 +16,11 @@ loop-done-preserved c =
       placed = λ n after le.
           elim (cases_lt row n) [
             | inl above ↦
-                placed_kept c.args.ground.now (row + 1) c.loop-done.pool c.extend_row.new.pool c.in_ok-extend_row.ensures.spreads n (omega (arith, above))
+                placed_kept c.args.stretch.now (row + 1) c.loop-done.pool c.extend_row.new.pool c.in_ok-extend_row.ensures.spreads n (omega (arith, above))
                 (c.loop-done.invariant.placed n (omega (arith, above, c.loop-done-test.true)) le)
             | inr below ↦
                 let same : row ≡ n = omega (arith, below, after, le, c.loop-done-test.true) in
-                subst (RowPlaced c.args.ground.now c.extend_row.new.pool) same c.in_ok-extend_row.ensures.placed
+                subst (RowPlaced c.args.stretch.now c.extend_row.new.pool) same c.in_ok-extend_row.ensures.placed
           ];
     }
 
@@ -29,7 +29,7 @@ returns-then-row-first-clause-placed c = λ n le.
     let row : ℕ = c.args.start - c.loop-done.done in
     elim (cases_lt row n) [
       | inl above ↦ c.loop-done.invariant.placed n (omega (arith, above, c.loop-done-test.true)) le
-      | inr below ↦ row_none c.args.ground.now c.loop-done.pool n (c.low-first.ensures n (omega (arith, below, c.if-row-first.true)))
+      | inr below ↦ row_none c.args.stretch.now c.loop-done.pool n (c.low-first.ensures n (omega (arith, below, c.if-row-first.true)))
     ]
 
 pub returns-then-row-first-clause-begun : goal.returns-then-row-first-clause-begun

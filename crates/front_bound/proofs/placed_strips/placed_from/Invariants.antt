@@ -7,5 +7,5 @@ abbrev pub invariant-loop-done : goal.invariant-loop-done
 invariant-loop-done l = record {
   cells : length l.cells ≡ length l.fn.cells;
   spreads : Spreads (l.start + 1) l.initial.pool l.pool;
-  placed : (n : ℕ) → l.start < n + l.done → n ≤ l.start → RowPlaced l.ground l.pool n;
+  placed : (n : ℕ) → l.start < n + l.done → n ≤ l.start → RowPlaced l.stretch l.pool n;
 }

@@ -1,45 +1,52 @@
 use Rattle.std.proofs.Common.{◌≡◌, ◌+◌, ◌≤◌, ◌⊎◌, sym, subst, ◌∙◌, arith}
+use Rattle.std.proofs.Math.Logic.{∥∥₁_map}
 use Rattle.std.proofs.lemmas.List.{get_or_default}
 use Rattle.glass_base.specs.declared.params.Params.{Params}
 use Rattle.front_bound.specs.inner.Levels.{to_go_at}
 use Rattle.front_bound.specs.inner.Sides.{ClassGoesOn}
 use Rattle.front_bound.proofs.Leasts.{fits}
+use Rattle.front_bound.proofs.Known.{class_known, fronts_built}
 use Rattle.front_bound.proofs.SideLemmas.{built_searchable, built_ready, class_goes_on, class_whole, class_empty, class_narrow, none_left}
 use Rattle.front_bound.proofs.PoolRows.{spreads_same}
 use Rattle.front_bound.proofs.runs.handle_class.Goals as goal
 
 pub returns-then-bound-class-clause-goes_on : goal.returns-then-bound-class-clause-goes_on
 returns-then-bound-class-clause-goes_on c =
-    class_narrow c.args.instance.now c.args.fronts.now.rows.now (to_go_at c.args.fronts.now.levels.now) c.args.most c.args.sides.now c.args.row c.args.begins.now c.args.class.now.plate c.args.class.now.low c.args.class.now.limits.top c.args.class.now.room
+    class_narrow c.args.outset.now.instance.now c.args.outset.now.fronts.rows.now (to_go_at c.args.outset.now.fronts.levels.now) c.args.outset.now.most c.args.sides.now c.args.outset.now.row c.args.begins.now c.args.class.now.plate c.args.class.now.low c.args.class.now.limits.top c.args.class.now.room
     c.args.class.now.limits.most c.args.class.now.limits.bound c.if-bound-class.true c.requires.class.fits
 
 pub strips_from-requires-clause-searchable : goal.strips_from-requires-clause-searchable
 strips_from-requires-clause-searchable c =
-    let tops = c.args.fronts.now.tops.now in
-    let class = c.args.class.now.limits.class in
-    built_searchable c.args.instance.now c.args.fronts.now.rows.now tops c.args.fronts.now.cover c.args.fronts.now.levels.now c.requires.fronts.built c.args.row (omega (arith, c.requires.row, c.requires.fronts.len)) c.args.class.now.limits c.requires.class.class
-    (c.requires.class.top ∙ get_or_default tops class 0 c.args.class.now.limits.top c.requires.class.class) c.requires.class.bound
+    let b = c.args.outset.now.instance.now in
+    let fronts = c.args.outset.now.fronts in
+    let limits = c.args.class.now.limits in
+    built_searchable b fronts.rows.now fronts.tops.now fronts.cover fronts.levels.now (fronts_built b fronts c.args.outset.now.built) c.args.outset.now.row (omega (arith, c.args.outset.now.inside, c.args.outset.now.even)) limits c.requires.class.class
+    (c.requires.class.top ∙ get_or_default fronts.tops.now limits.class 0 limits.top c.requires.class.class) c.requires.class.bound
 
 pub returns-then-is_empty-clause-goes_on : goal.returns-then-is_empty-clause-goes_on
 returns-then-is_empty-clause-goes_on c =
-    class_whole c.args.instance.now c.args.fronts.now.rows.now (to_go_at c.args.fronts.now.levels.now) c.args.most c.args.row c.place_begins.new.sides c.place_begins.new.sides c.args.row c.args.begins.now c.place_begins.new.space.clear.items c.args.class.now.plate
-    c.args.class.now.low c.args.class.now.limits.top c.args.class.now.room c.args.class.now.limits.most (spreads_same c.args.row c.place_begins.new.sides) c.in_ok-place_begins.ensures.goes_on
+    class_whole c.args.outset.now.instance.now c.args.outset.now.fronts.rows.now (to_go_at c.args.outset.now.fronts.levels.now) c.args.outset.now.most c.args.outset.now.row c.place_begins.new.sides c.place_begins.new.sides c.args.outset.now.row c.args.begins.now c.place_begins.new.space.clear.items c.args.class.now.plate
+    c.args.class.now.low c.args.class.now.limits.top c.args.class.now.room c.args.class.now.limits.most (spreads_same c.args.outset.now.row c.place_begins.new.sides) c.in_ok-place_begins.ensures.goes_on
     (subst
-    (λ l. ClassGoesOn c.args.instance.now c.args.fronts.now.rows.now (to_go_at c.args.fronts.now.levels.now) c.args.most c.place_begins.new.sides c.args.row l c.args.class.now.plate c.args.class.now.low c.args.class.now.limits.top c.args.class.now.room
+    (λ l. ClassGoesOn c.args.outset.now.instance.now c.args.outset.now.fronts.rows.now (to_go_at c.args.outset.now.fronts.levels.now) c.args.outset.now.most c.place_begins.new.sides c.args.outset.now.row l c.args.class.now.plate c.args.class.now.low c.args.class.now.limits.top c.args.class.now.room
     c.args.class.now.limits.most) c.as_slice-clear.ensures.value
-    (class_empty c.args.instance.now c.args.fronts.now.rows.now (to_go_at c.args.fronts.now.levels.now) c.args.most c.place_begins.new.sides c.args.row c.as_slice-clear.result.now c.args.class.now.plate c.args.class.now.low c.args.class.now.limits.top
+    (class_empty c.args.outset.now.instance.now c.args.outset.now.fronts.rows.now (to_go_at c.args.outset.now.fronts.levels.now) c.args.outset.now.most c.place_begins.new.sides c.args.outset.now.row c.as_slice-clear.result.now c.args.class.now.plate c.args.class.now.low c.args.class.now.limits.top
     c.args.class.now.room c.args.class.now.limits.most (none_left _ c.if-is_empty.ensures)))
 
 pub returns-clause-goes_on : goal.returns-clause-goes_on
 returns-clause-goes_on c =
-    class_whole c.args.instance.now c.args.fronts.now.rows.now (to_go_at c.args.fronts.now.levels.now) c.args.most c.args.row c.place_begins.new.sides c.offer_ends.new.sides c.args.row c.args.begins.now c.place_begins.new.space.clear.items c.args.class.now.plate
-    c.args.class.now.low c.args.class.now.limits.top c.args.class.now.room c.args.class.now.limits.most c.in_ok-offer_ends.ensures.spreads c.in_ok-place_begins.ensures.goes_on
-    (subst
-    (λ l. ClassGoesOn c.args.instance.now c.args.fronts.now.rows.now (to_go_at c.args.fronts.now.levels.now) c.args.most c.offer_ends.new.sides c.args.row l c.args.class.now.plate c.args.class.now.low c.args.class.now.limits.top c.args.class.now.room
-    c.args.class.now.limits.most) c.as_slice-clear.ensures.value
-    (class_goes_on c.args.instance.now c.args.fronts.now.rows.now c.requires.fronts.lattice c.args.fronts.now.levels.now c.args.class.now.limits c.args.fronts.now.cover
-    (fits c.args.instance.now c.args.class.now.limits c.args.fronts.now.cover c.requires.class.height c.requires.class.narrow c.requires.fronts.enough) c.args.row
-    (built_ready c.args.instance.now c.args.fronts.now.rows.now c.args.fronts.now.tops.now c.args.fronts.now.cover c.args.fronts.now.levels.now c.requires.fronts.built c.args.row (omega (arith, c.requires.row, c.requires.fronts.len))) c.strips_from.new.pool
-    c.in_ok-strips_from.ensures.extended c.args.class.now.low
-    (λ x w none wide. c.in_ok-strips_from.ensures.begun x w (subst (λ (p : Params). (x ≡ 0) ⊎ (0 + p.waste ≤ x)) (sym c.params.ensures.value) none) wide) c.args.most c.offer_ends.new.sides c.as_slice-clear.result.now c.args.class.now.plate
-    c.args.class.now.limits.top c.args.class.now.room c.requires.class.fits c.in_ok-offer_ends.ensures.held))
+    let b = c.args.outset.now.instance.now in
+    let fronts = c.args.outset.now.fronts in
+    let rows = fronts.rows.now in
+    let levels = fronts.levels.now in
+    let most = c.args.outset.now.most in
+    let row = c.args.outset.now.row in
+    let class = c.args.class.now in
+    class_whole b rows (to_go_at levels) most row c.place_begins.new.sides c.offer_ends.new.sides row c.args.begins.now c.place_begins.new.space.clear.items class.plate class.low class.limits.top class.room class.limits.most c.in_ok-offer_ends.ensures.spreads
+    c.in_ok-place_begins.ensures.goes_on
+    (subst (λ l. ClassGoesOn b rows (to_go_at levels) most c.offer_ends.new.sides row l class.plate class.low class.limits.top class.room class.limits.most) c.as_slice-clear.ensures.value
+    (class_known b rows (to_go_at levels) most c.offer_ends.new.sides row c.as_slice-clear.result.now class.plate class.low class.limits.top class.room class.limits.most (∥∥₁_map c.args.outset.now.built (λ are.
+    class_goes_on b rows are.lattice levels class.limits fronts.cover (fits b class.limits fronts.cover c.requires.class.height c.requires.class.narrow are.enough) row
+    (built_ready b rows fronts.tops.now fronts.cover levels are.built row (omega (arith, c.args.outset.now.inside, are.len))) c.strips_from.new.pool c.in_ok-strips_from.ensures.extended class.low
+    (λ x w none wide. c.in_ok-strips_from.ensures.begun x w (subst (λ (p : Params). (x ≡ 0) ⊎ (0 + p.waste ≤ x)) (sym c.params.ensures.value) none) wide) most c.offer_ends.new.sides c.as_slice-clear.result.now class.plate class.limits.top class.room
+    c.requires.class.fits c.in_ok-offer_ends.ensures.held))))

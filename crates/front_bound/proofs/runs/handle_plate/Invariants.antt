@@ -6,7 +6,7 @@ use Rattle.front_bound.proofs.runs.handle_plate.Given as goal
 
 abbrev pub invariant-loop-class : goal.invariant-loop-class
 invariant-loop-class l = record {
-  space : IsRoomy l.fronts.rows.now l.space;
-  spreads : Spreads l.row l.fn.sides l.sides;
-  goes_on : PlateGoesOn l.instance l.fronts.rows.now (to_go_at l.fronts.levels.now) l.most l.sides l.row l.begins l.plate l.low;
+  space : IsRoomy l.outset.fronts.rows.now l.space;
+  spreads : Spreads l.outset.row l.fn.sides l.sides;
+  goes_on : PlateGoesOn l.outset.instance.now l.outset.fronts.rows.now (to_go_at l.outset.fronts.levels.now) l.outset.most l.sides l.outset.row l.begins l.plate l.low;
 }

@@ -7,7 +7,7 @@ use Rattle.front_bound.proofs.runs.handle_plates.Given as goal
 
 abbrev pub invariant-loop-plate : goal.invariant-loop-plate
 invariant-loop-plate l = record {
-  space : IsRoomy l.fronts.rows.now l.space;
-  spreads : Spreads l.row l.fn.sides l.sides;
-  goes_on : (k : ℕ) → k < l.plate → PlateGoesOn l.instance l.fronts.rows.now (to_go_at l.fronts.levels.now) l.most l.sides l.row l.begins k (l.instance.params.max1 + 1);
+  space : IsRoomy l.outset.fronts.rows.now l.space;
+  spreads : Spreads l.outset.row l.fn.sides l.sides;
+  goes_on : (k : ℕ) → k < l.plate → PlateGoesOn l.outset.instance.now l.outset.fronts.rows.now (to_go_at l.outset.fronts.levels.now) l.outset.most l.sides l.outset.row l.begins k (l.outset.instance.now.params.max1 + 1);
 }

@@ -7,15 +7,15 @@ use Rattle.front_bound.proofs.sides.offer_end.Goals as goal
 
 pub returns-in_default-clause-held : goal.returns-in_default-clause-held
 returns-in_default-clause-held c = λ from width begun wide.
-    ends_wide c.args.instance.now c.args.far c.args.most c.args.sides.now c.args.row c.args.plate from width (omega (arith, c.in_default.ensures.none from width begun wide, c.width.ensures.value))
+    ends_wide c.args.ending.now.instance.now c.args.ending.now.far c.args.ending.now.most c.args.sides.now c.args.ending.now.row c.args.ending.now.plate from width (omega (arith, c.in_default.ensures.none from width begun wide, c.width.ensures.value))
 
-pub returns-then-end-most-clause-held : goal.returns-then-end-most-clause-held
-returns-then-end-most-clause-held c = λ from width begun wide.
-    ends_far c.args.instance.now c.args.far c.args.most c.args.sides.now c.args.row c.args.plate from width (
+pub returns-then-end-ending-clause-held : goal.returns-then-end-ending-clause-held
+returns-then-end-ending-clause-held c = λ from width begun wide.
+    ends_far c.args.ending.now.instance.now c.args.ending.now.far c.args.ending.now.most c.args.sides.now c.args.ending.now.row c.args.ending.now.plate from width (
     omega (
       arith,
       least_first c.in-Some.sum (from + width) (c.in-Some.ensures.sums from width begun wide),
-      c.if-end-most.true,
+      c.if-end-ending.true,
       c.saturating_add-end.ensures,
       c.saturating_add.ensures,
       c.from.ensures,
@@ -25,8 +25,8 @@ returns-then-end-most-clause-held c = λ from width begun wide.
 
 pub returns-clause-held : goal.returns-clause-held
 returns-clause-held c = λ from width begun wide.
-    ends_offered c.args.instance.now c.args.far c.args.most c.offer.new.self c.args.row c.args.plate from width
-    (λ right gap. c.in_ok-offer.ensures.held right c.args.plate (
+    ends_offered c.args.ending.now.instance.now c.args.ending.now.far c.args.ending.now.most c.offer.new.self c.args.ending.now.row c.args.ending.now.plate from width
+    (λ right gap. c.in_ok-offer.ensures.held right c.args.ending.now.plate (
       c.closed.ensures.gaps (from + width) right (c.in-Some.ensures.sums from width begun wide) (subst (λ (p : Params). Gap p.waste (from + width) right) (sym c.params.ensures.value) gap),
       c.only.ensures,
     ))

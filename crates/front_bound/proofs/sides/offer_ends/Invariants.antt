@@ -7,6 +7,6 @@ use Rattle.front_bound.proofs.sides.offer_ends.Given as goal
 
 abbrev pub invariant-loop-row : goal.invariant-loop-row
 invariant-loop-row l = record {
-  spreads : Spreads l.start l.fn.sides l.sides;
-  held : (m from width : ℕ) → m < l.row → Held l.begins from l.plate → HeldAt l.fn.pool m l.height width → EndsHeld l.instance (to_go_at l.levels m) l.most l.sides m l.plate from width;
+  spreads : Spreads l.outset.row l.fn.sides l.sides;
+  held : (m from width : ℕ) → m < l.row → Held l.begins from l.plate → HeldAt l.fn.pool m l.height width → EndsHeld l.outset.instance.now (to_go_at l.outset.fronts.levels.now m) l.outset.most l.sides m l.plate from width;
 }

@@ -7,6 +7,6 @@ use Rattle.front_bound.proofs.sides.offer_ends_at.Given as goal
 
 abbrev pub invariant-loop-strip : goal.invariant-loop-strip
 invariant-loop-strip l = record {
-  spreads : Spreads (l.row + 1) l.fn.sides l.sides;
-  held : (k : ℕ) (d : Label) → k < l.strip-index → (from width : ℕ) → Held l.begins from l.plate → Fits (get_or l.strips k d) l.height width → EndsHeld l.instance l.far l.most l.sides l.row l.plate from width;
+  spreads : Spreads (l.ending.row + 1) l.fn.sides l.sides;
+  held : (k : ℕ) (d : Label) → k < l.strip-index → (from width : ℕ) → Held l.begins from l.ending.plate → Fits (get_or l.strips k d) l.height width → EndsHeld l.ending.instance.now l.ending.far l.ending.most l.sides l.ending.row l.ending.plate from width;
 }

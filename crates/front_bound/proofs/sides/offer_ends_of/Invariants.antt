@@ -7,6 +7,6 @@ use Rattle.front_bound.proofs.sides.offer_ends_of.Given as goal
 
 abbrev pub invariant-loop-begin : goal.invariant-loop-begin
 invariant-loop-begin l = record {
-  spreads : Spreads (l.row + 1) l.fn.sides l.sides;
-  held : (k : ℕ) (d : Label) → k < l.begin-index → (from width : ℕ) → Fits (get_or l.begins k d) from l.plate → Has l.strip.across width → EndsHeld l.instance l.far l.most l.sides l.row l.plate from width;
+  spreads : Spreads (l.ending.row + 1) l.fn.sides l.sides;
+  held : (k : ℕ) (d : Label) → k < l.begin-index → (from width : ℕ) → Fits (get_or l.begins k d) from l.ending.plate → Has l.strip.across width → EndsHeld l.ending.instance.now l.ending.far l.ending.most l.sides l.ending.row l.ending.plate from width;
 }

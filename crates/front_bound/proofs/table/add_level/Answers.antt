@@ -1,18 +1,29 @@
 use Rattle.std.proofs.Common.{rules, sym, subst}
+use Rattle.std.proofs.Math.Logic.{∥∥₁_map}
 use Rattle.front_bound.specs.inner.Levels.{to_go_at}
 use Rattle.front_bound.specs.inner.Ready.{Opened, LeavesLeast}
+use Rattle.front_bound.proofs.Known.{built_known}
 use Rattle.front_bound.proofs.LevelLists.{opened_at, closed}
 use Rattle.front_bound.proofs.table.add_level.Goals as goal
 
-pub far_of-requires-clause-opened : goal.far_of-requires-clause-opened
-far_of-requires-clause-opened c =
-    subst (λ l. Opened c.args.instance.now c.args.rows.now c.args.tops.now c.args.cover l c.len-row.result) (sym c.as_slice-3.ensures.value)
-    (opened_at c.args.instance.now c.args.rows.now c.args.tops.now c.args.cover c.requires.lattice c.args.levels.now.items c.as_slice-2.result.now c.push_level.new.levels.items c.in_ok-open.open c.len-row.result c.as_slice-2.ensures.value
-    (search rules) c.requires.built c.in_ok-open.ensures.open c.in_ok-push_level.ensures.len c.in_ok-push_level.ensures.same c.in_ok-push_level.ensures.new)
+pub invariant_of-behind-clause-opened : goal.invariant_of-behind-clause-opened
+invariant_of-behind-clause-opened c =
+    let b = c.args.grid.now.instance.now in
+    let rows = c.args.grid.now.rows.now in
+    let tops = c.args.grid.now.tops.now in
+    let cover = c.args.grid.now.cover in
+    ∥∥₁_map c.args.grid.now.lattice (λ lattice.
+    subst (λ l. Opened b rows tops cover l c.len-row.result) (sym c.as_slice-3.ensures.value)
+    (opened_at b rows tops cover lattice c.args.levels.now.items c.as_slice-2.result.now c.push_level.new.levels.items c.in_ok-open.open c.len-row.result c.as_slice-2.ensures.value (search rules) c.requires.built c.in_ok-open.ensures.open c.in_ok-push_level.ensures.len
+    c.in_ok-push_level.ensures.same c.in_ok-push_level.ensures.new))
 
 pub returns-clause-built : goal.returns-clause-built
 returns-clause-built c =
-    closed c.args.instance.now c.args.rows.now c.args.tops.now c.args.cover c.requires.lattice c.push_level.new.levels.items c.close_level.new.levels.items c.len-row.result c.in_ok-far.far
-    (opened_at c.args.instance.now c.args.rows.now c.args.tops.now c.args.cover c.requires.lattice c.args.levels.now.items c.as_slice-2.result.now c.push_level.new.levels.items c.in_ok-open.open c.len-row.result c.as_slice-2.ensures.value
-    (search rules) c.requires.built c.in_ok-open.ensures.open c.in_ok-push_level.ensures.len c.in_ok-push_level.ensures.same c.in_ok-push_level.ensures.new)
-    (subst (λ l. LeavesLeast c.args.instance.now c.args.rows.now (to_go_at l) c.len-row.result c.in_ok-far.far) c.as_slice-3.ensures.value c.in_ok-far.ensures.least) c.in_ok-close_level.ensures
+    let b = c.args.grid.now.instance.now in
+    let rows = c.args.grid.now.rows.now in
+    let tops = c.args.grid.now.tops.now in
+    let cover = c.args.grid.now.cover in
+    built_known b rows tops cover c.close_level.new.levels.items (∥∥₁_map c.args.grid.now.lattice (λ lattice.
+    closed b rows tops cover lattice c.push_level.new.levels.items c.close_level.new.levels.items c.len-row.result c.in_ok-far.far
+    (opened_at b rows tops cover lattice c.args.levels.now.items c.as_slice-2.result.now c.push_level.new.levels.items c.in_ok-open.open c.len-row.result c.as_slice-2.ensures.value (search rules) c.requires.built c.in_ok-open.ensures.open c.in_ok-push_level.ensures.len
+    c.in_ok-push_level.ensures.same c.in_ok-push_level.ensures.new) (subst (λ l. LeavesLeast b rows (to_go_at l) c.len-row.result c.in_ok-far.far) c.as_slice-3.ensures.value c.in_ok-far.ensures.least) c.in_ok-close_level.ensures))

@@ -6,5 +6,5 @@ abbrev pub invariant-loop-done : goal.invariant-loop-done
 invariant-loop-done g l = record {
   pool : length l.pool ≡ length l.fn.pool;
   len : length l.levels.items ≡ l.done;
-  built : Built l.fn.instance l.fn.rows l.fn.tops l.fn.cover l.levels.items;
+  built : Built l.fn.grid.instance.now l.fn.grid.rows.now l.fn.grid.tops.now l.fn.grid.cover l.levels.items;
 }

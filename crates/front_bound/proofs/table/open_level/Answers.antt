@@ -6,5 +6,5 @@ use Rattle.front_bound.proofs.table.open_level.Goals as goal
 
 pub returns-clause-open : goal.returns-clause-open
 returns-clause-open c =
-    is_open c.args.instance.now c.args.rows.now c.args.tops.now c.args.cover (to_go_at c.args.levels.now) c.args.row _ c.in_ok-ends.ensures.falls
-    (subst (λ l. HasLists c.args.rows.now c.args.row c.args.tops.now l (map (λ v. v.items) c.in_ok-lists.lists.items) (length c.args.tops.now)) c.as_slice.ensures.value c.in_ok-lists.ensures) c.in_ok-bands.ensures.bands c.in_ok-ends.ensures.ends
+    is_open c.args.grid.now.instance.now c.args.grid.now.rows.now c.args.grid.now.tops.now c.args.grid.now.cover (to_go_at c.args.levels.now) c.args.row _ c.in_ok-ends.ensures.falls
+    (subst (λ l. HasLists c.args.grid.now.rows.now c.args.row c.args.grid.now.tops.now l (map (λ v. v.items) c.in_ok-lists.lists.items) (length c.args.grid.now.tops.now)) c.as_slice.ensures.value c.in_ok-lists.ensures) c.in_ok-bands.ensures.bands c.in_ok-ends.ensures.ends

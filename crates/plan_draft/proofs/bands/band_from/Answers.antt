@@ -6,18 +6,18 @@ pub loop-c-preserved-in-Some : goal.loop-c-preserved-in-Some
 loop-c-preserved-in-Some c =
     let s = c.args.site in
     let i = c.args.item in
-    (up_to_skip c.loop-c.invariant.0 (skip_stronger (band_bottom s.instance.now s.plate c.args.left c.args.right i.w i.h) c.in-Some.ensures), c.in-Some.ensures.near)
+    (up_to_skip c.loop-c.invariant.0 (skip_stronger (band_bottom s.ground.instance.now s.plate c.args.left c.args.right i.w i.h) c.in-Some.ensures), c.in-Some.ensures.near)
 
 pub loop-c-preserved : goal.loop-c-preserved
 loop-c-preserved c =
     let s = c.args.site in
     let i = c.args.item in (
-      up_to_next c.loop-c.invariant.0 (no_band s.instance.now s.plate c.args.left c.args.right i.w i.h c.loop-c.c c.in-None-top_of.ensures),
-      omega (arith, rw c.params.ensures.value at c.loop-c-test.true, s.instance.now.params.accepted.height_limit),
+      up_to_next c.loop-c.invariant.0 (no_band s.ground.instance.now s.plate c.args.left c.args.right i.w i.h c.loop-c.c c.in-None-top_of.ensures),
+      omega (arith, rw c.params.ensures.value at c.loop-c-test.true, s.ground.instance.now.params.accepted.height_limit),
     )
 
 pub returns : goal.returns
 returns c =
     let s = c.args.site in
     let i = c.args.item in
-    bands_past s.instance.now s.plate c.args.left c.args.right i.w i.h c.loop-c.c c.loop-c.invariant.0 (rw c.params.ensures.value at c.loop-c-test.false)
+    bands_past s.ground.instance.now s.plate c.args.left c.args.right i.w i.h c.loop-c.c c.loop-c.invariant.0 (rw c.params.ensures.value at c.loop-c-test.false)

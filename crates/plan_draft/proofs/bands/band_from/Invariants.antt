@@ -4,7 +4,7 @@ use Rattle.plan_draft.specs.inner.Places.{HasBand}
 use Rattle.plan_draft.proofs.bands.band_from.Given as goal
 
 abbrev pub invariant-loop-c : goal.invariant-loop-c
-invariant-loop-c l = HasNoneUpTo (HasBand l.site.instance.now l.site.plate l.left l.right l.item.w l.item.h) 0 l.c × (l.c ≤ 40000)
+invariant-loop-c l = HasNoneUpTo (HasBand l.site.ground.instance.now l.site.plate l.left l.right l.item.w l.item.h) 0 l.c × (l.c ≤ 40000)
 
 abbrev pub decreases-loop-c : goal.decreases-loop-c
 decreases-loop-c l = 40001 - l.c

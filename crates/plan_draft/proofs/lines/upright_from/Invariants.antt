@@ -4,7 +4,7 @@ use Rattle.plan_draft.specs.inner.Least.{HasNoneUpTo}
 use Rattle.plan_draft.proofs.lines.upright_from.Given as goal
 
 abbrev pub invariant-loop-next : goal.invariant-loop-next
-invariant-loop-next l = HasNoneUpTo (λ m. CrossesNoneX l.site.instance.now.defects l.site.plate m 0 l.site.instance.now.params.height) l.initial.x l.x
+invariant-loop-next l = HasNoneUpTo (λ m. CrossesNoneX l.site.ground.instance.now.defects l.site.plate m 0 l.site.ground.instance.now.params.height) l.initial.x l.x
 
 abbrev pub decreases-loop-next : goal.decreases-loop-next
 decreases-loop-next l = 40000 - l.x

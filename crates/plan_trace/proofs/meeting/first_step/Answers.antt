@@ -9,11 +9,11 @@ use Rattle.plan_trace.proofs.LaidLemmas.{not_both}
 use Rattle.plan_trace.proofs.meeting.first_step.Goals as goal
 
 pub loop-i-init : goal.loop-i-init
-loop-i-init c = rw c.none-last.ensures (walk_start c.args.instance.now c.args.steps.now, λ j lt. absurd (omega (arith, lt)))
+loop-i-init c = rw c.none-last.ensures (walk_start c.args.ground.instance.now c.args.steps.now, λ j lt. absurd (omega (arith, lt)))
 
 pub keeps-requires-clause-fitted : goal.keeps-requires-clause-fitted
 keeps-requires-clause-fitted c = λ late.
-    let b = c.args.instance.now in
+    let b = c.args.ground.instance.now in
     let ss = c.args.steps.now in
     rw c.next-here.ensures.value
     (fitted_here b ss c.loop-i.i no_step c.loop-i.last (omega arith) c.loop-i.invariant.0
@@ -21,7 +21,7 @@ keeps-requires-clause-fitted c = λ late.
 
 pub returns-then-not-keeps : goal.returns-then-not-keeps
 returns-then-not-keeps c =
-    let b = c.args.instance.now in
+    let b = c.args.ground.instance.now in
     let ss = c.args.steps.now in
     let i = c.loop-i.i in
     let last = c.loop-i.last in
@@ -34,7 +34,7 @@ returns-then-not-keeps c =
 
 pub loop-i-preserved : goal.loop-i-preserved
 loop-i-preserved c =
-    let b = c.args.instance.now in
+    let b = c.args.ground.instance.now in
     let ss = c.args.steps.now in
     let i = c.loop-i.i in
     let last = c.loop-i.last in
@@ -45,4 +45,4 @@ loop-i-preserved c =
     )
 
 pub returns : goal.returns
-returns c = all_kept c.args.instance.now c.args.steps.now c.args.rule c.loop-i.i (omega arith) c.loop-i.invariant.1
+returns c = all_kept c.args.ground.instance.now c.args.steps.now c.args.rule c.loop-i.i (omega arith) c.loop-i.invariant.1

@@ -6,5 +6,5 @@ use Rattle.run_search.proofs.freezing.freeze_plan.Goals as goal
 
 pub returns-in-Some : goal.returns-in-Some
 returns-in-Some g c = λ names.
-    broken_told c.args.instance.now (tree c.args.plan.now) c.args.k c.args.budget c.in-Some.broken c.in_ok-broken.field-0 (names product.Plan) (names product.Certificate) (answer_in names c.reply_with.result)
+    broken_told c.args.instance.now (tree c.args.plan.now) c.args.k c.args.workforce.now.budget c.in-Some.broken c.in_ok-broken.field-0 (names product.Plan) (names product.Certificate) (answer_in names c.reply_with.result)
     (notice_in c.in_ok-unlawful.field-0) c.in_ok-broken.ensures c.in-Some.is (c.reply_with.ensures names) c.in_ok-unlawful.ensures

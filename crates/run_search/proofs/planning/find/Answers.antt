@@ -5,7 +5,7 @@ use Rattle.run_search.proofs.Told.{told}
 use Rattle.run_search.proofs.planning.find.Goals as goal
 
 pub certificate_of-requires : goal.certificate_of-requires
-certificate_of-requires g c = let is = c.in_ok-searched.ensures.history.history in (c.args.budget, is.to_beat, is.lawful)
+certificate_of-requires g c = let is = c.in_ok-searched.ensures.history.history in (c.args.workforce.now.budget, is.to_beat, is.lawful)
 
 pub returns-clause-found : goal.returns-clause-found
 returns-clause-found g c =
@@ -13,12 +13,12 @@ returns-clause-found g c =
     let rules = c.items-items.ensures.rules in
     let searched = c.in_ok-searched.searched in
     let is = c.in_ok-searched.ensures.history.history in
-    let certifies = c.in_ok-certificate.ensures.certifies c.args.budget is.to_beat is.lawful in
+    let certifies = c.in_ok-certificate.ensures.certifies c.args.workforce.now.budget is.to_beat is.lawful in
     let improvements = told b is.to_beat searched.history.best c.in_ok-certificate.certificate.loss c.args.watch searched.improvements rules certifies.good.loss_is c.in_ok-searched.ensures.history.watched in
-    found b c.args.budget c.args.watch searched.history c.in_ok-certificate.certificate _ (losses_in searched.improvements) rules c.requires.budget.1 is
+    found b c.args.workforce.now.budget c.args.watch searched.history c.in_ok-certificate.certificate _ (losses_in searched.improvements) rules c.args.workforce.now.bounded.1 is
     certifies c.in_ok-plan.ensures.loss c.in_ok-plan.ensures.said c.in_ok-plan.ensures.short c.in_ok-certificate.ensures.head improvements
 
 pub returns-clause-unasked : goal.returns-clause-unasked
 returns-clause-unasked g c unasked =
     let is = c.in_ok-searched.ensures.history.history in
-    (c.in_ok-certificate.ensures.certifies c.args.budget is.to_beat is.lawful).version.1 ∙ c.in_ok-searched.ensures.unasked unasked
+    (c.in_ok-certificate.ensures.certifies c.args.workforce.now.budget is.to_beat is.lawful).version.1 ∙ c.in_ok-searched.ensures.unasked unasked

@@ -8,7 +8,7 @@ use Rattle.run_search.proofs.planning.plan_instance.Goals as goal
 pub returns : goal.returns
 returns g c =
     let found = c.in_ok-found.found in
-    let work : length c.args.instance.now.items * c.args.budget ≤ most_work = search rules in
+    let work : length c.args.instance.now.items * c.args.workforce.now.budget ≤ most_work = search rules in
     IfOk-weaker c.reply_with_found.result _ _
     (λ r is names. inl (
       work,

@@ -5,12 +5,12 @@ use Rattle.run_search.proofs.planning.search_with.Goals as goal
 
 pub returns-clause-history : goal.returns-clause-history
 returns-clause-history g c =
-    let b = c.args.instance.now in
+    let b = c.args.ground.instance.now in
     let start = c.in_ok-start.start in
     let begun = c.in_ok-start.ensures in
     let loss = c.first_loss-loss.ensures in
     from_both c.search_from.result _ _ _ c.search_from.ensures.lawful c.search_from.ensures.watched
-    (λ s lawful watched. from_first b c.args.budget c.args.watch start.first c.first_loss-loss.result start.floor s.history s.improvements begun.plan begun.none loss.loss loss.some lawful watched)
+    (λ s lawful watched. from_first b c.args.workforce.now.budget c.args.watch start.first c.first_loss-loss.result start.floor s.history s.improvements begun.plan begun.none loss.loss loss.some lawful watched)
 
 pub returns-clause-unasked : goal.returns-clause-unasked
 returns-clause-unasked g c =

@@ -13,28 +13,28 @@ use Rattle.run_search.proofs.Resumed.{resumed, searched_on, small_too, zip_lengt
 use Rattle.run_search.proofs.resuming.go_on.Goals as goal
 
 pub left_boxes-requires : goal.left_boxes-requires
-left_boxes-requires g c = can_be_walked c.args.instance.now c.args.checked.now.certificate.loss (root_ranges c.args.instance.now) c.in_ok-named.named c.in_ok-named.ensures.good
+left_boxes-requires g c = can_be_walked c.args.ground.instance.now c.args.checked.now.certificate.loss (root_ranges c.args.ground.instance.now) c.in_ok-named.named c.in_ok-named.ensures.good
 
 pub history_of_open-requires-clause-few : goal.history_of_open-requires-clause-few
 history_of_open-requires-clause-few g c κs within =
-    let counted = left_counted c.args.instance.now c.args.checked.now.certificate.loss (root_ranges c.args.instance.now) c.in_ok-named.named c.in_ok-named.ensures.good in
+    let counted = left_counted c.args.ground.instance.now c.args.checked.now.certificate.loss (root_ranges c.args.ground.instance.now) c.in_ok-named.named c.in_ok-named.ensures.good in
     omega (arith, c.in_ok-boxes.ensures.count, counted, c.in_ok-named.ensures.reasoned.left, c.requires.few)
 
 pub join-requires-clause-parts : goal.join-requires-clause-parts
 join-requires-clause-parts g c =
-    let b = c.args.instance.now in
-    let s = course_from c.in_ok-boxes.boxes.items (first_loss b c.in_ok-first.first) c.args.budget c.in_ok-named.named.floor in
+    let b = c.args.ground.instance.now in
+    let s = course_from c.in_ok-boxes.boxes.items (first_loss b c.in_ok-first.first) c.args.workforce.now.budget c.in_ok-named.named.floor in
     sym (zip_length (λ (x : PlainBox) (p : Certificate). IsGood b x.ranges (loss_of c.in_ok-history.history.best) p) c.in_ok-boxes.boxes.items c.in_ok-parts.parts.items (c.in_ok-parts.ensures.good s c.in_ok-history.ensures))
     ∙ c.in_ok-boxes.ensures.count
 
 pub returns-clause-resumed : goal.returns-clause-resumed
 returns-clause-resumed g c =
-    let b = c.args.instance.now in let first = c.in_ok-first.first in
-    let s = course_from c.in_ok-boxes.boxes.items (first_loss b first) c.args.budget c.in_ok-named.named.floor in
+    let b = c.args.ground.instance.now in let first = c.in_ok-first.first in
+    let s = course_from c.in_ok-boxes.boxes.items (first_loss b first) c.args.workforce.now.budget c.in_ok-named.named.floor in
     let j = c.in_ok-certificate.ensures in
-    resumed b c.args.budget (first_loss b first) (option_map tree c.args.checked.now.plan) c.args.checked.now.certificate c.in_ok-named.named c.in_ok-history.history c.in_ok-parts.parts.items
+    resumed b c.args.workforce.now.budget (first_loss b first) (option_map tree c.args.checked.now.plan) c.args.checked.now.certificate c.in_ok-named.named c.in_ok-history.history c.in_ok-parts.parts.items
     c.in_ok-certificate.certificate (option_map tree c.in_ok-plan.plan) c.items-items.ensures.rules c.requires.good
-    (searched_on b c.args.budget (first_loss b first) c.args.checked.now.certificate c.in_ok-named.named c.in_ok-history.history c.in_ok-boxes.boxes.items c.in_ok-parts.parts.items c.best_loss.result
+    (searched_on b c.args.workforce.now.budget (first_loss b first) c.args.checked.now.certificate c.in_ok-named.named c.in_ok-history.history c.in_ok-boxes.boxes.items c.in_ok-parts.parts.items c.best_loss.result
     c.in_ok-certificate.certificate (record { reasoned = c.in_ok-named.ensures.reasoned; good = c.in_ok-named.ensures.good }) c.in_ok-named.ensures.version
     (c.in_ok-boxes.ensures.boxes c.in_ok-named.ensures.good.tree c.in_ok-named.ensures.good.nodes_are) c.best_loss.ensures c.in_ok-history.ensures
     (c.in_ok-parts.ensures.good s c.in_ok-history.ensures) (c.in_ok-parts.ensures.searched s c.in_ok-history.ensures) c.in_ok-parts.ensures.nodes c.in_ok-parts.ensures.left

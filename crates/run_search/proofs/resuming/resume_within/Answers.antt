@@ -9,16 +9,16 @@ use Rattle.run_search.proofs.resuming.resume_within.Goals as goal
 
 pub overflow_add-boxes : goal.overflow_add-boxes
 overflow_add-boxes g c =
-    let b = c.args.instance.now in let loss = loss_in b (option_map tree c.args.checked.now.plan) in
+    let b = c.args.ground.instance.now in let loss = loss_in b (option_map tree c.args.checked.now.plan) in
     let counts = good_counts b (root_ranges b) loss c.args.checked.now.certificate c.requires.good in
     let few = good_left b (root_ranges b) loss c.args.checked.now.certificate c.requires.good in
     let nodes = c.len-nodes.ensures in let fits = c.len-nodes.type_inv in
-    let budget = c.from.ensures in let most = c.requires.budget.1 in omega arith
+    let budget = c.from.ensures in let most = c.args.workforce.now.bounded.1 in omega arith
 
 pub returns : goal.returns
 returns g c =
     let found = c.in_ok-found.found in
-    let work : length c.args.instance.now.items * (c.args.budget + c.args.checked.now.certificate.left) ≤ most_work = search rules in
+    let work : length c.args.ground.instance.now.items * (c.args.workforce.now.budget + c.args.checked.now.certificate.left) ≤ most_work = search rules in
     IfOk-weaker c.reply_if_readable.result _ _
     (λ r is names. inl (work, record { certificate = found.certificate; best = option_map tree found.plan; resumed = c.in_ok-found.ensures.resumed; answer_is = is names }))
     c.reply_if_readable.ensures

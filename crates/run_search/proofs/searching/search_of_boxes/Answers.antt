@@ -6,7 +6,7 @@ use Rattle.run_search.proofs.searching.search_of_boxes.Goals as goal
 
 pub returns-then-watch-clause-watched : goal.returns-then-watch-clause-watched
 returns-then-watch-clause-watched g c =
-    let b = c.args.instance.now in
+    let b = c.args.ground.instance.now in
     let history = c.in_ok-history.history in
     let to_beat : c.in_ok-shared.shared.first ≡ first_loss b c.args.start.first = search rules in
     let least = c.in_ok-history.ensures.lawful.best_first in

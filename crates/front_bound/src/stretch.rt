@@ -17,9 +17,9 @@ pub struct Site {
     pub waste: u32,
 }
 
-/// Which strips are looked for, with all fronts and the defects that may be in their way.
+/// The stretch of a plate behind a left side, with the defects that lie there: which strips are looked for on it, and all fronts.
 #[derive(Clone, Copy)]
-pub struct Ground<'a> {
+pub struct Stretch<'a> {
     pub rows: &'a [Row],
     pub levels: &'a [Level],
     pub limits: Limits,
