@@ -45,7 +45,7 @@ samples() {
   echo "search $1 $budget $2" | perf record -F 400 -o "$work/samples" "$program" > "$work/told" 2>&1
   perf script -i "$work/samples" -F time,ip,sym --no-demangle 2> "$work/told" | awk '
     { time = $1 + 0; if (time > end) end = time }
-    /handling::handle|running::/ { if (!first || time < first) first = time; if (time > last) last = time }
+    /handling::|turning::|running::|working::|box_bound::/ { if (!first || time < first) first = time; if (time > last) last = time }
     END { printf "%.3f,%.3f\n", last - first, end - first }'
 }
 # the seconds of processor time
