@@ -14,7 +14,7 @@ import sys
 
 TOP = os.path.join(os.path.dirname(os.path.abspath(__file__)), "..")
 FUNCTION = re.compile(r"^\s*(?:pub(?:\(crate\))? )?fn (\w+)")
-CLAUSE = re.compile(r"^\s*(requires|ensures)\b\s*(\w*)\s*\{(.*)\}\s*$")
+CLAUSE = re.compile(r"^\s*(requires|ensures)\b\s*(\w*)\s*\{(.*)\}\s*;?\s*$")
 DEFINITION = re.compile(r"^(?:abbrev |unfoldable )?pub (?:record |data )?([^\s:({]+)")
 
 
@@ -39,13 +39,26 @@ def paths_now():
             yield os.path.relpath(os.path.join(folder, name), TOP)
 
 
+def with_whole_clauses(text):
+    """The lines of a source, each clause on one, however many lines it has."""
+    lines, opened = [], 0
+    for line in text.split("\n"):
+        if opened > 0:
+            lines[-1] += " " + line.strip()
+        else:
+            lines.append(line)
+        if opened > 0 or re.match(r"\s*(requires|ensures)\b", line):
+            opened += line.count("{") - line.count("}")
+    return lines
+
+
 def clauses(paths, read):
     """The clauses of each function of src/, as a set of texts for each name."""
     found = {}
     for path in paths:
         if "/src/" in path and path.endswith(".rt"):
             name = None
-            for line in read(path).split("\n"):
+            for line in with_whole_clauses(read(path)):
                 head = FUNCTION.match(line)
                 if head:
                     name = head.group(1)

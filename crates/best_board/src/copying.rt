@@ -28,7 +28,8 @@ fn widths_of(alloc: Global, instance: &Instance) -> Result<Run<u32>, Memory>
 
 /// The instance of the same parameters, items, defects and widths.
 pub(crate) fn copy_instance(alloc: Global, instance: &Instance) -> Result<Instance, Memory>
-    ensures { let b = instance.now in IfOk result (λ copy. IsMadeOf copy b.params b.items b.defects b.widths) }
+    ensures { let b = instance.now in IfOk result
+        (λ copy. IsMadeOf copy b.params b.items b.defects b.widths) }
 {
     let mut items = Run::new(alloc);
     items.extend_from_slice(instance.items())?;

@@ -54,7 +54,8 @@ fn last_loss(list: &[Entry]) -> Option<u64>
 
 /// The loss of the last plan of a list, where there is one and it loses no more than this.
 fn last_at_most(list: &[Entry], loss: u64) -> Option<u64>
-    ensures { let last = last_loss_of (found_in list.now) in MatchOption result (IfSome last (λ n. loss < n)) (λ n. (last ≡ Some n) × (n ≤ loss)) }
+    ensures { let last = last_loss_of (found_in list.now) in
+        MatchOption result (IfSome last (λ n. loss < n)) (λ n. (last ≡ Some n) × (n ≤ loss)) }
 {
     let last = last_loss(list)?;
     if last <= loss { Some(last) } else { None }
@@ -68,7 +69,8 @@ impl Entries {
 
     /// No plan yet, of this instance, of which a copy is kept.
     pub fn new(alloc: Global, instance: &Instance) -> Result<Entries, Memory>
-        ensures instance { let b = instance.now in IfOk result (λ e. IsMadeOf e.instance b.params b.items b.defects b.widths) }
+        ensures instance { let b = instance.now in IfOk result
+            (λ e. IsMadeOf e.instance b.params b.items b.defects b.widths) }
         ensures empty { IfOk result (λ e. e.found ≡ []) }
     {
         let instance = copy_instance(alloc, instance)?;
@@ -103,7 +105,8 @@ impl Entries {
     /// Enters a trace at the end of the list, with its loss, where it has a step for each item, meets the rules for the kept instance,
     /// and loses less than the last one. Else it is told why not, and the list stays as it was, as it does where memory runs out.
     pub fn offer(&mut self, trace: &Trace) -> Result<Offered, Memory>
-        ensures offers { IfOk result (λ offered. Offers trace.now.steps.items self.old self.new offered) }
+        ensures offers { IfOk result (λ offered. Offers trace.now.steps.items self.old
+            self.new offered) }
         ensures refused { OnErr result (self.new ≡ self.old) }
     {
         if !is_complete(self.ground(), trace) {

@@ -40,7 +40,8 @@ fn is_between(ground: Ground<'_>, most: Option<u64>, least: u64, entry: &Entry) 
 
 /// Appends a plan with this loss.
 fn put_plan(alloc: Global, loss: u64, trace: &Trace, list: &mut Run<Entry>) -> Result<(), Memory>
-    ensures { OnOk result (found_in list.new.items ≡ found_in list.old.items ++ record { loss = loss; steps = trace.now.steps.items } ∷ []) }
+    ensures { OnOk result (found_in list.new.items
+        ≡ found_in list.old.items ++ record { loss = loss; steps = trace.now.steps.items } ∷ []) }
 {
     let trace = copy_trace(alloc, trace)?;
     append(list, Entry { loss, trace })
@@ -54,8 +55,11 @@ fn put_first(
     list: &mut Run<Entry>,
 ) -> Result<Option<u64>, Memory>
     requires { IfSome (option_map (λ t. t.now.steps.items) first) (IsComplete instance.now) }
-    ensures loss { IfOk result (λ loss. loss ≡ option_map (trace_loss_of instance.now) (option_map (λ t. t.now.steps.items) first.entry)) }
-    ensures list { OnOk result (found_in list.new.items ≡ found_in list.old.items ++ begins instance.now (option_map (λ t. t.now.steps.items) first.entry)) }
+    ensures loss { IfOk result (λ loss. loss ≡ option_map (trace_loss_of instance.now)
+        (option_map (λ t. t.now.steps.items) first.entry)) }
+    ensures list { OnOk result (found_in list.new.items
+        ≡ found_in list.old.items ++ begins instance.now
+        (option_map (λ t. t.now.steps.items) first.entry)) }
 {
     let Some(trace) = first else {
         return Ok(None);
@@ -74,7 +78,9 @@ fn put_between(
     entries: &[Entry],
     list: &mut Run<Entry>,
 ) -> Result<(), Memory>
-    ensures { OnOk result ((between : List Found) × AreThose (IsBetween ground.entry.instance.now most least) (found_in entries.now) between × (found_in list.new.items ≡ found_in list.old.items ++ between)) }
+    ensures { OnOk result ((between : List Found)
+        × AreThose (IsBetween ground.entry.instance.now most least) (found_in entries.now) between
+        × (found_in list.new.items ≡ found_in list.old.items ++ between)) }
 {
     for entry in entries {
         if is_between(ground, most, least, entry) {
@@ -92,7 +98,9 @@ fn put_last(
     trace: &Trace,
     list: &mut Run<Entry>,
 ) -> Result<(), Memory>
-    ensures { OnOk result (found_in list.new.items ≡ found_in list.old.items ++ ends most record { loss = loss; steps = trace.now.steps.items }) }
+    ensures { OnOk result (found_in list.new.items
+        ≡ found_in list.old.items ++ ends most record
+        { loss = loss; steps = trace.now.steps.items }) }
 {
     match most {
         None => put_plan(alloc, loss, trace, list),
@@ -122,10 +130,16 @@ pub fn settle(
     requires map { map.now ≡ instance.now.defects }
     requires first { IfSome (option_map (λ t. t.now.steps.items) first) (IsComplete instance.now) }
     requires last { IfSome (option_map (λ t. t.now.steps.items) last) (IsComplete instance.now) }
-    requires no_worse { IsNoWorse instance.now (option_map (λ t. t.now.steps.items) first) (option_map (λ t. t.now.steps.items) last) }
-    ensures settles { IfOk result (λ list. Settles instance.now (option_map (λ t. t.now.steps.items) first.entry) (option_map (λ t. t.now.steps.items) last.entry) entries.now.found (found_in list.items)) }
-    ensures improvements { IfOk result (λ list. AreImprovements instance.now (found_in list.items)) }
-    ensures ends { IfOk result (λ list. last_loss (found_in list.items) ≡ option_map (trace_loss_of instance.now) (option_map (λ t. t.now.steps.items) last.entry)) }
+    requires no_worse { IsNoWorse instance.now (option_map (λ t. t.now.steps.items) first)
+        (option_map (λ t. t.now.steps.items) last) }
+    ensures settles { IfOk result (λ list. Settles instance.now
+        (option_map (λ t. t.now.steps.items) first.entry)
+        (option_map (λ t. t.now.steps.items) last.entry) entries.now.found (found_in list.items)) }
+    ensures improvements { IfOk result (λ list. AreImprovements instance.now
+        (found_in list.items)) }
+    ensures ends { IfOk result (λ list. last_loss (found_in list.items)
+        ≡ option_map (trace_loss_of instance.now)
+        (option_map (λ t. t.now.steps.items) last.entry)) }
 {
     let ground = Ground { instance, map };
     let mut list = Run::new(alloc);

@@ -16,7 +16,7 @@ use crate::filling::decided_ranges;
 use crate::kept::{Kept, drawn};
 use crate::leasts::Leasts;
 use glass_base::Instance;
-use plan_box::{Frame, Packed, PlanBox, Var};
+use plan_box::{Packed, PlanBox, Var};
 
 /// The quotient, rounded up.
 #[tactic(auto, using(plan_box::proofs::LeastLengths::ceil_small))]
@@ -34,7 +34,8 @@ fn ceil_div(n: u64, d: u64) -> u64
 fn reached(instance: &Instance, total: u64, last: &Kept) -> u64
     requires total { total ≤ 320000000000 }
     requires within { AreWithin 40000000 (late last.now) }
-    ensures value { let k = late last.now in result ≡ max (end_of_strip instance.now k) (end_of_items instance.now total k) }
+    ensures value { let k = late last.now in result
+        ≡ max (end_of_strip instance.now k) (end_of_items instance.now total k) }
     ensures small { result ≤ 810000000000000 }
 {
     let params = instance.params();
@@ -51,7 +52,9 @@ fn reached(instance: &Instance, total: u64, last: &Kept) -> u64
 fn length_by(instance: &Instance, total: u64, count: usize, last: &Kept) -> u64
     requires total { total ≡ area_of instance.now.items }
     requires within { AreWithin 40000000 (late last.now) }
-    ensures value { (ks : List Fixed) → length ks ≡ count → last_known no_known ks ≡ late last.now → result ≡ max (ceil_div_of (area_of instance.now.items) instance.now.params.height) (reached_of instance.now (area_of instance.now.items) ks) }
+    ensures value { (ks : List Fixed) → length ks ≡ count → last_known no_known ks ≡ late last.now
+        → result ≡ max (ceil_div_of (area_of instance.now.items) instance.now.params.height)
+        (reached_of instance.now (area_of instance.now.items) ks) }
     ensures small { result ≤ 810000000000000 }
 {
     let glass = ceil_div(total, u64::from(instance.params().height));
@@ -68,7 +71,7 @@ fn last_of(instance: &Instance, steps: &[Kept]) -> Kept
     ensures within { AreWithin 40000000 (late result) }
 {
     if steps.len() == 0 {
-        Kept::none(Packed::full(Frame::of(instance)))
+        Kept::before_all(instance)
     } else {
         steps[steps.len() - 1]
     }
@@ -90,11 +93,12 @@ pub fn length_at(instance: &Instance, leasts: &Leasts, bx: &PlanBox) -> u64
 fn last_step(instance: &Instance, ranges: &[Packed]) -> Kept
     requires few { length ranges.now ≤ 800 }
     requires within { All (λ x. AreRangesWithin (unpacked x)) ranges.now }
-    ensures value { late result ≡ last_known no_known (follow instance.now [] no_known (mapped unpacked ranges.now)) }
+    ensures value { late result ≡ last_known no_known
+        (follow instance.now [] no_known (mapped unpacked ranges.now)) }
     ensures within { AreWithin 40000000 (late result) }
 {
     let _items = instance.items();
-    let mut last = Kept::none(Packed::full(Frame::of(instance)));
+    let mut last = Kept::before_all(instance);
     for (i, here) in ranges.iter().enumerate() {
         let taken = drawn(&ranges[..i], here.range(Var::Stack).0);
         last = last.next(instance, &ranges[..i], taken, here);

@@ -12,7 +12,9 @@ use plan_trace::TraceBroken;
 
 /// The first discrete number of a step that can be split.
 fn first_discrete(bx: &PlanBox, step: u32) -> Option<Var>
-    ensures { MatchOption result ((var : VarOf) → is_discrete var ≡ true → is_free bx.now.ranges step var ≡ false) (λ var. IsTrue (is_free bx.now.ranges step var) × (is_discrete var ≡ true)) }
+    ensures { MatchOption result ((var : VarOf) → is_discrete var ≡ true
+        → is_free bx.now.ranges step var ≡ false) (λ var. IsTrue (is_free bx.now.ranges step var)
+        × (is_discrete var ≡ true)) }
 {
     if bx.free(step, Var::Stack) {
         return Some(Var::Stack);
@@ -31,7 +33,8 @@ fn first_discrete(bx: &PlanBox, step: u32) -> Option<Var>
 
 /// The first cut of a step that can be split.
 fn first_cut(bx: &PlanBox, step: u32) -> Option<Var>
-    ensures { MatchOption result ((var : VarOf) → is_discrete var ≡ false → is_free bx.now.ranges step var ≡ false) (λ var. IsTrue (is_free bx.now.ranges step var)) }
+    ensures { MatchOption result ((var : VarOf) → is_discrete var ≡ false
+        → is_free bx.now.ranges step var ≡ false) (λ var. IsTrue (is_free bx.now.ranges step var)) }
 {
     if bx.free(step, Var::A) {
         return Some(Var::A);
@@ -54,7 +57,10 @@ fn first_cut(bx: &PlanBox, step: u32) -> Option<Var>
 /// A variable that can be split, or none exactly where the box is a point. A discrete number of the first undecided step is
 /// taken before a cut of a decided one.
 pub fn choose(bx: &PlanBox) -> Option<(u32, Var)>
-    ensures { MatchOption result (IsPoint bx.now.ranges) (λ p. IsTrue (is_free bx.now.ranges p.0 p.1) × (is_discrete p.1 ≡ false → (var : VarOf) → is_discrete var ≡ true → is_free bx.now.ranges (length (decided_of bx.now.ranges)) var ≡ false)) }
+    ensures { MatchOption result (IsPoint bx.now.ranges)
+        (λ p. IsTrue (is_free bx.now.ranges p.0 p.1)
+        × (is_discrete p.1 ≡ false → (var : VarOf) → is_discrete var ≡ true
+        → is_free bx.now.ranges (length (decided_of bx.now.ranges)) var ≡ false)) }
 {
     let decided = bx.decided();
     if let Some(var) = first_discrete(bx, decided) {
@@ -88,7 +94,8 @@ fn widest_free(leasts: &Leasts, bx: &PlanBox, cuts: &[Cut]) -> Option<(u32, Var)
 /// free one with the widest span from least value to high end, if there is one; else what `choose` gives. None exactly where the box is
 /// a point.
 pub fn choose_at(leasts: &Leasts, bx: &PlanBox, broken: Option<TraceBroken>) -> Option<(u32, Var)>
-    ensures { MatchOption result (IsPoint bx.now.ranges) (λ p. IsTrue (is_free bx.now.ranges p.0 p.1)) }
+    ensures { MatchOption result (IsPoint bx.now.ranges)
+        (λ p. IsTrue (is_free bx.now.ranges p.0 p.1)) }
 {
     if let Some(broken) = broken {
         let cuts = cuts_read(leasts.kept(), broken);

@@ -51,7 +51,8 @@ impl Ends {
         requires e { (unpacked ranges.now).e.low + place.now.cell_w < 2 ^ 32 }
         requires from { from + place.now.cell_w < 2 ^ 32 }
         requires d { self.least_c + place.now.cell_h < 2 ^ 32 }
-        ensures { known_of place.now result ≡ cell_known instance.now (place_in place.now) (known_of place.now self) from (unpacked ranges.now) }
+        ensures { known_of place.now result ≡ cell_known instance.now (place_in place.now)
+            (known_of place.now self) from (unpacked ranges.now) }
     {
         let e = ranges.range(Var::E);
         let left = e.0.max(from);
@@ -71,7 +72,8 @@ impl Ends {
         requires a { self.least_a ≤ 40000000 }
         requires from { from ≤ 40000000 }
         requires cell_h { place.now.cell_h ≤ 40000000 }
-        ensures { known_of place.now result ≡ band_known instance.now (place_in place.now) (known_of place.now self) from (unpacked ranges.now) }
+        ensures { known_of place.now result ≡ band_known instance.now (place_in place.now)
+            (known_of place.now self) from (unpacked ranges.now) }
     {
         let c = ranges.range(Var::C);
         let d = ranges.range(Var::D);
@@ -92,7 +94,8 @@ impl Ends {
         requires cell_w { place.now.cell_w ≤ 20000 }
         requires from { from ≤ 40000000 }
         requires cell_h { place.now.cell_h ≤ 40000000 }
-        ensures { known_of place.now result ≡ strip_known instance.now (place_in place.now) (known_of place.now self) from (unpacked ranges.now) }
+        ensures { known_of place.now result ≡ strip_known instance.now (place_in place.now)
+            (known_of place.now self) from (unpacked ranges.now) }
     {
         let a = ranges.range(Var::A);
         let b = ranges.range(Var::B);
@@ -125,7 +128,8 @@ impl Ends {
         requires d { self.least_d ≤ 40000000 }
         requires e { self.least_e + last.now.cell_w ≤ 40000000 }
         requires c { self.least_c ≤ 40000000 }
-        ensures { known_of place.now result ≡ next_known instance.now level (place_in place.now) (known_of last.now self) (unpacked ranges.now) }
+        ensures { known_of place.now result ≡ next_known instance.now level (place_in place.now)
+            (known_of last.now self) (unpacked ranges.now) }
     {
         match level {
             Level::NewPlate => self.with_strip(instance, place, 0, ranges),
@@ -141,7 +145,8 @@ impl Ends {
 
     /// With the least values that the next step, which begins this level, has for the same strip and band.
     pub fn settled(self, level: Level, next: &Ends) -> Ends
-        ensures { (p q : PlacedOf) → known_of p result ≡ settled_known level (known_of p self) (known_of q next.now) }
+        ensures { (p q : PlacedOf) → known_of p result
+            ≡ settled_known level (known_of p self) (known_of q next.now) }
     {
         match level {
             Level::NewPlate => self,

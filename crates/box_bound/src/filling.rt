@@ -17,7 +17,7 @@ use crate::ends::Ends;
 use crate::kept::{Kept, drawn};
 use crate::placed::Placed;
 use glass_base::{Instance, Run};
-use plan_box::{Frame, Packed, PlanBox, Var};
+use plan_box::{Packed, PlanBox, Var};
 use plan_trace::level::Level;
 
 /// How many of the first steps have these ranges.
@@ -37,7 +37,8 @@ fn same(steps: &[Kept], ranges: &[Packed]) -> usize
 
 /// The ends of a step with those of the next one, if there is one.
 fn ends_before(place: &Placed, so_far: Ends, later: &[Kept]) -> Ends
-    ensures { known_of place.now result ≡ settle_at (known_of place.now so_far) (mapped late_fixed later.now) }
+    ensures { known_of place.now result ≡ settle_at (known_of place.now so_far)
+        (mapped late_fixed later.now) }
 {
     let _place = place;
     match later.first() {
@@ -53,8 +54,10 @@ fn settle(steps: &mut Run<Kept>, start: usize, count: usize)
     ensures many { length steps.new.items ≡ length steps.old.items }
     ensures kept { take start steps.new.items ≡ take start steps.old.items }
     ensures early { mapped early_fixed steps.new.items ≡ mapped early_fixed steps.old.items }
-    ensures ranges { mapped (λ k. k.ranges) steps.new.items ≡ mapped (λ k. k.ranges) steps.old.items }
-    ensures late { mapped late_fixed (take (count - start) (drop start steps.new.items)) ≡ settle_of (mapped early_fixed (take (count - start) (drop start steps.new.items))) }
+    ensures ranges { mapped (λ k. k.ranges) steps.new.items
+        ≡ mapped (λ k. k.ranges) steps.old.items }
+    ensures late { mapped late_fixed (take (count - start) (drop start steps.new.items))
+        ≡ settle_of (mapped early_fixed (take (count - start) (drop start steps.new.items))) }
 {
     let mut i = count;
     while i > start {
@@ -81,7 +84,8 @@ fn starts_strip(level: Level) -> bool
 /// Where the last strip of these steps begins.
 fn strip_start(steps: &[Kept]) -> usize
     ensures inside { result ≤ length steps.now }
-    ensures strip { (result ≡ 0) ⊎ ((result < length steps.now) × StartsStrip (slice_index_or steps.now result blank).level) }
+    ensures strip { (result ≡ 0) ⊎ ((result < length steps.now)
+        × StartsStrip (slice_index_or steps.now result blank).level) }
 {
     let mut at = steps.len();
     while at > 0 {
@@ -99,7 +103,7 @@ fn last_before(instance: &Instance, steps: &[Kept], from: usize) -> Kept
     ensures { early result ≡ last_known no_known (mapped early_fixed (take from steps.now)) }
 {
     if from == 0 {
-        Kept::none(Packed::full(Frame::of(instance)))
+        Kept::before_all(instance)
     } else {
         steps[from - 1]
     }
@@ -130,7 +134,8 @@ fn extend(instance: &Instance, steps: &mut Run<Kept>, from: usize, ranges: &[Pac
 /// The stored ranges of the decided steps of a box.
 pub fn decided_ranges<'a>(instance: &Instance, bx: &'a PlanBox) -> &'a [Packed]
     requires { bx.now.frame ≡ frame_of instance.now }
-    ensures ranges { mapped unpacked result.now ≡ take (length (decided_of bx.now.ranges)) bx.now.ranges }
+    ensures ranges { mapped unpacked result.now ≡ take
+        (length (decided_of bx.now.ranges)) bx.now.ranges }
     ensures count { length result.now ≡ length (decided_of bx.now.ranges) }
     ensures within { All (λ x. AreRangesWithin (unpacked x)) result.now }
     ensures few { length result.now ≤ length instance.now.items }
@@ -149,12 +154,15 @@ pub fn refill(instance: &Instance, steps: &mut Run<Kept>, count: usize, ranges: 
     requires room { length ranges.now ≤ length steps.old.items }
     requires few { length ranges.now ≤ 800 }
     requires within { All (λ x. AreRangesWithin (unpacked x)) ranges.now }
-    requires kept { mapped early_fixed (take count steps.old.items) ≡ follow instance.now [] no_known (ranges_in (take count steps.old.items)) }
-    requires settled { mapped late_fixed (take count steps.old.items) ≡ settle_of (mapped early_fixed (take count steps.old.items)) }
+    requires kept { mapped early_fixed (take count steps.old.items)
+        ≡ follow instance.now [] no_known (ranges_in (take count steps.old.items)) }
+    requires settled { mapped late_fixed (take count steps.old.items)
+        ≡ settle_of (mapped early_fixed (take count steps.old.items)) }
     ensures many { length steps.new.items ≡ length steps.old.items }
     ensures shared { AreShared result count (length ranges.now) steps.old.items steps.new.items }
     ensures followed { IsFollowed instance.now steps.new.items ranges.now (length ranges.now) }
-    ensures late { mapped late_fixed (take (length ranges.now) steps.new.items) ≡ settle_of (mapped early_fixed (take (length ranges.now) steps.new.items)) }
+    ensures late { mapped late_fixed (take (length ranges.now) steps.new.items)
+        ≡ settle_of (mapped early_fixed (take (length ranges.now) steps.new.items)) }
 {
     let from = same(&steps.as_slice()[..count], ranges);
     let start = strip_start(&steps.as_slice()[..from]);

@@ -54,7 +54,11 @@ fn strip_from(
     later: &[Packed],
 ) -> bool
     requires { from.0 < 2 ^ 40 }
-    ensures { let k = late here.now in IsTrue result ↔ (Tight instance.now.params.waste from.0 from.1 k.least_a k.high_a ⊎ (IsTrue (last_strip whole (levels_of later.now)) × Tight instance.now.params.waste k.least_b k.high_b (Width instance.now k.plate) (Width instance.now k.plate))) }
+    ensures { let k = late here.now in IsTrue result
+        ↔ (Tight instance.now.params.waste from.0 from.1 k.least_a k.high_a
+        ⊎ (IsTrue (last_strip whole (levels_of later.now))
+        × Tight instance.now.params.waste k.least_b k.high_b (Width instance.now k.plate)
+        (Width instance.now k.plate))) }
 {
     let k = &here.ends;
     let width = instance.width(here.place.plate());
@@ -66,7 +70,8 @@ fn strip_from(
 
 /// The gaps beside a strip.
 fn strip(instance: &Instance, whole: bool, last: &Kept, here: &Kept, later: &[Packed]) -> bool
-    ensures { IsTrue result ↔ StripR2 instance.now whole here.now.level (late last.now) (late here.now) (levels_of later.now) }
+    ensures { IsTrue result ↔ StripR2 instance.now whole here.now.level (late last.now)
+        (late here.now) (levels_of later.now) }
 {
     match here.level {
         Level::NewPlate => strip_from(instance, whole, (0, 0), here, later),
@@ -86,7 +91,10 @@ fn strip(instance: &Instance, whole: bool, last: &Kept, here: &Kept, later: &[Pa
 /// The gap before a band that stands behind what ends so, or behind the last one of a finished strip.
 fn band_from(params: &Params, whole: bool, from: (u64, u64), here: &Kept, later: &[Packed]) -> bool
     requires { from.0 < 2 ^ 40 }
-    ensures { let k = late here.now in IsTrue result ↔ (Tight params.now.waste from.0 from.1 k.least_c k.high_c ⊎ (IsTrue (last_band whole (levels_of later.now)) × Tight params.now.waste k.least_d k.high_d params.now.height params.now.height)) }
+    ensures { let k = late here.now in IsTrue result
+        ↔ (Tight params.now.waste from.0 from.1 k.least_c k.high_c
+        ⊎ (IsTrue (last_band whole (levels_of later.now))
+        × Tight params.now.waste k.least_d k.high_d params.now.height params.now.height)) }
 {
     let k = &here.ends;
     let height = params.height;
@@ -100,7 +108,8 @@ fn band_from(params: &Params, whole: bool, from: (u64, u64), here: &Kept, later:
 
 /// The gaps beside a band.
 fn band(params: &Params, whole: bool, last: &Kept, here: &Kept, later: &[Packed]) -> bool
-    ensures { IsTrue result ↔ BandR2 params.now whole here.now.level (late last.now) (late here.now) (levels_of later.now) }
+    ensures { IsTrue result ↔ BandR2 params.now whole here.now.level (late last.now) (late here.now)
+        (levels_of later.now) }
 {
     match here.level {
         Level::NewPlate => band_from(params, whole, (0, 0), here, later),
@@ -120,7 +129,10 @@ fn band(params: &Params, whole: bool, last: &Kept, here: &Kept, later: &[Packed]
 /// The gap before a cell that stands behind what ends so, or behind the last one of a finished band.
 fn cell_from(params: &Params, whole: bool, from: (u64, u64), here: &Kept, later: &[Packed]) -> bool
     requires { from.0 < 2 ^ 40 }
-    ensures { let k = late here.now in IsTrue result ↔ (Tight params.now.waste from.0 from.1 k.least_e k.high_e ⊎ (IsTrue (last_cell whole (levels_of later.now)) × Tight params.now.waste (k.least_e + k.cell_w) (k.high_e + k.cell_w) k.least_b k.high_b)) }
+    ensures { let k = late here.now in IsTrue result
+        ↔ (Tight params.now.waste from.0 from.1 k.least_e k.high_e
+        ⊎ (IsTrue (last_cell whole (levels_of later.now))
+        × Tight params.now.waste (k.least_e + k.cell_w) (k.high_e + k.cell_w) k.least_b k.high_b)) }
 {
     let k = &here.ends;
     is_tight(params.waste, from, wide(k.least_e, k.high_e))
@@ -130,7 +142,8 @@ fn cell_from(params: &Params, whole: bool, from: (u64, u64), here: &Kept, later:
 
 /// The gaps beside a cell.
 fn cell(params: &Params, whole: bool, last: &Kept, here: &Kept, later: &[Packed]) -> bool
-    ensures { IsTrue result ↔ CellR2 params.now whole here.now.level (late last.now) (late here.now) (levels_of later.now) }
+    ensures { IsTrue result ↔ CellR2 params.now whole here.now.level (late last.now) (late here.now)
+        (levels_of later.now) }
 {
     let left = wide(here.ends.least_a, here.ends.high_a);
     match here.level {
@@ -144,7 +157,8 @@ fn cell(params: &Params, whole: bool, last: &Kept, here: &Kept, later: &[Packed]
 
 /// What is left over a single item of a finished cell that is not lifted.
 fn alone(params: &Params, whole: bool, last: &Kept, here: &Kept, later: &[Packed]) -> bool
-    ensures { IsTrue result ↔ TopR2 params.now whole last.now.level NewCell here.now.place.lift (late last.now) (late here.now) (levels_of later.now) }
+    ensures { IsTrue result ↔ TopR2 params.now whole last.now.level NewCell here.now.place.lift
+        (late last.now) (late here.now) (levels_of later.now) }
 {
     let k = &here.ends;
     let h = u64::from(here.place.h);
@@ -160,7 +174,8 @@ fn alone(params: &Params, whole: bool, last: &Kept, here: &Kept, later: &[Packed
 
 /// What is left over two items in a cell with exactly two steps.
 fn two(params: &Params, whole: bool, last: &Kept, here: &Kept, later: &[Packed]) -> bool
-    ensures { IsTrue result ↔ TopR2 params.now whole last.now.level Over here.now.place.lift (late last.now) (late here.now) (levels_of later.now) }
+    ensures { IsTrue result ↔ TopR2 params.now whole last.now.level Over here.now.place.lift
+        (late last.now) (late here.now) (levels_of later.now) }
 {
     let k = &here.ends;
     let _params = params;
@@ -178,7 +193,8 @@ fn two(params: &Params, whole: bool, last: &Kept, here: &Kept, later: &[Packed])
 
 /// What is left over the items of a cell.
 fn top(params: &Params, whole: bool, last: &Kept, here: &Kept, later: &[Packed]) -> bool
-    ensures { IsTrue result ↔ TopR2 params.now whole last.now.level here.now.level here.now.place.lift (late last.now) (late here.now) (levels_of later.now) }
+    ensures { IsTrue result ↔ TopR2 params.now whole last.now.level here.now.level
+        here.now.place.lift (late last.now) (late here.now) (levels_of later.now) }
 {
     match here.level {
         Level::NewPlate => alone(params, whole, last, here, later),
@@ -197,7 +213,8 @@ pub fn has_tight_gap(
     here: &Kept,
     later: &[Packed],
 ) -> bool
-    ensures { IsTrue result ↔ StepR2 instance.now whole last.now.level (late last.now) here.now.level (late here.now) (levels_of later.now) }
+    ensures { IsTrue result ↔ StepR2 instance.now whole last.now.level
+        (late last.now) here.now.level (late here.now) (levels_of later.now) }
 {
     let params = instance.params();
     strip(instance, whole, last, here, later)

@@ -13,7 +13,7 @@ ghost use Rattle.plan_box.specs.Follows.{draws_of, grown_place};
 use crate::ends::Ends;
 use crate::placed::{Drawn, Placed};
 use glass_base::{Instance, Item};
-use plan_box::{Packed, Var};
+use plan_box::{Frame, Packed, Var};
 use plan_trace::laid::{height_in, level_of, plates_behind, width_in};
 use plan_trace::level::Level;
 
@@ -151,7 +151,8 @@ fn next_place(
     requires band_w { last.now.band_w ≤ 40000000 }
     requires band_area { last.now.band_area ≤ 1000000000000 }
     requires area { last.now.area ≤ 1000000000000 }
-    ensures value { place_in result ≡ place_of instance.now (draws_of before.now) (place_in last.now) (draw_in draw) }
+    ensures value { place_in result ≡ place_of instance.now (draws_of before.now)
+        (place_in last.now) (draw_in draw) }
     ensures item { IfSome result.item IsItemInRange }
     ensures rules { IsProblem instance.now }
 {
@@ -196,8 +197,8 @@ impl Kept {
     ghost use Rattle.plan_box.specs.Follows.{draws_of, next_fixed};
     ghost use Rattle.plan_box.specs.Within.{AreRangesWithin, AreWithin, limit};
 
-    /// What stands before the first step.
-    pub fn none(ranges: Packed) -> Kept
+    /// What stands before the first step, of which nothing is known.
+    pub fn before_all(instance: &Instance) -> Kept
         ensures place { result.place ≡ no_placed }
         ensures so_far { result.so_far ≡ no_ends }
         ensures ends { result.ends ≡ no_ends }
@@ -206,7 +207,7 @@ impl Kept {
         ensures late { late result ≡ no_known }
     {
         Kept {
-            ranges,
+            ranges: Packed::full(Frame::of(instance)),
             level: Level::NewPlate,
             place: Placed::none(),
             so_far: Ends::none(),
@@ -220,7 +221,8 @@ impl Kept {
         requires few { length before.now < 800 }
         requires ranges { AreRangesWithin (unpacked ranges.now) }
         requires within { AreWithin (limit (length before.now)) (early self.now) }
-        ensures value { early_fixed result ≡ next_fixed instance.now (draws_of before.now) (early self.now) (unpacked ranges.now) }
+        ensures value { early_fixed result ≡ next_fixed instance.now (draws_of before.now)
+            (early self.now) (unpacked ranges.now) }
         ensures ranges { result.ranges ≡ ranges.now }
         ensures ends { result.ends ≡ result.so_far }
     {

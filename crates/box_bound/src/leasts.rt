@@ -7,7 +7,7 @@ use crate::kept::Kept;
 use crate::seen::look;
 use defect_map::{DefectMap, Ground};
 use glass_base::{Instance, Memory, Run};
-use plan_box::{Frame, Packed, PlanBox, Reason, Var};
+use plan_box::{PlanBox, Reason, Var};
 use std::alloc::Global;
 use std::marker::Model;
 
@@ -76,7 +76,7 @@ impl Leasts {
         ensures of_instance { IfOk result (λ v. IsOf instance.now v) }
         ensures empty { IfOk result (λ v. v.steps ≡ []) }
     {
-        let blank = Kept::none(Packed::full(Frame::of(instance)));
+        let blank = Kept::before_all(instance);
         let map = DefectMap::new(alloc, instance)?;
         let seen = no_reasons(alloc, instance)?;
         let steps = places(alloc, instance, blank)?;
@@ -117,7 +117,8 @@ impl Leasts {
     /// The first reason that is a fact at a kept step, if one is.
     pub(crate) fn seen(&self) -> Option<Reason>
         ensures none { length self.now.steps ≡ 0 → result ≡ None }
-        ensures some { 1 ≤ length self.now.steps → result ≡ slice_index_or self.now.seen (length self.now.steps - 1) None }
+        ensures some { 1 ≤ length self.now.steps → result
+            ≡ slice_index_or self.now.seen (length self.now.steps - 1) None }
     {
         if self.count == 0 {
             return None;

@@ -73,7 +73,8 @@ pub fn item_met(map: &DefectMap, here: &Kept) -> bool
 
 /// The sides of the strip.
 fn strip_met(ground: Ground<'_>, here: &Kept) -> bool
-    ensures { let b = ground.entry.instance.now in IsTrue result ↔ StripMet b b.defects (late here.now) }
+    ensures { let b = ground.entry.instance.now in IsTrue result
+        ↔ StripMet b b.defects (late here.now) }
 {
     let k = &here.ends;
     let plate = here.place.plate();
@@ -187,7 +188,10 @@ fn line_met(map: &DefectMap, here: &Kept) -> bool
 /// Whether a cut of a step runs through one defect at every place of its ranges.
 pub fn cut_met(ground: Ground<'_>, last: &Kept, here: &Kept) -> bool
     requires within { AreWithin 40000000 (late here.now) }
-    ensures { let b = ground.entry.instance.now in (StripMet b b.defects (late here.now) ⊎ BandMet b.params b.defects (late here.now) ⊎ CellMet b.defects (late here.now) ⊎ LiftR4 b.defects here.now.level here.now.place.lift (late here.now)) ↔ IsTrue result }
+    ensures { let b = ground.entry.instance.now in
+        (StripMet b b.defects (late here.now) ⊎ BandMet b.params b.defects (late here.now)
+        ⊎ CellMet b.defects (late here.now)
+        ⊎ LiftR4 b.defects here.now.level here.now.place.lift (late here.now)) ↔ IsTrue result }
 {
     let _last = last;
     strip_met(ground, here)

@@ -10,7 +10,8 @@ use plan_trace::level::Level;
 
 /// Whether a cut of a step can lie nowhere.
 pub fn has_no_place(last: &Kept, here: &Kept) -> bool
-    ensures { IsTrue result ↔ StepR1 last.now.level (late last.now) here.now.level (late here.now) [] }
+    ensures { IsTrue result ↔ StepR1 last.now.level (late last.now) here.now.level
+        (late here.now) [] }
 {
     let k = &here.ends;
     k.high_a < k.least_a
@@ -22,7 +23,8 @@ pub fn has_no_place(last: &Kept, here: &Kept) -> bool
 
 /// Whether a step's strip is wider than allowed at every place.
 pub fn is_too_wide(params: &Params, last: &Kept, here: &Kept) -> bool
-    ensures { IsTrue result ↔ StepR5 params.now last.now.level (late last.now) here.now.level (late here.now) [] }
+    ensures { IsTrue result ↔ StepR5 params.now last.now.level (late last.now) here.now.level
+        (late here.now) [] }
 {
     let most = params.max1;
     most < here.place.band_w
@@ -56,7 +58,8 @@ fn is_badly_over(last: &Kept, here: &Kept) -> bool
 
 /// Whether a step's discrete numbers break a rule.
 pub fn breaks_a_rule(params: &Params, last: &Kept, here: &Kept) -> bool
-    ensures { IsTrue result ↔ StepR6 params.now last.now.level (late last.now) here.now.level (late here.now) [] }
+    ensures { IsTrue result ↔ StepR6 params.now last.now.level (late last.now) here.now.level
+        (late here.now) [] }
 {
     let p = &here.place;
     p.plates < 1

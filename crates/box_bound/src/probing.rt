@@ -17,7 +17,7 @@ use crate::walking::seen_in;
 use cut_model::{Step, Trace};
 use defect_map::{DefectMap, Ground};
 use glass_base::{Instance, Run};
-use plan_box::{Frame, Packed, PlanBox};
+use plan_box::PlanBox;
 use plan_trace::{TraceBroken, first_broken};
 
 /// The step that a decided step stands for at its least values.
@@ -72,7 +72,7 @@ pub fn probe(instance: &Instance, map: &DefectMap, bx: &PlanBox, trace: &mut Tra
     let _items = instance.items();
     let _frame = bx.frame();
     let ground = Ground { instance, map };
-    let mut numbers = [least_step(&Kept::none(Packed::full(Frame::of(instance)))); 800];
+    let mut numbers = [least_step(&Kept::before_all(instance)); 800];
     let ranges = decided_ranges(instance, bx);
     let _seen = seen_in(ground, true, ranges, &mut numbers);
     overwrite(&numbers[..ranges.len()], &mut trace.steps);
@@ -90,8 +90,11 @@ pub fn broken_at(
     requires leasts { IsFor ground.instance.now bx.now leasts.now }
     requires whole { IsTrue (all_decided bx.now.ranges) }
     requires trace { length trace.old.steps.items ≡ length ground.instance.now.items }
-    ensures trace { trace.new.steps.items ≡ least_steps (known ground.entry.instance.now bx.now.ranges) }
-    ensures broken { let b = ground.entry.instance.now in let steps = trace.new.steps.items in MatchOption result (Meets b steps) (λ broken. IsFirstBroken b steps broken.rule broken.step) }
+    ensures trace { trace.new.steps.items ≡ least_steps
+        (known ground.entry.instance.now bx.now.ranges) }
+    ensures broken { let b = ground.entry.instance.now in let steps = trace.new.steps.items in
+        MatchOption result (Meets b steps)
+        (λ broken. IsFirstBroken b steps broken.rule broken.step) }
 {
     let _items = ground.instance.items();
     let _frame = bx.frame();

@@ -22,7 +22,7 @@ use crate::walking::seen_in;
 use cut_model::Step;
 use defect_map::{DefectMap, Ground};
 use glass_base::Instance;
-use plan_box::{Frame, Packed, PlanBox, Reason};
+use plan_box::{PlanBox, Reason};
 use plan_trace::first_broken;
 
 /// The first reason that was seen at the decided steps, or that more glass is needed than there is.
@@ -43,7 +43,8 @@ fn is_too_long(instance: &Instance, length: u64) -> bool
 /// Whether these steps break a rule.
 fn breaks(ground: Ground<'_>, steps: &[Step]) -> bool
     requires few { length steps.now ≤ 800 }
-    ensures { let b = ground.entry.instance.now in MatchBool result (¬ Meets b steps.now) (Meets b steps.now) }
+    ensures { let b = ground.entry.instance.now in
+        MatchBool result (¬ Meets b steps.now) (Meets b steps.now) }
 {
     first_broken(ground, steps).is_some()
 }
@@ -51,9 +52,11 @@ fn breaks(ground: Ground<'_>, steps: &[Step]) -> bool
 /// Whether the least steps of these decided steps, of which there are at most 800, break a rule.
 fn is_broken(ground: Ground<'_>, steps: &[Kept]) -> bool
     requires few { length steps.now ≤ 800 }
-    ensures { let b = ground.entry.instance.now in let numbers = mapped (λ k. least_step_of (late k)) steps.now in MatchBool result (¬ Meets b numbers) (Meets b numbers) }
+    ensures { let b = ground.entry.instance.now in
+        let numbers = mapped (λ k. least_step_of (late k)) steps.now in
+        MatchBool result (¬ Meets b numbers) (Meets b numbers) }
 {
-    let mut numbers = [least_step(&Kept::none(Packed::full(Frame::of(ground.instance)))); 800];
+    let mut numbers = [least_step(&Kept::before_all(ground.instance)); 800];
     for (i, step) in steps.iter().enumerate() {
         numbers[i] = least_step(step);
     }
@@ -65,7 +68,8 @@ fn is_broken_point_at(ground: Ground<'_>, leasts: &Leasts, bx: &PlanBox) -> bool
     requires leasts { IsFor ground.instance.now bx.now leasts.now }
     requires possible { ¬ Applies ReasonOf.R1 ground.instance.now bx.now.ranges }
     ensures broken { IsTrue result ↔ R7 ground.entry.instance.now bx.now.ranges }
-    ensures met { let b = ground.entry.instance.now in result ≡ false → IsPoint bx.now.ranges → Meets b (least_steps (known b bx.now.ranges)) }
+    ensures met { let b = ground.entry.instance.now in result ≡ false → IsPoint bx.now.ranges
+        → Meets b (least_steps (known b bx.now.ranges)) }
 {
     let _items = ground.instance.items();
     if !bx.is_point() {
@@ -98,8 +102,10 @@ pub fn refuted_at(
     requires map { map.now ≡ instance.now.defects }
     requires instance { bx.now.frame ≡ frame_of instance.now }
     requires leasts { IsFor instance.now bx.now leasts.now }
-    ensures first { MatchOption result (¬ IsRefuted instance.now bx.now.ranges) (λ reason. IsFirstReason instance.now bx.now.ranges reason) }
-    ensures point { IsNone result → IsPoint bx.now.ranges → Meets instance.now (least_steps (known instance.now bx.now.ranges)) }
+    ensures first { MatchOption result (¬ IsRefuted instance.now bx.now.ranges)
+        (λ reason. IsFirstReason instance.now bx.now.ranges reason) }
+    ensures point { IsNone result → IsPoint bx.now.ranges
+        → Meets instance.now (least_steps (known instance.now bx.now.ranges)) }
 {
     if let Some(reason) = refuted_early_at(instance, leasts, bx) {
         return Some(reason);
@@ -116,7 +122,8 @@ fn refuted_early(ground: Ground<'_>, bx: &PlanBox, numbers: &mut [Step]) -> Opti
     requires instance { bx.now.frame ≡ frame_of ground.instance.now }
     requires room { length numbers.old ≡ 800 }
     ensures first { IsFirstIfAny (AppliesEarly ground.entry.instance.now bx.now.ranges) result }
-    ensures numbers { take (length (decided bx.now.ranges)) numbers.new ≡ least_steps (known ground.entry.instance.now bx.now.ranges) }
+    ensures numbers { take (length (decided bx.now.ranges)) numbers.new
+        ≡ least_steps (known ground.entry.instance.now bx.now.ranges) }
     ensures room { length numbers.new ≡ 800 }
 {
     let _frame = bx.frame();
@@ -146,12 +153,13 @@ fn is_broken_point(ground: Ground<'_>, bx: &PlanBox, numbers: &[Step]) -> bool
 pub fn refuted(instance: &Instance, map: &DefectMap, bx: &PlanBox) -> Option<Reason>
     requires map { map.now ≡ instance.now.defects }
     requires instance { bx.now.frame ≡ frame_of instance.now }
-    ensures { MatchOption result (¬ IsRefuted instance.now bx.now.ranges) (λ reason. IsFirstReason instance.now bx.now.ranges reason) }
+    ensures { MatchOption result (¬ IsRefuted instance.now bx.now.ranges)
+        (λ reason. IsFirstReason instance.now bx.now.ranges reason) }
 {
     let _items = instance.items();
     let _frame = bx.frame();
     let ground = Ground { instance, map };
-    let mut numbers = [least_step(&Kept::none(Packed::full(Frame::of(instance)))); 800];
+    let mut numbers = [least_step(&Kept::before_all(instance)); 800];
     if let Some(reason) = refuted_early(ground, bx, &mut numbers) {
         return Some(reason);
     }

@@ -17,7 +17,7 @@ use crate::meetings::{cut_met, item_met};
 use crate::numbers::{breaks_a_rule, has_no_place, is_too_wide};
 use defect_map::Ground;
 use glass_base::{Instance, Run};
-use plan_box::{Frame, Packed, Reason};
+use plan_box::{Packed, Reason};
 
 /// The one that comes first of two reasons, if there is one.
 pub fn earlier(one: Option<Reason>, other: Option<Reason>) -> Option<Reason>
@@ -41,7 +41,8 @@ pub fn earlier(one: Option<Reason>, other: Option<Reason>) -> Option<Reason>
 /// Whether a cut of a step runs through one defect at every place of its ranges.
 fn is_cut_met(ground: Ground<'_>, last: &Kept, here: &Kept) -> bool
     requires within { AreWithin 40000000 (late here.now) }
-    ensures { IsTrue result ↔ StepR4 ground.entry.instance.now last.now.level (late last.now) here.now.level (late here.now) [] }
+    ensures { IsTrue result ↔ StepR4 ground.entry.instance.now last.now.level
+        (late last.now) here.now.level (late here.now) [] }
 {
     cut_met(ground, last, here)
 }
@@ -55,7 +56,8 @@ pub fn seen_at(
     later: &[Packed],
 ) -> Option<Reason>
     requires within { AreWithin 40000000 (late here.now) }
-    ensures { IsFirstIfAny (λ reason. FactOf ground.entry.instance.now whole reason last.now.level (late last.now) here.now.level (late here.now) (levels_of later.now)) result }
+    ensures { IsFirstIfAny (λ reason. FactOf ground.entry.instance.now whole reason last.now.level
+        (late last.now) here.now.level (late here.now) (levels_of later.now)) result }
 {
     let params = ground.instance.params();
     if has_no_place(last, here) {
@@ -82,10 +84,11 @@ pub fn seen_at(
 /// The step before this place, or what stands before the first one.
 fn step_before(instance: &Instance, steps: &[Kept], at: usize) -> Kept
     requires { at ≤ length steps.now }
-    ensures { late_fixed result ≡ before_fixed (fixed NewPlate no_known) (mapped late_fixed steps.now) at }
+    ensures { late_fixed result ≡ before_fixed (fixed NewPlate no_known)
+        (mapped late_fixed steps.now) at }
 {
     if at == 0 {
-        Kept::none(Packed::full(Frame::of(instance)))
+        Kept::before_all(instance)
     } else {
         steps[at - 1]
     }
@@ -114,9 +117,11 @@ pub fn look(
     requires levels { HaveLevels steps.now ranges.now }
     requires room { length steps.now ≤ length seen.old.items }
     requires inside { start ≤ length steps.now }
-    requires before { AreSeen ground.instance.now whole (mapped late_fixed steps.now) seen.old.items start }
+    requires before { AreSeen ground.instance.now whole
+        (mapped late_fixed steps.now) seen.old.items start }
     ensures many { length seen.new.items ≡ length seen.old.items }
-    ensures seen { AreSeen ground.entry.instance.now whole (mapped late_fixed steps.now) seen.new.items (length steps.now) }
+    ensures seen { AreSeen ground.entry.instance.now whole
+        (mapped late_fixed steps.now) seen.new.items (length steps.now) }
 {
     let mut last = step_before(ground.instance, steps, start);
     let mut found = seen_before(seen.as_slice(), start);

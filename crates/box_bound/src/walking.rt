@@ -19,7 +19,7 @@ use crate::seen::{earlier, seen_at};
 use cut_model::Step;
 use defect_map::Ground;
 use glass_base::Instance;
-use plan_box::{Frame, Packed, Reason, Var};
+use plan_box::{Packed, Reason, Var};
 
 /// What a walk over the decided steps from one on hands back.
 #[derive(Clone, Copy)]
@@ -33,7 +33,8 @@ struct Walked {
 /// A step with the least values of the last one of its strip and of its band, by the step behind it.
 fn settled_before(step: &Kept, behind: &Walked) -> Kept
     ensures ends { result ≡ with_ends result.ends step.now }
-    ensures late { (ks : List Fixed) → IsHead behind.now.first ks → late result ≡ settle_at (early step.now) ks }
+    ensures late { (ks : List Fixed) → IsHead behind.now.first ks
+        → late result ≡ settle_at (early step.now) ks }
 {
     match behind.first {
         None => Kept {
@@ -56,7 +57,11 @@ fn seen_behind(
     behind: &Walked,
 ) -> Option<Reason>
     requires within { IfSome behind.now.first (λ k. AreWithin 40000000 (late k)) }
-    ensures { let b = ground.entry.instance.now in (ks : List Fixed) → IsHead behind.now.first ks → AreLevels ks ranges.now → IsFirstIfAny (λ reason. SomeBehind (FactOf b whole reason) ks) behind.now.seen → IsFirstIfAny (λ reason. SomeFixed (FactOf b whole reason) step.now.level (late step.now) ks) result }
+    ensures { let b = ground.entry.instance.now in (ks : List Fixed) → IsHead behind.now.first ks
+        → AreLevels ks ranges.now → IsFirstIfAny
+        (λ reason. SomeBehind (FactOf b whole reason) ks) behind.now.seen
+        → IsFirstIfAny (λ reason. SomeFixed (FactOf b whole reason) step.now.level
+        (late step.now) ks) result }
 {
     let Some(next) = behind.first else {
         return None;
@@ -82,10 +87,15 @@ fn walk(
     requires inside { at ≤ length ranges.now }
     requires ranges { All (λ x. AreRangesWithin (unpacked x)) ranges.now }
     requires within { AreWithin (limit at) (early last.now) }
-    ensures first { IsHead result.first (steps_from ground.entry.instance.now ranges.now at (early last.now)) }
+    ensures first { IsHead result.first (steps_from ground.entry.instance.now ranges.now at
+        (early last.now)) }
     ensures within { IfSome result.first (λ k. AreWithin 40000000 (late k)) }
-    ensures seen { let b = ground.entry.instance.now in IsFirstIfAny (λ reason. SomeBehind (FactOf b whole reason) (steps_from b ranges.now at (early last.now))) result.seen }
-    ensures steps { steps.new ≡ take at steps.old ++ (least_steps (steps_from ground.entry.instance.now ranges.now at (early last.now)) ++ drop (length ranges.now) steps.old) }
+    ensures seen { let b = ground.entry.instance.now in
+        IsFirstIfAny (λ reason. SomeBehind (FactOf b whole reason)
+        (steps_from b ranges.now at (early last.now))) result.seen }
+    ensures steps { steps.new ≡ take at steps.old
+        ++ (least_steps (steps_from ground.entry.instance.now ranges.now at (early last.now))
+        ++ drop (length ranges.now) steps.old) }
 {
     let _items = ground.instance.items();
     if at == ranges.len() {
@@ -117,10 +127,14 @@ pub fn seen_in(
     requires few { length ranges.now ≤ 800 }
     requires room { length ranges.now ≤ length steps.old }
     requires ranges { All (λ x. AreRangesWithin (unpacked x)) ranges.now }
-    ensures seen { let b = ground.entry.instance.now in IsFirstIfAny (λ reason. SomeFixed (FactOf b whole reason) NewPlate no_known (settle (follow b [] no_known (mapped unpacked ranges.now)))) result }
-    ensures steps { take (length ranges.now) steps.new ≡ least_steps (settle (follow ground.entry.instance.now [] no_known (mapped unpacked ranges.now))) }
+    ensures seen { let b = ground.entry.instance.now in
+        IsFirstIfAny (λ reason. SomeFixed (FactOf b whole reason) NewPlate no_known
+        (settle (follow b [] no_known (mapped unpacked ranges.now)))) result }
+    ensures steps { take (length ranges.now) steps.new
+        ≡ least_steps (settle (follow ground.entry.instance.now [] no_known
+        (mapped unpacked ranges.now))) }
 {
-    let none = Kept::none(Packed::full(Frame::of(ground.instance)));
-    let behind = walk(ground, whole, ranges, 0, &none, steps);
-    seen_behind(ground, whole, &none, ranges, &behind)
+    let before = Kept::before_all(ground.instance);
+    let behind = walk(ground, whole, ranges, 0, &before, steps);
+    seen_behind(ground, whole, &before, ranges, &behind)
 }

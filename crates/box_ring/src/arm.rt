@@ -51,7 +51,8 @@ impl Arm {
     pub(crate) fn new(own: Boxes, other: Option<Neighbour>) -> Arm
         requires part { (0 < (worker_view own).parts) × ((worker_view own).framed ≡ true) }
         requires alike { IsAlike (worker_view own).frame other }
-        ensures { result ≡ new_arm (worker_deque own) (worker_view own) (deque_of other) (tally_of other) }
+        ensures { result ≡ new_arm (worker_deque own) (worker_view own) (deque_of other)
+            (tally_of other) }
     {
         Arm {
             own,
@@ -94,7 +95,8 @@ impl Arm {
         ensures some { IfSome result (λ x. self.new ≡ after_pop self.old x) }
         ensures frame { IfSome result (λ x. x.frame ≡ frame self.old) }
         ensures rest { IfSome result (λ _. IsWhole self.old.own → HasRest self.new.own) }
-        ensures none { IfNone result ((self.new ≡ after_no_pop self.old) × FoundFew 0 self.old.own) }
+        ensures none { IfNone result ((self.new ≡ after_no_pop self.old)
+            × FoundFew 0 self.old.own) }
         ensures stays { Stays self.old self.new }
     {
         match pop(&mut self.own) {

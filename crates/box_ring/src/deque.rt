@@ -126,7 +126,9 @@ pub(crate) fn push(deque: &mut Boxes, bx: PlanBox) -> Result<(), PlanBox>
     requires part { (0 < (worker_view deque.old).parts) × ((worker_view deque.old).framed ≡ true) }
     requires frame { bx.frame ≡ (worker_view deque.old).frame }
     ensures same { SameWorker deque.old deque.new }
-    ensures rule { MatchResult result (λ _. worker_view deque.new ≡ putting (worker_view deque.old) (bx ∷ [])) (λ x. (x ≡ bx) × (worker_view deque.new ≡ worker_view deque.old)) }
+    ensures rule { MatchResult result (λ _. worker_view deque.new
+        ≡ putting (worker_view deque.old) (bx ∷ [])) (λ x. (x ≡ bx)
+        × (worker_view deque.new ≡ worker_view deque.old)) }
 {
     deque.push_as::<Puts>(bx)
 }
@@ -135,7 +137,9 @@ pub(crate) fn push(deque: &mut Boxes, bx: PlanBox) -> Result<(), PlanBox>
 pub(crate) fn pop(deque: &mut Boxes) -> Option<PlanBox>
     requires { 0 < (worker_view deque.old).parts }
     ensures same { SameWorker deque.old deque.new }
-    ensures rule { MatchOption result ((worker_view deque.new ≡ worker_view deque.old) × FoundFew 0 (worker_view deque.old)) (λ x. TakeThen (worker_view deque.old) (x ∷ []) (worker_view deque.new)) }
+    ensures rule { MatchOption result ((worker_view deque.new ≡ worker_view deque.old)
+        × FoundFew 0 (worker_view deque.old))
+        (λ x. TakeThen (worker_view deque.old) (x ∷ []) (worker_view deque.new)) }
 {
     deque.pop_as::<Pops>()
 }
@@ -144,7 +148,8 @@ pub(crate) fn pop(deque: &mut Boxes) -> Option<PlanBox>
 pub(crate) fn is_empty(deque: &mut Boxes) -> bool
     ensures same { SameWorker deque.old deque.new }
     ensures view { worker_view deque.new ≡ worker_view deque.old }
-    ensures found { MatchBool result (FoundFew 0 (worker_view deque.old)) (HeldMany 1 (worker_view deque.old)) }
+    ensures found { MatchBool result (FoundFew 0 (worker_view deque.old))
+        (HeldMany 1 (worker_view deque.old)) }
 {
     deque.len_as::<Number>() == 0
 }
@@ -153,7 +158,8 @@ pub(crate) fn is_empty(deque: &mut Boxes) -> bool
 pub(crate) fn steal<R: Wait>(rt: &R, thief: &Thief, pass: &mut PassPart) -> Option<PlanBox>
     requires { IsPassOf (stealer_deque thief.now) pass.old × (0 < (view pass.old).parts) }
     ensures same { SamePass pass.old pass.new }
-    ensures rule { MatchOption result ((view pass.new ≡ view pass.old) × FoundFew 1 (view pass.old)) (λ x. TakeThen (view pass.old) (x ∷ []) (view pass.new)) }
+    ensures rule { MatchOption result ((view pass.new ≡ view pass.old)
+        × FoundFew 1 (view pass.old)) (λ x. TakeThen (view pass.old) (x ∷ []) (view pass.new)) }
 {
     for _ in rt.forever() {
         match thief.steal_as::<Steals>(pass) {
@@ -169,7 +175,8 @@ pub(crate) fn steal<R: Wait>(rt: &R, thief: &Thief, pass: &mut PassPart) -> Opti
 pub(crate) fn split(deque: &mut Boxes) -> PassPart
     requires { (worker_view deque.old).parts ≡ all_parts }
     ensures same { SameWorker deque.old deque.new × IsPassOf (worker_deque deque.old) result }
-    ensures rule { (worker_view deque.new ≡ owner_tally (worker_view deque.old)) × (view result ≡ thief_tally (worker_view deque.old)) }
+    ensures rule { (worker_view deque.new ≡ owner_tally (worker_view deque.old))
+        × (view result ≡ thief_tally (worker_view deque.old)) }
 {
     deque.another::<Halves>()
 }

@@ -31,7 +31,8 @@ impl Model for Gathered {
 fn drain(deques: &mut Vec<Boxes>) -> Option<PlanBox>
     requires { AllWhole (views deques.old.items) }
     ensures whole { AllWhole (views deques.new.items) }
-    ensures left { MatchOption result (IsLeft (views deques.old.items) []) (λ x. Drains x (views deques.old.items) (views deques.new.items)) }
+    ensures left { MatchOption result (IsLeft (views deques.old.items) [])
+        (λ x. Drains x (views deques.old.items) (views deques.new.items)) }
 {
     while let Some(last) = deques.pop() {
         let mut last = last;

@@ -22,10 +22,13 @@ pub struct Neighbour {
 impl Neighbour {
     /// The way to steal from this deque, which has not been split yet.
     pub(crate) fn of(deque: &mut Boxes) -> Result<Neighbour, AllocError>
-        requires { ((worker_view deque.old).parts ≡ all_parts) × ((worker_view deque.old).framed ≡ true) }
+        requires { ((worker_view deque.old).parts ≡ all_parts)
+            × ((worker_view deque.old).framed ≡ true) }
         ensures same { SameWorker deque.old deque.new }
-        ensures owner { IfOk result (λ _. worker_view deque.new ≡ owner_tally (worker_view deque.old)) }
-        ensures thief { IfOk result (λ n. (view n.pass ≡ thief_tally (worker_view deque.old)) × (stealer_deque n.thief ≡ worker_deque deque.old)) }
+        ensures owner { IfOk result (λ _. worker_view deque.new
+            ≡ owner_tally (worker_view deque.old)) }
+        ensures thief { IfOk result (λ n. (view n.pass ≡ thief_tally (worker_view deque.old))
+            × (stealer_deque n.thief ≡ worker_deque deque.old)) }
     {
         let thief = deque.stealer()?;
         let pass = split(deque);
@@ -35,16 +38,20 @@ impl Neighbour {
     /// Takes the first box of the deque.
     pub(crate) fn steal<R: Wait>(&mut self, rt: &R) -> Option<PlanBox>
         ensures thief { self.new.thief ≡ self.old.thief }
-        ensures rule { MatchOption result ((view self.new.pass ≡ view self.old.pass) × FoundFew 1 (view self.old.pass)) (λ x. TakeThen (view self.old.pass) (x ∷ []) (view self.new.pass)) }
+        ensures rule { MatchOption result ((view self.new.pass ≡ view self.old.pass)
+            × FoundFew 1 (view self.old.pass))
+            (λ x. TakeThen (view self.old.pass) (x ∷ []) (view self.new.pass)) }
     {
         steal(rt, &self.thief, &mut self.pass)
     }
 
     /// Gives the part of the pass back to its deque.
     pub(crate) fn give(self, deque: &mut Boxes)
-        requires { (stealer_deque self.thief ≡ worker_deque deque.old) × (0 < (worker_view deque.old).parts) }
+        requires { (stealer_deque self.thief ≡ worker_deque deque.old)
+            × (0 < (worker_view deque.old).parts) }
         ensures same { SameWorker deque.old deque.new }
-        ensures rule { worker_view deque.new ≡ both_tallies (worker_view deque.old) (view self.pass) }
+        ensures rule { worker_view deque.new ≡ both_tallies (worker_view deque.old)
+            (view self.pass) }
     {
         let Neighbour { thief: _, pass } = self;
         join(deque, pass);

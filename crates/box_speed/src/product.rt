@@ -34,7 +34,8 @@ fn beginning_of(
 ) -> Result<Option<Trace>, Memory>
     requires { map.now ≡ instance.now.defects }
     ensures first { IfOk result (IsFirst instance.now) }
-    ensures none { IfOk result (λ first. IfNone first ((number : ℕ) × HasNoDraft instance.now number)) }
+    ensures none { IfOk result (λ first. IfNone first ((number : ℕ)
+        × HasNoDraft instance.now number)) }
 {
     match beginning {
         Beginning::FirstPlan => first_plan(alloc, instance, map),

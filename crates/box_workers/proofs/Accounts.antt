@@ -17,10 +17,10 @@ use Rattle.cert_log.specs.Levels.{level, levels_upto}
 use Rattle.cert_log.specs.Good.{IsFloor}
 use Rattle.cert_log.specs.Lawful.{Course, times, once_below, IsLawful, Handled}
 use Rattle.cert_log.proofs.Members.{same_by_key}
-use Rattle.box_levels.specs.Events.{Event, note_of, all_boxes, tickets_of, AreKept, AreOfLevels}
-use Rattle.box_levels.proofs.Sames.{test_of}
-use Rattle.box_levels.proofs.Counts.{sum_map}
-use Rattle.box_levels.proofs.Weights.{boxes_are_of_levels}
+use Rattle.cert_log.specs.Events.{Event, note_of, all_boxes, tickets_of, AreKept, AreOfLevels}
+use Rattle.cert_log.proofs.Sames.{test_of}
+use Rattle.cert_log.proofs.Counts.{sum_map}
+use Rattle.cert_log.proofs.Weights.{boxes_are_of_levels}
 use Rattle.box_workers.specs.Histories.{left_boxes, IsAccount, IsHistory, AccountsAreLawful}
 use Rattle.box_workers.proofs.Lists.{contains_image, found_by}
 use Rattle.box_workers.proofs.Progress.{all_sum}

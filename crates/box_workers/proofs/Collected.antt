@@ -7,8 +7,8 @@ use Rattle.std.proofs.lemmas.List.Sums.{sum_by-append, sum_by_push}
 use Rattle.glass_base.specs.Problem.{Problem}
 use Rattle.plan_box.specs.Ranges.{PlainBox}
 use Rattle.cert_log.specs.declared.history.Left.{Left}
-use Rattle.box_levels.specs.Events.{Event, made_by, all_boxes, tickets_of}
-use Rattle.box_levels.proofs.Counts.{sum_map}
+use Rattle.cert_log.specs.Events.{Event, made_by, all_boxes, tickets_of}
+use Rattle.cert_log.proofs.Counts.{sum_map}
 use Rattle.box_ring.specs.Arms.{ArmState, put, taken}
 use Rattle.shared_best.specs.declared.view.View.{View}
 use Rattle.shared_best.specs.Seats.{Words, Seated}

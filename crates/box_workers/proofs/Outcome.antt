@@ -23,9 +23,9 @@ use Rattle.cert_log.specs.declared.history.Note.{Note}
 use Rattle.cert_log.specs.declared.history.History.{History}
 use Rattle.cert_log.specs.Good.{IsFloor, Reaches}
 use Rattle.cert_log.specs.Lawful.{no_loss, loss_of, numbered, once_below, IsBest, IsLawful, Handled}
-use Rattle.box_levels.specs.Events.{Event, note_of, tickets_of, SplitsFree}
-use Rattle.box_levels.proofs.Counts.{sum_map}
-use Rattle.box_levels.proofs.Sames.{test_of}
+use Rattle.cert_log.specs.Events.{Event, note_of, tickets_of, SplitsFree}
+use Rattle.cert_log.proofs.Counts.{sum_map}
+use Rattle.cert_log.proofs.Sames.{test_of}
 use Rattle.shared_best.specs.declared.view.View.{View}
 use Rattle.shared_best.specs.Seats.{Words, Seated, IsSeatOf}
 use Rattle.shared_best.specs.Words.{IsWhole, Settles, share, kept_half, new_half, newcomer, joined, none_known, seat_view}

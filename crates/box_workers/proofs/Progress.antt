@@ -13,9 +13,9 @@ use Rattle.cert_log.specs.declared.history.Act.{Act}
 use Rattle.cert_log.specs.Levels.{made_of}
 use Rattle.cert_log.specs.Lawful.{times}
 use Rattle.cert_log.proofs.Members.{times-append, times-cons, counted}
-use Rattle.box_levels.specs.Events.{Event, made_by, all_boxes, tickets_of}
-use Rattle.box_levels.proofs.Sames.{test_same}
-use Rattle.box_levels.proofs.Counts.{sum_map}
+use Rattle.cert_log.specs.Events.{Event, made_by, all_boxes, tickets_of}
+use Rattle.cert_log.proofs.Sames.{test_same}
+use Rattle.cert_log.proofs.Counts.{sum_map}
 use Rattle.shared_best.specs.declared.view.View.{View}
 use Rattle.shared_best.specs.Seats.{Words, Seated}
 use Rattle.shared_best.specs.Words.{lowered, last_or}

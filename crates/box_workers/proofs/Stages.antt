@@ -6,7 +6,7 @@ use Rattle.std.proofs.lemmas.List.Sums.{sum_by-append}
 use Rattle.glass_base.specs.Problem.{Problem}
 use Rattle.plan_box.specs.Ranges.{PlainBox}
 use Rattle.cert_log.specs.declared.history.Left.{Left}
-use Rattle.box_levels.specs.Events.{Event, made_by}
+use Rattle.cert_log.specs.Events.{Event, made_by}
 use Rattle.shared_best.specs.declared.view.View.{View}
 use Rattle.shared_best.specs.Seats.{Words, Seated}
 use Rattle.shared_best.specs.Words.{newcomer}

@@ -12,7 +12,7 @@ use Rattle.plan_box.specs.Reasons.{IsFirstReason}
 use Rattle.cert_log.specs.declared.history.Act.{Act}
 use Rattle.cert_log.specs.declared.history.Note.{Note}
 use Rattle.cert_log.specs.Levels.{lower_id, upper_id, made_of}
-use Rattle.box_levels.specs.Events.{Event, note_of}
+use Rattle.cert_log.specs.Events.{Event, note_of}
 use Rattle.shared_best.specs.declared.view.View.{View}
 use Rattle.shared_best.specs.Seats.{Words, Seated}
 use Rattle.shared_best.specs.Words.{looked, drawn, times, share}

@@ -12,8 +12,8 @@ use Rattle.cert_log.specs.declared.history.Left.{Left}
 use Rattle.cert_log.specs.declared.history.Note.{Note}
 use Rattle.cert_log.specs.Lawful.{no_loss, IsBest}
 use Rattle.cert_log.proofs.Members.{first_or_later, contains_none}
-use Rattle.box_levels.specs.Events.{Event, note_of, tickets_of}
-use Rattle.box_levels.proofs.Counts.{sum_map}
+use Rattle.cert_log.specs.Events.{Event, note_of, tickets_of}
+use Rattle.cert_log.proofs.Counts.{sum_map}
 use Rattle.shared_best.specs.declared.view.View.{View}
 use Rattle.shared_best.specs.Seats.{Words, Seated}
 use Rattle.shared_best.specs.Words.{joined}

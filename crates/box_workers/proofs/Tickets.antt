@@ -5,8 +5,8 @@ use Rattle.std.specs.List.{Contains}
 use Rattle.std.proofs.lemmas.Bool.Decides.{nat_tests}
 use Rattle.std.proofs.lemmas.List.Elements.{All-contains}
 use Rattle.cert_log.specs.Lawful.{times, once_below}
-use Rattle.box_levels.proofs.Sames.{test_of, tested, test_same}
-use Rattle.box_levels.proofs.Counts.{sum_same, sum_two, sum_none, sum_at}
+use Rattle.cert_log.proofs.Sames.{test_of, tested, test_same}
+use Rattle.cert_log.proofs.Counts.{sum_same, sum_two, sum_none, sum_at}
 use Rattle.shared_best.proofs.Counts.{below_once}
 use Rattle.box_workers.proofs.Lists.{ones}
 

@@ -3,7 +3,7 @@ use Rattle.std.proofs.Common.{◌≡◌, ℕ, ◌+◌, ◌≤◌, List, [], ◌�
 use Rattle.std.specs.Prelude.{sum_by}
 use Rattle.std.proofs.lemmas.List.Sums.{sum_by-cons, sum_by_push}
 use Rattle.plan_box.specs.Ranges.{PlainBox}
-use Rattle.box_levels.specs.Events.{Event, made_by}
+use Rattle.cert_log.specs.Events.{Event, made_by}
 use Rattle.box_ring.specs.Arms.{ArmState}
 use Rattle.box_workers.specs.declared.working.Rest.{Rest}
 use Rattle.box_workers.specs.Works.{Traffic, RestsFor}

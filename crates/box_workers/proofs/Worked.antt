@@ -18,7 +18,7 @@ use Rattle.cert_log.specs.declared.history.Left.{Left}
 use Rattle.cert_log.specs.declared.history.Note.{Note}
 use Rattle.cert_log.specs.Lawful.{no_loss, times, trace_loss}
 use Rattle.cert_log.proofs.Members.{times-append, first_or_later, contains_none}
-use Rattle.box_levels.specs.Events.{Event, note_of, made_by, tickets_of}
+use Rattle.cert_log.specs.Events.{Event, note_of, made_by, tickets_of}
 use Rattle.shared_best.specs.declared.view.View.{View}
 use Rattle.shared_best.specs.Seats.{Words, Seated, IsSeatOf}
 use Rattle.shared_best.specs.Words.{looked, lowered, drawn, none_known, IsWhole}

@@ -12,7 +12,7 @@ use Rattle.plan_box.specs.Reasons.{IsRefuted, IsFirstReason}
 use Rattle.cert_log.specs.declared.history.Act.{Act}
 use Rattle.cert_log.specs.declared.history.Cause.{Cause}
 use Rattle.cert_log.specs.Lawful.{no_loss, trace_loss}
-use Rattle.box_levels.specs.Events.{Event, note_of, made_by}
+use Rattle.cert_log.specs.Events.{Event, note_of, made_by}
 use Rattle.shared_best.specs.declared.view.View.{View}
 use Rattle.shared_best.specs.Seats.{Words, Seated}
 use Rattle.shared_best.specs.Words.{looked, lowered, drawn, times, IsWhole}

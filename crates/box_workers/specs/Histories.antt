@@ -9,7 +9,7 @@ use Rattle.cert_log.specs.declared.history.History.{History}
 use Rattle.cert_log.specs.Good.{IsFloor}
 use Rattle.cert_log.specs.Levels.{level}
 use Rattle.cert_log.specs.Lawful.{Course, numbered, times, once_below, Handled, IsBest, IsLawful}
-use Rattle.box_levels.specs.Events.{Event, note_of, made_by, all_boxes, tickets_of, SplitsFree}
+use Rattle.cert_log.specs.Events.{Event, note_of, made_by, all_boxes, tickets_of, SplitsFree}
 
 -- the boxes that were left open
 abbrev pub left_boxes : List Left → List PlainBox

@@ -10,7 +10,7 @@ use Rattle.cert_log.specs.declared.history.Act.{Act}
 use Rattle.cert_log.specs.declared.history.History.{History}
 use Rattle.cert_log.specs.Levels.{level}
 use Rattle.cert_log.specs.Lawful.{Course, no_loss, trace_loss}
-use Rattle.box_levels.specs.Events.{Event, note_of, tickets_of}
+use Rattle.cert_log.specs.Events.{Event, note_of, tickets_of}
 use Rattle.shared_best.specs.declared.view.View.{View}
 use Rattle.shared_best.specs.Seats.{Words}
 use Rattle.box_workers.specs.Handling.{IsProbed, IsAct}

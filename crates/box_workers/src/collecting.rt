@@ -101,9 +101,13 @@ pub(crate) fn collect(
     requires seats { All (λ (m : MemberOf). IsSeatOf shared.now m.seat) members.items }
     ensures seat { OnOk result (IsSeatOf shared.now seat.new) }
     ensures allowance { OnOk result (seat.old.view.allowance ≤ seat.new.view.allowance) }
-    ensures hand { OnOk result ((hand.new.worker ≡ hand.old.worker) × (hand.new.scratch ≡ hand.old.scratch) × (hand.new.leasts ≡ hand.old.leasts)) }
+    ensures hand { OnOk result ((hand.new.worker ≡ hand.old.worker)
+        × (hand.new.scratch ≡ hand.old.scratch) × (hand.new.leasts ≡ hand.old.leasts)) }
     ensures arms { IfOk result (λ arms. arms.items ≡ reverse (arms_of members.items)) }
-    ensures collects { OnOk result ((b : Problem) (starts : ℕ) (olds : List MemberOf) → EachDone b shared.now starts olds members.items → All (IsNew b) olds → IsTeamwork b shared.now seat.old.view hand.old [] [] → Collects b shared.now starts olds members.items seat.old seat.new hand.new) }
+    ensures collects { OnOk result ((b : Problem) (starts : ℕ) (olds : List MemberOf)
+        → EachDone b shared.now starts olds members.items → All (IsNew b) olds
+        → IsTeamwork b shared.now seat.old.view hand.old [] []
+        → Collects b shared.now starts olds members.items seat.old seat.new hand.new) }
 {
     let mut arms = Run::new(alloc);
     let mut members = members;

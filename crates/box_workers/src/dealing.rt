@@ -25,7 +25,8 @@ fn deal_one(members: &mut [Member], at: usize, bx: PlanBox) -> Result<(), Memory
 /// stands first.
 fn deal_slice(members: &mut [Member], boxes: Run<PlanBox>) -> Result<(), Memory>
     requires some { 0 < length members.old }
-    requires frames { All (λ (x : PlainBox). All (λ (m : MemberOf). x.frame ≡ frame m.arm) members.old) boxes.items }
+    requires frames { All (λ (x : PlainBox). All (λ (m : MemberOf). x.frame
+        ≡ frame m.arm) members.old) boxes.items }
     ensures { OnOk result (Deals boxes.items members.old members.new) }
 {
     let mut boxes = boxes;
@@ -40,7 +41,8 @@ fn deal_slice(members: &mut [Member], boxes: Run<PlanBox>) -> Result<(), Memory>
 /// The worker of the last arm stands first.
 pub(crate) fn deal(members: Vec<Member>, boxes: Run<PlanBox>) -> Result<Vec<Member>, Memory>
     requires some { 0 < length members.items }
-    requires frames { All (λ (x : PlainBox). All (λ (m : MemberOf). x.frame ≡ frame m.arm) members.items) boxes.items }
+    requires frames { All (λ (x : PlainBox). All (λ (m : MemberOf). x.frame
+        ≡ frame m.arm) members.items) boxes.items }
     ensures { IfOk result (λ ms. Deals boxes.items members.items ms.items) }
 {
     let mut members = members;

@@ -12,7 +12,8 @@ use std::alloc::Global;
 /// All boxes that are left.
 pub(crate) fn drain_all(alloc: Global, gathered: Gathered) -> Result<Run<PlanBox>, Memory>
     ensures left { IfOk result (λ boxes. IsLeft gathered boxes.items) }
-    ensures frames { IfOk result (λ boxes. (f : PlainFrame) → AllFramed f gathered → All (λ (x : PlainBox). x.frame ≡ f) boxes.items) }
+    ensures frames { IfOk result (λ boxes. (f : PlainFrame) → AllFramed f gathered
+        → All (λ (x : PlainBox). x.frame ≡ f) boxes.items) }
 {
     let mut gathered = gathered;
     let mut boxes = Run::new(alloc);

@@ -34,9 +34,11 @@ pub(crate) fn enlist(
     ensures seat { OnOk result (IsSeatOf shared.now seat.new) }
     ensures unused { OnOk result (IsUnused seat.new.view) }
     ensures allowance { OnOk result (10000001 ≤ seat.new.view.allowance) }
-    ensures share { IfOk result (λ ms. share seat.new.view + share_of ms.items ≡ share seat.old.view) }
+    ensures share { IfOk result (λ ms. share seat.new.view + share_of ms.items
+        ≡ share seat.old.view) }
     ensures arms { IfOk result (λ ms. arms_of ms.items ≡ reverse arms.items) }
-    ensures numbers { IfOk result (λ ms. numbers_of ms.items ≡ reverse (range_with_len 0 (length arms.items))) }
+    ensures numbers { IfOk result (λ ms. numbers_of ms.items
+        ≡ reverse (range_with_len 0 (length arms.items))) }
     ensures new { IfOk result (λ ms. All (IsNew instance.now) ms.items) }
     ensures ready { IfOk result (λ ms. All (IsReady instance.now shared.now) ms.items) }
 {

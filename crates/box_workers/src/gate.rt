@@ -9,7 +9,7 @@ pub trait Gate {
     /// This worker found no box.
     fn idle(&self, worker: u32);
 
-    /// A plan of this loss in mm² is known; `u64::MAX` is none. A gate that does not say otherwise takes no notice.
+    /// A plan of this loss in mm² is known; `shared_best::NONE` is none. A gate that does not say otherwise takes no notice.
     fn sees(&self, _loss: u64) {}
 
     /// Before boxes, fronts are looked at: so many of all in one of several passes. A gate that does not say otherwise takes no notice.

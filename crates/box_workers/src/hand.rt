@@ -69,7 +69,8 @@ impl Hand {
         ensures log { IfOk result (λ h. h.log.items ≡ []) }
         ensures left { IfOk result (λ h. h.left.items ≡ []) }
         ensures plan { IfOk result (λ h. (h.plan ≡ None) × (h.loss ≡ no_loss)) }
-        ensures scratch { IfOk result (λ h. length h.scratch.steps.items ≡ length instance.now.items) }
+        ensures scratch { IfOk result (λ h. length h.scratch.steps.items
+            ≡ length instance.now.items) }
         ensures leasts { IfOk result (λ h. IsOf instance.now h.leasts) }
     {
         Ok(Hand {

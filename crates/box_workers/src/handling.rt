@@ -5,7 +5,7 @@ ghost use Rattle.plan_box.specs.Frames.{frame_of};
 ghost use Rattle.plan_box.specs.Reasons.{IsRefuted};
 ghost use Rattle.box_bound.specs.Leastings.{IsOf, IsFor};
 ghost use Rattle.cert_log.specs.Lawful.{no_loss};
-ghost use Rattle.box_levels.specs.Events.{SplitsFree};
+ghost use Rattle.cert_log.specs.Events.{SplitsFree};
 ghost use Rattle.shared_best.specs.Seats.{IsSeatOf};
 ghost use Rattle.shared_best.specs.Words.{share};
 ghost use Rattle.box_workers.specs.Handling.{IsIdle, Gives, Answers};
@@ -65,8 +65,11 @@ fn improve(
     requires share { 0 < share seat.old.view }
     ensures seat { IsSeatOf shared.now seat.new }
     ensures scratch { length hand.new.scratch.steps.items ≡ length ground.entry.instance.now.items }
-    ensures same { (hand.new.leasts ≡ hand.old.leasts) × (hand.new.worker ≡ hand.old.worker) × (hand.new.log ≡ hand.old.log) × (hand.new.left ≡ hand.old.left) × (hand.new.spares ≡ hand.old.spares) }
-    ensures improves { (probed : ℕ) × Improves ground.entry.instance.now bx.now.ranges probed seat.old.view seat.new.view hand.old hand.new }
+    ensures same { (hand.new.leasts ≡ hand.old.leasts) × (hand.new.worker ≡ hand.old.worker)
+        × (hand.new.log ≡ hand.old.log) × (hand.new.left ≡ hand.old.left)
+        × (hand.new.spares ≡ hand.old.spares) }
+    ensures improves { (probed : ℕ) × Improves ground.entry.instance.now bx.now.ranges probed
+        seat.old.view seat.new.view hand.old hand.new }
 {
     // Read for its rules.
     let _frame = bx.frame();
@@ -124,7 +127,8 @@ fn decide(
     ensures seat { IsSeatOf shared.now seat.new }
     ensures scratch { length hand.new.scratch.steps.items ≡ length ground.entry.instance.now.items }
     ensures leasts { IsOf ground.entry.instance.now hand.new.leasts }
-    ensures decides { (seen : ℕ) × (probed : ℕ) × Decides ground.entry.instance.now shared.now bx.now seat.old seat.new hand.old hand.new seen probed result }
+    ensures decides { (seen : ℕ) × (probed : ℕ) × Decides ground.entry.instance.now shared.now
+        bx.now seat.old seat.new hand.old hand.new seen probed result }
 {
     // Read for their rules, and the last for its range.
     let _frame = bx.frame();
@@ -164,7 +168,8 @@ fn carry_out(
     requires room { HasRoomFor bx hand.old.spares }
     requires limits { (starts ≤ 160000000) × (ticket < 10000000) }
     ensures noted { IsNoted record { id = bx.id; ticket = ticket; act = act } hand.old hand.new }
-    ensures gives { (seen : ℕ) → (probed : ℕ) → Gives starts record { box = bx; ticket = ticket; seen = seen; probed = probed; act = act } result }
+    ensures gives { (seen : ℕ) → (probed : ℕ) → Gives starts record
+        { box = bx; ticket = ticket; seen = seen; probed = probed; act = act } result }
 {
     let id = bx.id();
     hand.log.put(Note { id, ticket, act });
@@ -208,8 +213,10 @@ pub fn handle(
     ensures seat { IsSeatOf shared.now seat.new }
     ensures scratch { length hand.new.scratch.steps.items ≡ length instance.now.items }
     ensures leasts { IsOf instance.now hand.new.leasts }
-    ensures done { IfOk result (λ d. Answers instance.now shared.now starts bx seat.old seat.new hand.old hand.new d) }
-    ensures refused { IfErr result (λ e. (e.0 ≡ bx) × (seat.new ≡ seat.old) × IsIdle hand.old hand.new) }
+    ensures done { IfOk result (λ d. Answers instance.now shared.now starts bx seat.old seat.new
+        hand.old hand.new d) }
+    ensures refused { IfErr result (λ e. (e.0 ≡ bx) × (seat.new ≡ seat.old)
+        × IsIdle hand.old hand.new) }
 {
     if let Err(refused) = prepare(alloc, instance, hand, &bx) {
         return Err((bx, refused));

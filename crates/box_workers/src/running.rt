@@ -36,16 +36,24 @@ fn handle_waiting<G: Gate, Q: Poster>(
     poster: &mut Q,
 ) -> Result<bool, Memory>
     requires frame { bx.frame ≡ frame_of desk.now.ground.instance.now }
-    requires frames { All (λ (x : PlainBox). x.frame ≡ frame_of desk.now.ground.instance.now) waiting.old.items }
+    requires frames { All (λ (x : PlainBox). x.frame
+        ≡ frame_of desk.now.ground.instance.now) waiting.old.items }
     requires leasts { IsOf desk.now.ground.instance.now hand.old.leasts }
-    requires scratch { length hand.old.scratch.steps.items ≡ length desk.now.ground.instance.now.items }
+    requires scratch { length hand.old.scratch.steps.items
+        ≡ length desk.now.ground.instance.now.items }
     requires seat { IsSeatOf desk.now.shared.now seat.old }
     requires allowance { 1 ≤ seat.old.view.allowance }
     ensures seat { IsSeatOf desk.now.shared.now seat.new }
-    ensures scratch { length hand.new.scratch.steps.items ≡ length desk.now.ground.instance.now.items }
+    ensures scratch { length hand.new.scratch.steps.items
+        ≡ length desk.now.ground.instance.now.items }
     ensures leasts { IsOf desk.now.ground.instance.now hand.new.leasts }
-    ensures frames { OnOk result (All (λ (x : PlainBox). x.frame ≡ frame_of desk.now.ground.instance.now) waiting.new.items) }
-    ensures turns { IfOk result (λ more. MatchBool more (Turns desk.now.ground.instance.now desk.now.shared.now desk.now.starts bx seat.old seat.new hand.old hand.new waiting.old.items waiting.new.items) (Spends desk.now.shared.now seat.old seat.new hand.old hand.new × (waiting.new.items ≡ waiting.old.items ++ bx ∷ []))) }
+    ensures frames { OnOk result (All (λ (x : PlainBox). x.frame
+        ≡ frame_of desk.now.ground.instance.now) waiting.new.items) }
+    ensures turns { IfOk result (λ more. MatchBool more
+        (Turns desk.now.ground.instance.now desk.now.shared.now desk.now.starts bx seat.old seat.new
+        hand.old hand.new waiting.old.items waiting.new.items)
+        (Spends desk.now.shared.now seat.old seat.new hand.old hand.new
+        × (waiting.new.items ≡ waiting.old.items ++ bx ∷ []))) }
 {
     waiting.reserve(2)?;
     match turn(desk, seat, hand, bx, poster)? {
@@ -69,12 +77,15 @@ pub(crate) fn run<G: Gate, Q: Poster>(
     waiting: &mut Run<PlanBox>,
     poster: &mut Q,
 ) -> Result<(), Memory>
-    requires frames { All (λ (x : PlainBox). x.frame ≡ frame_of desk.now.ground.instance.now) waiting.old.items }
+    requires frames { All (λ (x : PlainBox). x.frame
+        ≡ frame_of desk.now.ground.instance.now) waiting.old.items }
     requires leasts { IsOf desk.now.ground.instance.now hand.old.leasts }
-    requires scratch { length hand.old.scratch.steps.items ≡ length desk.now.ground.instance.now.items }
+    requires scratch { length hand.old.scratch.steps.items
+        ≡ length desk.now.ground.instance.now.items }
     requires seat { IsSeatOf desk.now.shared.now seat.old }
     requires allowance { desk.now.shared.now.budget < seat.old.view.allowance }
-    ensures ends { OnOk result (HasEnded desk.now.ground.instance.now desk.now.shared.now desk.now.starts waiting.old.items seat.old seat.new hand.old hand.new waiting.new.items) }
+    ensures ends { OnOk result (HasEnded desk.now.ground.instance.now desk.now.shared.now
+        desk.now.starts waiting.old.items seat.old seat.new hand.old hand.new waiting.new.items) }
 {
     // Read for its range.
     let _best = hand.loss;

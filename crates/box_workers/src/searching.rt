@@ -52,7 +52,9 @@ fn leave(
     requires leasts { IsOf instance.now leasts.old }
     requires bounds { HaveBounds instance.now left.old.items }
     requires frames { All (λ (x : PlainBox). x.frame ≡ frame_of instance.now) waiting.old.items }
-    ensures weighs { OnOk result ((weight : PlainBox → ℕ) → sum_by (λ (l : LeftBox). weight l.bx) left.new.items ≡ sum_by (λ (l : LeftBox). weight l.bx) left.old.items + sum_by weight waiting.old.items) }
+    ensures weighs { OnOk result ((weight : PlainBox → ℕ)
+        → sum_by (λ (l : LeftBox). weight l.bx) left.new.items
+        ≡ sum_by (λ (l : LeftBox). weight l.bx) left.old.items + sum_by weight waiting.old.items) }
     ensures bounds { OnOk result (HaveBounds instance.now left.new.items) }
 {
     while let Some(bx) = waiting.pop() {
@@ -68,9 +70,12 @@ fn leave_all(instance: &Instance, hand: &mut Hand, waiting: Run<PlanBox>) -> Res
     requires leasts { IsOf instance.now hand.old.leasts }
     requires bounds { HaveBounds instance.now hand.old.left.items }
     requires frames { All (λ (x : PlainBox). x.frame ≡ frame_of instance.now) waiting.items }
-    ensures weighs { OnOk result ((weight : PlainBox → ℕ) → sum_by (λ (l : LeftBox). weight l.bx) hand.new.left.items ≡ sum_by (λ (l : LeftBox). weight l.bx) hand.old.left.items + sum_by weight waiting.items) }
+    ensures weighs { OnOk result ((weight : PlainBox → ℕ)
+        → sum_by (λ (l : LeftBox). weight l.bx) hand.new.left.items
+        ≡ sum_by (λ (l : LeftBox). weight l.bx) hand.old.left.items + sum_by weight waiting.items) }
     ensures bounds { OnOk result (HaveBounds instance.now hand.new.left.items) }
-    ensures same { (hand.new.log ≡ hand.old.log) × (hand.new.plan ≡ hand.old.plan) × (hand.new.loss ≡ hand.old.loss) }
+    ensures same { (hand.new.log ≡ hand.old.log) × (hand.new.plan ≡ hand.old.plan)
+        × (hand.new.loss ≡ hand.old.loss) }
 {
     let mut waiting = waiting;
     leave(instance, &mut hand.leasts, &mut hand.left, &mut waiting)
@@ -187,12 +192,14 @@ fn handle_all<R: Threads + Wait + Sync, G: Gate + Sync, Q: Poster + Copy + Drop 
     poster: &Q,
 ) -> Result<Run<PlanBox>, Memory>
     requires starts { desk.now.starts ≡ length start.items }
-    requires frames { All (λ (x : PlainBox). x.frame ≡ frame_of desk.now.ground.instance.now) start.items }
+    requires frames { All (λ (x : PlainBox). x.frame
+        ≡ frame_of desk.now.ground.instance.now) start.items }
     requires workers { (1 ≤ workers) × (workers ≤ 8) }
     requires seat { IsSeatOf desk.now.shared.now seat.old }
     requires newcomer { seat.old.view ≡ newcomer desk.now.shared.now.first }
     requires hand { IsFresh desk.now.ground.instance.now hand.old × (hand.old.left.items ≡ []) }
-    ensures { IfOk result (λ boxes. HasSearched desk.now.ground.instance.now desk.now.shared.now (length start.items) start.items workers seat.old seat.new hand.old hand.new boxes.items) }
+    ensures { IfOk result (λ boxes. HasSearched desk.now.ground.instance.now desk.now.shared.now
+        (length start.items) start.items workers seat.old seat.new hand.old hand.new boxes.items) }
 {
     let mut own = *poster;
     let mut waiting = spread(rt, desk, start, workers, seat, hand, poster)?;
@@ -213,7 +220,8 @@ pub(crate) fn search_with<R: Threads + Wait + Sync, G: Gate + Sync, Q: Poster + 
     requires some { 1 ≤ length start.items }
     requires count { desk.now.starts ≡ length start.items }
     requires ids { numbered 0 start.items }
-    requires frames { All (λ (x : PlainBox). x.frame ≡ frame_of desk.now.ground.instance.now) start.items }
+    requires frames { All (λ (x : PlainBox). x.frame
+        ≡ frame_of desk.now.ground.instance.now) start.items }
     requires first { IsFirst desk.now.ground.instance.now first }
     requires workers { (1 ≤ workers) × (workers ≤ 8) }
     requires loss { desk.now.shared.now.first ≡ first_loss desk.now.ground.instance.now first }
@@ -221,9 +229,11 @@ pub(crate) fn search_with<R: Threads + Wait + Sync, G: Gate + Sync, Q: Poster + 
     requires seat { IsSeatOf desk.now.shared.now seat.old }
     requires newcomer { seat.old.view ≡ newcomer desk.now.shared.now.first }
     requires floor { IsFloor desk.now.ground.instance.now desk.now.shared.now.floor }
-    ensures lawful { IfOk result (λ h. IsLawful desk.now.ground.instance.now (course_of start.items desk.now.shared.now) h) }
+    ensures lawful { IfOk result (λ h. IsLawful desk.now.ground.instance.now
+        (course_of start.items desk.now.shared.now) h) }
     ensures seat { OnOk result (IsSeatOf desk.now.shared.now seat.new × IsWhole seat.new.view) }
-    ensures shows { IfOk result (λ h. Shows desk.now.ground.instance.now desk.now.shared.now start.items workers seat.new.view h) }
+    ensures shows { IfOk result (λ h. Shows desk.now.ground.instance.now desk.now.shared.now
+        start.items workers seat.new.view h) }
 {
     // Read for its rules.
     let _params = desk.ground.instance.params();
@@ -276,7 +286,8 @@ pub fn search<'d, R: Threads + Wait + Sync, G: Gate + Sync>(
     requires floor { IsFloor instance.now shared.now.floor }
     ensures lawful { IfOk result (λ h. IsLawful instance.now (course_of start.items shared.now) h) }
     ensures seat { OnOk result (IsSeatOf shared.now seat.new × IsWhole seat.new.view) }
-    ensures shows { IfOk result (λ h. Shows instance.now shared.now start.items workers seat.new.view h) }
+    ensures shows { IfOk result (λ h. Shows instance.now shared.now start.items workers
+        seat.new.view h) }
 {
     let desk = Desk {
         alloc,

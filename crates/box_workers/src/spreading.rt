@@ -51,7 +51,8 @@ fn set_up(
     ensures seat { OnOk result (IsSeatOf shared.now seat.new) }
     ensures unused { OnOk result (IsUnused seat.new.view) }
     ensures allowance { OnOk result (10000001 ≤ seat.new.view.allowance) }
-    ensures share { IfOk result (λ ms. share seat.new.view + share_of ms.items ≡ share seat.old.view) }
+    ensures share { IfOk result (λ ms. share seat.new.view + share_of ms.items
+        ≡ share seat.old.view) }
     ensures numbers { IfOk result (λ ms. numbers_of ms.items ≡ reverse (range_with_len 0 workers)) }
     ensures set { IfOk result (λ ms. AreSetUp instance.now shared.now start.items ms.items) }
 {
@@ -73,10 +74,18 @@ fn wind_up(
     requires ring { IsRing (reverse (arms_of members.items)) }
     ensures seat { OnOk result (IsSeatOf shared.now seat.new) }
     ensures allowance { OnOk result (seat.old.view.allowance ≤ seat.new.view.allowance) }
-    ensures hand { OnOk result ((hand.new.worker ≡ hand.old.worker) × (hand.new.scratch ≡ hand.old.scratch) × (hand.new.leasts ≡ hand.old.leasts)) }
-    ensures collects { OnOk result ((b : Problem) (starts : ℕ) (olds : List MemberOf) → EachDone b shared.now starts olds members.items → All (IsNew b) olds → IsTeamwork b shared.now seat.old.view hand.old [] [] → Collects b shared.now starts olds members.items seat.old seat.new hand.new) }
-    ensures rest { IfOk result (λ boxes. (weight : PlainBox → ℕ) → sum_by (put weight) (arms_of members.items) ≡ sum_by (taken weight) (arms_of members.items) + sum_by weight boxes.items) }
-    ensures frames { IfOk result (λ boxes. (f : PlainFrame) → AllOfFrame f (reverse (arms_of members.items)) → All (λ (x : PlainBox). x.frame ≡ f) boxes.items) }
+    ensures hand { OnOk result ((hand.new.worker ≡ hand.old.worker)
+        × (hand.new.scratch ≡ hand.old.scratch) × (hand.new.leasts ≡ hand.old.leasts)) }
+    ensures collects { OnOk result ((b : Problem) (starts : ℕ) (olds : List MemberOf)
+        → EachDone b shared.now starts olds members.items → All (IsNew b) olds
+        → IsTeamwork b shared.now seat.old.view hand.old [] []
+        → Collects b shared.now starts olds members.items seat.old seat.new hand.new) }
+    ensures rest { IfOk result (λ boxes. (weight : PlainBox → ℕ)
+        → sum_by (put weight) (arms_of members.items)
+        ≡ sum_by (taken weight) (arms_of members.items) + sum_by weight boxes.items) }
+    ensures frames { IfOk result (λ boxes. (f : PlainFrame)
+        → AllOfFrame f (reverse (arms_of members.items))
+        → All (λ (x : PlainBox). x.frame ≡ f) boxes.items) }
 {
     let arms = collect(alloc, shared, seat, hand, members)?;
     let Ok(gathered) = gather(alloc, arms) else {
@@ -97,15 +106,19 @@ fn work_together<R: Threads + Wait + Sync, G: Gate + Sync, Q: Poster + Copy + Dr
     poster: &Q,
 ) -> Result<Run<PlanBox>, Memory>
     requires starts { desk.now.starts ≡ length start.items }
-    requires frames { All (λ (x : PlainBox). x.frame ≡ frame_of desk.now.ground.instance.now) start.items }
+    requires frames { All (λ (x : PlainBox). x.frame
+        ≡ frame_of desk.now.ground.instance.now) start.items }
     requires workers { (2 ≤ workers) × (workers ≤ 8) }
     requires seat { IsSeatOf desk.now.shared.now seat.old }
     requires newcomer { seat.old.view ≡ newcomer desk.now.shared.now.first }
     requires hand { IsFresh desk.now.ground.instance.now hand.old × (hand.old.left.items ≡ []) }
     ensures seat { OnOk result (IsSeatOf desk.now.shared.now seat.new) }
-    ensures hand { OnOk result ((hand.new.scratch ≡ hand.old.scratch) × (hand.new.leasts ≡ hand.old.leasts)) }
-    ensures frames { IfOk result (λ boxes. All (λ (x : PlainBox). x.frame ≡ frame_of desk.now.ground.instance.now) boxes.items) }
-    ensures begun { IfOk result (λ boxes. HasBegun desk.now.ground.instance.now desk.now.shared.now (length start.items) start.items workers seat.old seat.new hand.old hand.new boxes.items) }
+    ensures hand { OnOk result ((hand.new.scratch ≡ hand.old.scratch)
+        × (hand.new.leasts ≡ hand.old.leasts)) }
+    ensures frames { IfOk result (λ boxes. All (λ (x : PlainBox). x.frame
+        ≡ frame_of desk.now.ground.instance.now) boxes.items) }
+    ensures begun { IfOk result (λ boxes. HasBegun desk.now.ground.instance.now desk.now.shared.now
+        (length start.items) start.items workers seat.old seat.new hand.old hand.new boxes.items) }
 {
     let members = set_up(
         desk.alloc,
@@ -131,15 +144,19 @@ pub(crate) fn spread<R: Threads + Wait + Sync, G: Gate + Sync, Q: Poster + Copy 
     poster: &Q,
 ) -> Result<Run<PlanBox>, Memory>
     requires starts { desk.now.starts ≡ length start.items }
-    requires frames { All (λ (x : PlainBox). x.frame ≡ frame_of desk.now.ground.instance.now) start.items }
+    requires frames { All (λ (x : PlainBox). x.frame
+        ≡ frame_of desk.now.ground.instance.now) start.items }
     requires workers { (1 ≤ workers) × (workers ≤ 8) }
     requires seat { IsSeatOf desk.now.shared.now seat.old }
     requires newcomer { seat.old.view ≡ newcomer desk.now.shared.now.first }
     requires hand { IsFresh desk.now.ground.instance.now hand.old × (hand.old.left.items ≡ []) }
     ensures seat { OnOk result (IsSeatOf desk.now.shared.now seat.new) }
-    ensures hand { OnOk result ((hand.new.scratch ≡ hand.old.scratch) × (hand.new.leasts ≡ hand.old.leasts)) }
-    ensures frames { IfOk result (λ boxes. All (λ (x : PlainBox). x.frame ≡ frame_of desk.now.ground.instance.now) boxes.items) }
-    ensures begun { IfOk result (λ boxes. HasBegun desk.now.ground.instance.now desk.now.shared.now (length start.items) start.items workers seat.old seat.new hand.old hand.new boxes.items) }
+    ensures hand { OnOk result ((hand.new.scratch ≡ hand.old.scratch)
+        × (hand.new.leasts ≡ hand.old.leasts)) }
+    ensures frames { IfOk result (λ boxes. All (λ (x : PlainBox). x.frame
+        ≡ frame_of desk.now.ground.instance.now) boxes.items) }
+    ensures begun { IfOk result (λ boxes. HasBegun desk.now.ground.instance.now desk.now.shared.now
+        (length start.items) start.items workers seat.old seat.new hand.old hand.new boxes.items) }
 {
     if workers == 1 {
         // The box that waits last is handled first: so the start boxes are handled in their order.

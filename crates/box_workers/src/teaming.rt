@@ -20,7 +20,8 @@ fn work_member<R: Wait, G: Gate, Q: Poster + Drop>(
     member: &mut Member,
 )
     requires ready { IsReady desk.now.ground.instance.now desk.now.shared.now member.old }
-    ensures { HasDone desk.now.ground.instance.now desk.now.shared.now desk.now.starts member.old member.new }
+    ensures { HasDone desk.now.ground.instance.now desk.now.shared.now desk.now.starts
+        member.old member.new }
 {
     let mut poster = poster;
     let rest = work_at(
@@ -43,7 +44,9 @@ fn work_members<R: Threads + Wait + Sync, G: Gate + Sync, Q: Poster + Copy + Dro
 )
     requires ready { All (IsReady desk.now.ground.instance.now desk.now.shared.now) members.old }
     ensures len { length members.new ≡ length members.old }
-    ensures each { (i : ℕ) (d : MemberOf) → i < length members.old → HasDone desk.now.ground.instance.now desk.now.shared.now desk.now.starts (slice_index_or members.old i d) (slice_index_or members.new i d) }
+    ensures each { (i : ℕ) (d : MemberOf) → i < length members.old
+        → HasDone desk.now.ground.instance.now desk.now.shared.now desk.now.starts
+        (slice_index_or members.old i d) (slice_index_or members.new i d) }
 {
     let threads = members.len();
     if threads == 0 {
@@ -65,7 +68,8 @@ pub(crate) fn work_all<R: Threads + Wait + Sync, G: Gate + Sync, Q: Poster + Cop
     members: Vec<Member>,
 ) -> Vec<Member>
     requires ready { All (IsReady desk.now.ground.instance.now desk.now.shared.now) members.items }
-    ensures { EachDone desk.now.ground.instance.now desk.now.shared.now desk.now.starts members.items result.items }
+    ensures { EachDone desk.now.ground.instance.now desk.now.shared.now desk.now.starts
+        members.items result.items }
 {
     let mut members = members;
     work_members(rt, desk, poster, members.as_mut_slice());

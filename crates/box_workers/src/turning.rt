@@ -26,14 +26,18 @@ pub(crate) fn turn<G: Gate, Q: Poster>(
 ) -> Result<Done, Memory>
     requires frame { bx.frame ≡ frame_of desk.now.ground.instance.now }
     requires leasts { IsOf desk.now.ground.instance.now hand.old.leasts }
-    requires scratch { length hand.old.scratch.steps.items ≡ length desk.now.ground.instance.now.items }
+    requires scratch { length hand.old.scratch.steps.items
+        ≡ length desk.now.ground.instance.now.items }
     requires seat { IsSeatOf desk.now.shared.now seat.old }
     requires allowance { 1 ≤ seat.old.view.allowance }
     ensures seat { IsSeatOf desk.now.shared.now seat.new }
-    ensures scratch { length hand.new.scratch.steps.items ≡ length desk.now.ground.instance.now.items }
+    ensures scratch { length hand.new.scratch.steps.items
+        ≡ length desk.now.ground.instance.now.items }
     ensures leasts { IsOf desk.now.ground.instance.now hand.new.leasts }
-    ensures done { IfOk result (λ d. Answers desk.now.ground.instance.now desk.now.shared.now desk.now.starts bx seat.old seat.new hand.old hand.new d) }
-    ensures lost { OnErr result (BreaksOff desk.now.ground.instance.now desk.now.shared.now bx seat.old seat.new hand.old hand.new) }
+    ensures done { IfOk result (λ d. Answers desk.now.ground.instance.now desk.now.shared.now
+        desk.now.starts bx seat.old seat.new hand.old hand.new d) }
+    ensures lost { OnErr result (BreaksOff desk.now.ground.instance.now desk.now.shared.now bx
+        seat.old seat.new hand.old hand.new) }
 {
     desk.gate.pass(hand.worker, bx.id());
     desk.gate.sees(hand.loss);

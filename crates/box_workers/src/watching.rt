@@ -48,8 +48,10 @@ fn improvements(
 ) -> Result<Run<Entry>, Memory>
     requires first { IfSome (steps_of first.now) (IsComplete ground.instance.now) }
     requires best { IsBest ground.instance.now history.now.best history.now.plan }
-    requires no_worse { IsNoWorse ground.instance.now (steps_of first.now) (steps_of history.now.plan) }
-    ensures { IfOk result (λ list. AreOfSearch ground.entry.instance.now (steps_of first.now) history.now (found_in list.items)) }
+    requires no_worse { IsNoWorse ground.instance.now (steps_of first.now)
+        (steps_of history.now.plan) }
+    ensures { IfOk result (λ list. AreOfSearch ground.entry.instance.now
+        (steps_of first.now) history.now (found_in list.items)) }
 {
     // Read for its range.
     let _best = history.best;
@@ -75,7 +77,8 @@ fn with_improvements(
     requires best { IsBest ground.instance.now history.best history.plan }
     requires no_worse { IsNoWorse ground.instance.now (steps_of first.now) (steps_of history.plan) }
     ensures history { IfOk result (λ r. r.0 ≡ history) }
-    ensures improvements { IfOk result (λ r. AreOfSearch ground.entry.instance.now (steps_of first.now) r.0 (found_in r.1.items)) }
+    ensures improvements { IfOk result (λ r. AreOfSearch ground.entry.instance.now
+        (steps_of first.now) r.0 (found_in r.1.items)) }
 {
     let list = improvements(alloc, ground, first, entries, &history)?;
     Ok((history, list))
@@ -93,7 +96,8 @@ fn tell(
     requires best { IsBest ground.instance.now history.best history.plan }
     requires no_worse { IsNoWorse ground.instance.now (steps_of first.now) (steps_of history.plan) }
     ensures history { IfOk result (λ r. r.0 ≡ history) }
-    ensures improvements { IfOk result (λ r. AreOfSearch ground.entry.instance.now (steps_of first.now) r.0 (found_in r.1.items)) }
+    ensures improvements { IfOk result (λ r. AreOfSearch ground.entry.instance.now
+        (steps_of first.now) r.0 (found_in r.1.items)) }
 {
     let entries = board.close();
     with_improvements(alloc, ground, first, &entries, history)
@@ -131,10 +135,13 @@ pub fn search_watched<'d, R: Threads + Wait + Sync, G: Gate + Sync>(
     requires seat { IsSeatOf shared.now seat.old }
     requires newcomer { seat.old.view ≡ newcomer shared.now.first }
     requires floor { IsFloor instance.now shared.now.floor }
-    ensures lawful { IfOk result (λ r. IsLawful instance.now (course_of start.items shared.now) r.0) }
+    ensures lawful { IfOk result (λ r. IsLawful instance.now
+        (course_of start.items shared.now) r.0) }
     ensures seat { OnOk result (IsSeatOf shared.now seat.new × IsWhole seat.new.view) }
-    ensures shows { IfOk result (λ r. Shows instance.now shared.now start.items workers seat.new.view r.0) }
-    ensures improvements { IfOk result (λ r. AreOfSearch instance.now (steps_of first) r.0 (found_in r.1.items)) }
+    ensures shows { IfOk result (λ r. Shows instance.now shared.now start.items workers
+        seat.new.view r.0) }
+    ensures improvements { IfOk result (λ r. AreOfSearch instance.now (steps_of first) r.0
+        (found_in r.1.items)) }
 {
     // Read for its range.
     let _loss = first_loss(instance, &first);

@@ -42,9 +42,11 @@ pub enum Rest {
 fn find<R: Wait>(rt: &R, arm: &mut Arm, at_hand: &mut VecDeque<PlanBox>) -> Option<PlanBox>
     requires frames { All (λ (x : PlainBox). x.frame ≡ frame arm.old) at_hand.old.items }
     ensures stays { Stays arm.old arm.new }
-    ensures moves { Moves at_hand.old.items at_hand.new.items (option_to_list result) arm.old arm.new }
+    ensures moves { Moves at_hand.old.items at_hand.new.items
+        (option_to_list result) arm.old arm.new }
     ensures frames { All (λ (x : PlainBox). x.frame ≡ frame arm.new) at_hand.new.items }
-    ensures misses { arm.old.misses < 100000 → MatchOption result (arm.new.misses ≡ arm.old.misses + 1) (λ _. arm.new.misses ≡ 0) }
+    ensures misses { arm.old.misses < 100000 → MatchOption result (arm.new.misses
+        ≡ arm.old.misses + 1) (λ _. arm.new.misses ≡ 0) }
     ensures frame { IfSome result (λ x. x.frame ≡ frame arm.old) }
 {
     if let Some(bx) = at_hand.pop_back() {
@@ -135,18 +137,28 @@ fn handle_at_hand<G: Gate, Q: Poster>(
     poster: &mut Q,
 ) -> Result<bool, Memory>
     requires frame { bx.frame ≡ frame_of desk.now.ground.instance.now }
-    requires frames { All (λ (x : PlainBox). x.frame ≡ frame_of desk.now.ground.instance.now) at_hand.old.items }
+    requires frames { All (λ (x : PlainBox). x.frame
+        ≡ frame_of desk.now.ground.instance.now) at_hand.old.items }
     requires leasts { IsOf desk.now.ground.instance.now hand.old.leasts }
-    requires scratch { length hand.old.scratch.steps.items ≡ length desk.now.ground.instance.now.items }
+    requires scratch { length hand.old.scratch.steps.items
+        ≡ length desk.now.ground.instance.now.items }
     requires room { 1 ≤ hand.old.left.spare }
     requires seat { IsSeatOf desk.now.shared.now seat.old }
     requires allowance { 1 ≤ seat.old.view.allowance }
     ensures seat { IsSeatOf desk.now.shared.now seat.new }
-    ensures scratch { length hand.new.scratch.steps.items ≡ length desk.now.ground.instance.now.items }
+    ensures scratch { length hand.new.scratch.steps.items
+        ≡ length desk.now.ground.instance.now.items }
     ensures leasts { IsOf desk.now.ground.instance.now hand.new.leasts }
-    ensures frames { OnOk result (All (λ (x : PlainBox). x.frame ≡ frame_of desk.now.ground.instance.now) at_hand.new.items) }
-    ensures turns { let b = desk.now.ground.instance.now in IfOk result (λ more. MatchBool more (Turns b desk.now.shared.now desk.now.starts bx seat.old seat.new hand.old hand.new at_hand.old.items at_hand.new.items) (Stops b desk.now.shared.now bx seat.old seat.new hand.old hand.new × (at_hand.new.items ≡ at_hand.old.items))) }
-    ensures lost { OnErr result (BreaksOff desk.now.ground.instance.now desk.now.shared.now bx seat.old seat.new hand.old hand.new) }
+    ensures frames { OnOk result (All (λ (x : PlainBox). x.frame
+        ≡ frame_of desk.now.ground.instance.now) at_hand.new.items) }
+    ensures turns { let b = desk.now.ground.instance.now in
+        IfOk result (λ more. MatchBool more
+        (Turns b desk.now.shared.now desk.now.starts bx seat.old seat.new hand.old hand.new
+        at_hand.old.items at_hand.new.items)
+        (Stops b desk.now.shared.now bx seat.old seat.new hand.old hand.new
+        × (at_hand.new.items ≡ at_hand.old.items))) }
+    ensures lost { OnErr result (BreaksOff desk.now.ground.instance.now desk.now.shared.now bx
+        seat.old seat.new hand.old hand.new) }
 {
     at_hand.reserve(2)?;
     match turn(desk, seat, hand, bx, poster)? {
@@ -174,15 +186,19 @@ pub(crate) fn work_at<R: Wait, G: Gate, Q: Poster>(
     requires ring { frame arm.old ≡ frame_of desk.now.ground.instance.now }
     requires misses { arm.old.misses ≡ 0 }
     requires leasts { IsOf desk.now.ground.instance.now hand.old.leasts }
-    requires scratch { length hand.old.scratch.steps.items ≡ length desk.now.ground.instance.now.items }
+    requires scratch { length hand.old.scratch.steps.items
+        ≡ length desk.now.ground.instance.now.items }
     requires seat { IsSeatOf desk.now.shared.now seat.old }
     requires allowance { desk.now.shared.now.budget < seat.old.view.allowance }
     ensures seat { IsSeatOf desk.now.shared.now seat.new }
-    ensures scratch { length hand.new.scratch.steps.items ≡ length desk.now.ground.instance.now.items }
+    ensures scratch { length hand.new.scratch.steps.items
+        ≡ length desk.now.ground.instance.now.items }
     ensures leasts { IsOf desk.now.ground.instance.now hand.new.leasts }
     ensures stays { Stays arm.old arm.new }
-    ensures lost { OnErr result (BrokeOff desk.now.ground.instance.now desk.now.shared.now seat.old seat.new hand.old hand.new) }
-    ensures works { IfOk result (λ rest. Works desk.now.ground.instance.now desk.now.shared.now desk.now.starts seat.old seat.new hand.old hand.new arm.old arm.new rest) }
+    ensures lost { OnErr result (BrokeOff desk.now.ground.instance.now desk.now.shared.now seat.old
+        seat.new hand.old hand.new) }
+    ensures works { IfOk result (λ rest. Works desk.now.ground.instance.now desk.now.shared.now
+        desk.now.starts seat.old seat.new hand.old hand.new arm.old arm.new rest) }
 {
     // Read for its range.
     let _best = hand.loss;
@@ -246,8 +262,10 @@ pub fn work<'d, R: Wait, G: Gate, Q: Poster>(
     ensures scratch { length hand.new.scratch.steps.items ≡ length instance.now.items }
     ensures leasts { IsOf instance.now hand.new.leasts }
     ensures stays { Stays arm.old arm.new }
-    ensures lost { OnErr result (BrokeOff instance.now shared.now seat.old seat.new hand.old hand.new) }
-    ensures works { IfOk result (λ rest. Works instance.now shared.now starts seat.old seat.new hand.old hand.new arm.old arm.new rest) }
+    ensures lost { OnErr result (BrokeOff instance.now shared.now seat.old seat.new
+        hand.old hand.new) }
+    ensures works { IfOk result (λ rest. Works instance.now shared.now starts seat.old seat.new
+        hand.old hand.new arm.old arm.new rest) }
 {
     let desk = Desk {
         alloc,

@@ -6,9 +6,9 @@ use Rattle.cert_log.specs.declared.certificate.Certificate.{Certificate}
 use Rattle.cert_log.specs.declared.certificate.Node.{Node}
 use Rattle.cert_log.specs.declared.history.Cause.{Cause}
 use Rattle.cert_log.specs.Good.{IsGood}
+use Rattle.cert_log.specs.Visits.{Visit}
 use Rattle.cert_check.specs.declared.verdict.Why.{Why}
 use Rattle.cert_check.specs.Faults.{FailsToClose, FirstFails, IsFirstFault, IsFloorFault, NodeFails, SaysWrong}
-use Rattle.cert_check.specs.Visits.{Visit}
 
 not_of_cause : (b : Problem) (floor : ℕ) (loss : Option ℕ) (rs : List Ranges) (cause : Cause) (said found : ℕ) → FailsToClose b floor loss rs cause (Why.WrongFloor said found) → ⊥
 not_of_cause b floor loss rs (Cause.Reason r) said found fails = let e = fails.1.2 in cc e

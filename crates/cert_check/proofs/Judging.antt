@@ -8,17 +8,17 @@ use Rattle.plan_box.specs.Ranges.{Ranges}
 use Rattle.cert_log.specs.declared.certificate.Certificate.{Certificate}
 use Rattle.cert_log.specs.declared.certificate.Node.{Node}
 use Rattle.cert_log.specs.declared.history.Cause.{Cause}
-use Rattle.cert_log.specs.Good.{IsFloor, IsGood, MayClose, least_of, open_bounds}
+use Rattle.cert_log.specs.Good.{IsFloor, IsGood, MayClose, NodePasses, Passes, least_of, visit_bounds}
 use Rattle.cert_log.specs.Trees.{IsTree}
+use Rattle.cert_log.specs.Visits.{Visit, visits}
 use Rattle.cert_check.specs.declared.verdict.Why.{Why}
 use Rattle.cert_check.specs.declared.verdict.Verdict.{Verdict}
 use Rattle.cert_check.specs.declared.walk.Tally.{Tally}
 use Rattle.cert_check.specs.declared.walk.Walked.{Walked}
 use Rattle.cert_check.specs.Faults.{FailsToClose, NodeFails, FirstFails, SaysWrong, Answers}
-use Rattle.cert_check.specs.Visits.{Visit, visits, NodePasses, Passes, visit_bounds}
 use Rattle.cert_check.specs.inner.Walks.{visits_from}
 use Rattle.cert_check.specs.inner.Walks.{Finds, Closes, JudgesFloor}
-use Rattle.cert_check.proofs.Trees.{visits_whole, bounds_are, stands_from, stands_all}
+use Rattle.cert_check.proofs.Trees.{visits_whole}
 
 close_clash : (b : Problem) (floor : ℕ) (loss : Option ℕ) (rs : List Ranges) (cause : Cause) (why : Why) → MayClose b floor loss rs cause → FailsToClose b floor loss rs cause why → ⊥
 close_clash b floor loss rs (Cause.Reason r) why may fails = fails.0 may
@@ -43,10 +43,13 @@ pub good_visits : (b : Problem) (rs : List Ranges) (loss : Option ℕ) (c : Cert
 good_visits b rs loss c g = ap (λ (ns : List Node). visits_from (rs ∷ []) ns) g.nodes_are ∙ visits_whole g.tree rs
 
 pub good_passes : (b : Problem) (rs : List Ranges) (loss : Option ℕ) (c : Certificate) → IsGood b rs loss c → All (Passes b c.floor loss) (visits_from (rs ∷ []) c.nodes.items)
-good_passes b rs loss c g = subst (λ (xs : List Visit). All (Passes b c.floor loss) xs) (sym (good_visits b rs loss c g)) (stands_all b c.floor loss g.tree rs g.stands)
+good_passes b rs loss c g =
+    subst (λ (xs : List Visit). All (Passes b c.floor loss) xs) (sym (good_visits b rs loss c g)) g.passes
 
-good_bounds : (b : Problem) (rs : List Ranges) (loss : Option ℕ) (c : Certificate) (g : IsGood b rs loss c) → open_bounds b c.floor rs g.tree ≡ visit_bounds b c.floor (visits_from (rs ∷ []) c.nodes.items)
-good_bounds b rs loss c g = sym (ap (λ (xs : List Visit). visit_bounds b c.floor xs) (good_visits b rs loss c g) ∙ bounds_are b c.floor g.tree rs)
+good_bounds : (b : Problem) (rs : List Ranges) (loss : Option ℕ) (c : Certificate) (g : IsGood b rs loss c)
+    → visit_bounds b c.floor (visits rs g.tree) ≡ visit_bounds b c.floor (visits_from (rs ∷ []) c.nodes.items)
+good_bounds b rs loss c g =
+    ap (λ (xs : List Visit). visit_bounds b c.floor xs) (sym (good_visits b rs loss c g))
 
 -- what is not right is wrong, whichever check failed
 not_right : (b : Problem) (rs : List Ranges) (loss : Option ℕ) (c : Certificate) (why : Why) → ¬ IsGood b rs loss c → SaysWrong b rs loss c why
@@ -85,13 +88,13 @@ pub is_good : (b : Problem) (rs : List Ranges) (loss : Option ℕ) (c : Certific
     → c.left ≡ length (visit_bounds b c.floor (visits_from (rs ∷ []) c.nodes.items)) → c.bound ≡ least_of loss (visit_bounds b c.floor (visits_from (rs ∷ []) c.nodes.items)) → IsGood b rs loss c
 is_good b rs loss c tree same shown all left bound =
     let e : visits_from (rs ∷ []) c.nodes.items ≡ visits rs tree.0 = ap (λ (ns : List Node). visits_from (rs ∷ []) ns) tree.1 ∙ visits_whole tree.0 rs in
-    let f = ap (λ (xs : List Visit). visit_bounds b c.floor xs) e ∙ bounds_are b c.floor tree.0 rs in
+    let f = ap (λ (xs : List Visit). visit_bounds b c.floor xs) e in
     record {
       tree = tree.0;
       nodes_are = tree.1;
       loss_is = same;
       floor_is = shown;
-      stands = stands_from b c.floor loss tree.0 rs (subst (λ (xs : List Visit). All (Passes b c.floor loss) xs) e all);
+      passes = subst (λ (xs : List Visit). All (Passes b c.floor loss) xs) e all;
       left_is = left ∙ ap (λ (ns : List ℕ). length ns) f;
       bound_is = bound ∙ ap (λ (ns : List ℕ). least_of loss ns) f;
     }

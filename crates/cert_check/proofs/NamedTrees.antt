@@ -9,15 +9,16 @@ use Rattle.plan_box.specs.declared.var.Var.{Var}
 use Rattle.cert_log.specs.declared.certificate.Certificate.{Certificate}
 use Rattle.cert_log.specs.declared.certificate.Node.{Node}
 use Rattle.cert_log.specs.declared.history.Cause.{Cause}
-use Rattle.cert_log.specs.Good.{HasVersion, IsFloor, IsGood, IsVersion, MayClose, Stands, least_of, open_bounds}
+use Rattle.cert_log.specs.Good.{HasVersion, IsFloor, IsGood, IsVersion, MayClose, Passes, least_of, visit_bounds}
 use Rattle.cert_log.specs.Trees.{Tree, halved, closed, waiting, nodes_of, FitsVersion}
+use Rattle.cert_log.specs.Visits.{Visit, visits}
+use Rattle.cert_log.proofs.Walked.{Stands, open_bounds, all_back, all_front, bounds_are, good_of, stands_from}
 use Rattle.cert_check.specs.Causes.{IsNamed, AreNamed, IsReasoned, SameVerdict}
-use Rattle.cert_check.specs.Visits.{Visit, visits, Passes, visit_bounds}
 use Rattle.cert_check.specs.inner.Naming.{IsNamedAt}
 use Rattle.cert_check.specs.inner.Walks.{visits_from}
-use Rattle.cert_check.proofs.Judging.{good_passes, good_visits}
+use Rattle.cert_check.proofs.Judging.{good_visits}
 use Rattle.cert_check.proofs.Naming.{named_tree}
-use Rattle.cert_check.proofs.Trees.{all_back, all_front, bounds_are, stands_from, visits_whole}
+use Rattle.cert_check.proofs.Trees.{visits_whole}
 
 -- a box that may be closed for a cause may be closed for the one that is named
 close_named : (b : Problem) (floor : ℕ) (loss : Option ℕ) (rs : List Ranges) (cause named : Cause) → IsNamed b rs cause named → MayClose b floor loss rs cause → MayClose b floor loss rs named
@@ -101,11 +102,14 @@ all_named b version rs waiting waiting h fits = All-cons (FitsVersion (max 2 ver
 
 -- the nodes of a right certificate, read as any tree
 good_as : (b : Problem) (rs : List Ranges) (loss : Option ℕ) (c : Certificate) (g : IsGood b rs loss c) (t : Tree) → c.nodes.items ≡ nodes_of t
-    → Stands b c.floor loss rs t × (open_bounds b c.floor rs g.tree ≡ open_bounds b c.floor rs t)
+    → Stands b c.floor loss rs t × (visit_bounds b c.floor (visits rs g.tree) ≡ open_bounds b c.floor rs t)
 good_as b rs loss c g t e =
-    let v : visits_from (rs ∷ []) c.nodes.items ≡ visits rs t = ap (λ (ns : List Node). visits_from (rs ∷ []) ns) e ∙ visits_whole t rs in (
-      stands_from b c.floor loss t rs (subst (λ (xs : List Visit). All (Passes b c.floor loss) xs) v (good_passes b rs loss c g)),
-      sym (bounds_are b c.floor g.tree rs) ∙ ap (λ (xs : List Visit). visit_bounds b c.floor xs) (sym (good_visits b rs loss c g) ∙ v) ∙ bounds_are b c.floor t rs,
+    let v : visits rs g.tree ≡ visits rs t =
+    sym (good_visits b rs loss c g)
+    ∙ ap (λ (ns : List Node). visits_from (rs ∷ []) ns) e ∙ visits_whole t rs in
+    let passes = subst (λ (xs : List Visit). All (Passes b c.floor loss) xs) v g.passes in (
+      stands_from b c.floor loss t rs passes,
+      ap (λ (xs : List Visit). visit_bounds b c.floor xs) v ∙ bounds_are b c.floor t rs,
     )
 
 -- where the first certificate is right, the one that names its causes is
@@ -114,32 +118,22 @@ good_named b rs loss c d r g =
     let x = good_as b rs loss c g r.tree r.nodes_are in
     let a = alike b c.floor loss rs r.tree r.named r.are_named in
     let floor = sym r.floor in
-    let same : open_bounds b c.floor rs g.tree ≡ open_bounds b d.floor rs r.named = x.1 ∙ sym a.open_are ∙ ap (λ (n : ℕ). open_bounds b n rs r.named) floor in
-    record {
-      tree = r.named;
-      nodes_are = r.named_are;
-      loss_is = r.loss ∙ g.loss_is;
-      floor_is = subst (IsFloor b) floor g.floor_is;
-      stands = subst (λ (n : ℕ). Stands b n loss rs r.named) floor (a.stands x.0);
-      left_is = r.left ∙ g.left_is ∙ ap (λ (ns : List ℕ). length ns) same;
-      bound_is = r.bound ∙ g.bound_is ∙ ap (λ (ns : List ℕ). least_of loss ns) same;
-    }
+    let same = x.1 ∙ sym a.open_are ∙ ap (λ (n : ℕ). open_bounds b n rs r.named) floor in
+    good_of b rs loss d r.named r.named_are (r.loss ∙ g.loss_is) (subst (IsFloor b) floor g.floor_is)
+    (subst (λ (n : ℕ). Stands b n loss rs r.named) floor (a.stands x.0))
+    (r.left ∙ g.left_is ∙ ap (λ (ns : List ℕ). length ns) same)
+    (r.bound ∙ g.bound_is ∙ ap (λ (ns : List ℕ). least_of loss ns) same)
 
 good_unnamed : (b : Problem) (rs : List Ranges) (loss : Option ℕ) (c d : Certificate) → IsReasoned b rs c d → IsGood b rs loss d → IsGood b rs loss c
 good_unnamed b rs loss c d r g =
     let x = good_as b rs loss d g r.named r.named_are in
     let a = alike b d.floor loss rs r.tree r.named r.are_named in
     let floor = r.floor in
-    let same : open_bounds b d.floor rs g.tree ≡ open_bounds b c.floor rs r.tree = x.1 ∙ a.open_are ∙ ap (λ (n : ℕ). open_bounds b n rs r.tree) floor in
-    record {
-      tree = r.tree;
-      nodes_are = r.nodes_are;
-      loss_is = sym r.loss ∙ g.loss_is;
-      floor_is = subst (IsFloor b) floor g.floor_is;
-      stands = subst (λ (n : ℕ). Stands b n loss rs r.tree) floor (a.stood x.0);
-      left_is = sym r.left ∙ g.left_is ∙ ap (λ (ns : List ℕ). length ns) same;
-      bound_is = sym r.bound ∙ g.bound_is ∙ ap (λ (ns : List ℕ). least_of loss ns) same;
-    }
+    let same = x.1 ∙ a.open_are ∙ ap (λ (n : ℕ). open_bounds b n rs r.tree) floor in
+    good_of b rs loss c r.tree r.nodes_are (sym r.loss ∙ g.loss_is) (subst (IsFloor b) floor g.floor_is)
+    (subst (λ (n : ℕ). Stands b n loss rs r.tree) floor (a.stood x.0))
+    (sym r.left ∙ g.left_is ∙ ap (λ (ns : List ℕ). length ns) same)
+    (sym r.bound ∙ g.bound_is ∙ ap (λ (ns : List ℕ). least_of loss ns) same)
 
 pub same_verdict : SameVerdict
 same_verdict b rs loss c d bound left r = (

@@ -7,10 +7,10 @@ use Rattle.plan_box.specs.Halves.{lower_half, upper_half, half_at}
 use Rattle.plan_box.specs.Ranges.{Ranges}
 use Rattle.cert_log.specs.declared.certificate.Node.{Node}
 use Rattle.cert_log.specs.declared.certificate.Certificate.{Certificate}
-use Rattle.cert_log.specs.Good.{IsGood}
+use Rattle.cert_log.specs.Good.{IsGood, Passes}
 use Rattle.cert_log.specs.Trees.{Tree, halved, closed, waiting, nodes_of}
+use Rattle.cert_log.specs.Visits.{Visit, visits}
 use Rattle.cert_check.specs.Causes.{AreNamed}
-use Rattle.cert_check.specs.Visits.{Visit, visits, Passes}
 use Rattle.cert_check.specs.inner.Naming.{IsNamedNode, IsNamedAt, IsNaming}
 use Rattle.cert_check.specs.inner.Paths.{top, below}
 use Rattle.cert_check.specs.inner.Walks.{boxes_after, visits_from, HasCome, MayGo}

@@ -4,10 +4,11 @@ use Rattle.std.proofs.lemmas.List.{length-map, length-take-le, append-nil, map-a
 use Rattle.plan_box.specs.Ranges.{Ranges}
 use Rattle.cert_log.specs.declared.certificate.Node.{Node}
 use Rattle.cert_log.specs.Trees.{IsTree}
+use Rattle.cert_log.specs.Visits.{Visit}
+use Rattle.cert_log.proofs.Walked.{visits_count}
 use Rattle.cert_check.specs.inner.Paths.{top, below}
-use Rattle.cert_check.specs.Visits.{Visit}
 use Rattle.cert_check.specs.inner.Walks.{boxes_after, visits_from, HasCome}
-use Rattle.cert_check.proofs.Trees.{visits_whole, visits_count, empty_from}
+use Rattle.cert_check.proofs.Trees.{visits_whole, empty_from}
 
 -- nothing is walked yet
 pub comes_first : (root : List Ranges) (nodes : List Node) (boxes : List (List Ranges)) → boxes ≡ root ∷ [] → HasCome root nodes 0 boxes []

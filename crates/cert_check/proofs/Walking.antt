@@ -7,18 +7,18 @@ use Rattle.glass_base.specs.Problem.{Problem}
 use Rattle.plan_box.specs.Ranges.{Ranges}
 use Rattle.cert_log.specs.declared.certificate.Certificate.{Certificate}
 use Rattle.cert_log.specs.declared.certificate.Node.{Node}
-use Rattle.cert_log.specs.Good.{lesser, least_of}
+use Rattle.cert_log.specs.Good.{NodePasses, Passes, node_bounds, visit_bounds, lesser, least_of}
 use Rattle.cert_log.specs.Texts.{lines_of}
+use Rattle.cert_log.specs.Visits.{Visit}
+use Rattle.cert_log.proofs.Walked.{bounds_append}
 use Rattle.cert_check.specs.declared.verdict.Why.{Why}
 use Rattle.cert_check.specs.declared.walk.Tally.{Tally}
 use Rattle.cert_check.specs.declared.walk.Place.{Place}
 use Rattle.cert_check.specs.Faults.{IsNodeFault, NodeFails}
 use Rattle.cert_check.specs.inner.Paths.{top, below}
-use Rattle.cert_check.specs.Visits.{Visit, NodePasses, Passes, node_bounds, visit_bounds}
 use Rattle.cert_check.specs.inner.Walks.{boxes_after, visits_from}
 use Rattle.cert_check.specs.inner.Walks.{MayGo, Reads, Counts, IsWalking, ends_open, joins}
 use Rattle.cert_check.proofs.Lines.{line_more, no_lines, ends_push}
-use Rattle.cert_check.proofs.Trees.{bounds_append}
 use Rattle.cert_check.proofs.Visiting.{comes_first, comes_further, done_count, next_visit, one_taken}
 
 pub may_go : (b : Problem) (floor : ℕ) (loss : Option ℕ) (rs : List Ranges) (n : Node) → NodePasses b floor loss rs n → MayGo rs n

@@ -9,12 +9,12 @@ use Rattle.plan_box.specs.declared.reason.Reason.{Reason}
 use Rattle.cert_log.specs.declared.certificate.Certificate.{Certificate}
 use Rattle.cert_log.specs.declared.certificate.Node.{Node}
 use Rattle.cert_log.specs.declared.history.Cause.{Cause}
-use Rattle.cert_log.specs.Good.{Reaches, least_of, IsFloor, IsGood}
+use Rattle.cert_log.specs.Good.{Reaches, Passes, visit_bounds, least_of, IsFloor, IsGood}
 use Rattle.cert_log.specs.Texts.{lines_of}
 use Rattle.cert_log.specs.Trees.{Tree, nodes_of}
+use Rattle.cert_log.specs.Visits.{Visit, visits}
 use Rattle.cert_check.specs.declared.verdict.Why.{Why}
 use Rattle.cert_check.specs.declared.verdict.Verdict.{Verdict}
-use Rattle.cert_check.specs.Visits.{Visit, visits, Passes, visit_bounds}
 
 -- the number of the first reason that applies to the box, 0 where none does
 abbrev pub IsFound : Problem → List Ranges → ℕ → Type 0

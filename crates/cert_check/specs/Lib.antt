@@ -1,4 +1,3 @@
-pub mod Visits
 pub mod Faults
 pub mod Causes
 pub mod inner

@@ -70,7 +70,8 @@ fn reached(instance: &Instance, total: u64, steps: &[Decided]) -> u64
 /// The least length of a trace in the box of which these are the decided steps.
 pub fn least_length(instance: &Instance, steps: &[Decided]) -> u64
     requires { All (λ k. AreWithin 40000000 (known_in k)) steps.now }
-    ensures value { (rs : List Ranges) → map fixed_of steps.now ≡ known instance.now rs → result ≡ least_length_of instance.now rs }
+    ensures value { (rs : List Ranges) → map fixed_of steps.now ≡ known instance.now rs
+        → result ≡ least_length_of instance.now rs }
     ensures small { result ≤ 810000000000000 }
 {
     let total = instance.area();

@@ -61,7 +61,8 @@ pub fn check_cert(
     requires map { map.now ≡ instance.now.defects }
     requires tree { IsTree cert.now.nodes.items }
     requires version { IsVersionNumber cert.now.version }
-    ensures { IfOk result (Answers instance.now (root_of (frame_of instance.now) 0).ranges loss cert.now) }
+    ensures { IfOk result (Answers instance.now
+        (root_of (frame_of instance.now) 0).ranges loss cert.now) }
 {
     if cert.loss != loss {
         return Ok(Verdict::Refuse {

@@ -16,7 +16,8 @@ fn with_cell(instance: &Instance, step: Decided, from: u32, ranges: &Packed) -> 
     requires e { (unpacked ranges.now).e.low + step.cell_w < 2 ^ 32 }
     requires from { from + step.cell_w < 2 ^ 32 }
     requires d { step.least_c + step.cell_h < 2 ^ 32 }
-    ensures { fixed_of result ≡ fixed step.level (cell_known instance.now (place_in step) (known_in step) from (unpacked ranges.now)) }
+    ensures { fixed_of result ≡ fixed step.level
+        (cell_known instance.now (place_in step) (known_in step) from (unpacked ranges.now)) }
 {
     let (low, high) = ranges.range(Var::E);
     let left = low.max(from);
@@ -36,7 +37,8 @@ fn with_band(instance: &Instance, step: Decided, from: u32, ranges: &Packed) -> 
     requires a { step.least_a ≤ 40000000 }
     requires from { from ≤ 40000000 }
     requires cell_h { step.cell_h ≤ 40000000 }
-    ensures { fixed_of result ≡ fixed step.level (band_known instance.now (place_in step) (known_in step) from (unpacked ranges.now)) }
+    ensures { fixed_of result ≡ fixed step.level
+        (band_known instance.now (place_in step) (known_in step) from (unpacked ranges.now)) }
 {
     let c = ranges.range(Var::C);
     let d = ranges.range(Var::D);
@@ -57,7 +59,8 @@ fn with_strip(instance: &Instance, step: Decided, from: u32, ranges: &Packed) ->
     requires cell_w { step.cell_w ≤ 20000 }
     requires from { from ≤ 40000000 }
     requires cell_h { step.cell_h ≤ 40000000 }
-    ensures { fixed_of result ≡ fixed step.level (strip_known instance.now (place_in step) (known_in step) from (unpacked ranges.now)) }
+    ensures { fixed_of result ≡ fixed step.level
+        (strip_known instance.now (place_in step) (known_in step) from (unpacked ranges.now)) }
 {
     let a = ranges.range(Var::A);
     let b = ranges.range(Var::B);
@@ -84,7 +87,9 @@ pub fn with_cuts(instance: &Instance, last: &Decided, step: Decided, ranges: &Pa
     requires e { last.now.least_e + last.now.cell_w ≤ 40000000 }
     requires c { last.now.least_c ≤ 40000000 }
     requires behind { known_in step ≡ with_place (known_in last.now) (place_in step) }
-    ensures { fixed_of result ≡ fixed step.level (next_known instance.now step.level (place_in step) (known_in last.now) (unpacked ranges.now)) }
+    ensures { fixed_of result ≡ fixed step.level
+        (next_known instance.now step.level (place_in step) (known_in last.now)
+        (unpacked ranges.now)) }
 {
     match step.level {
         Level::NewPlate => with_strip(instance, step, 0, ranges),
@@ -100,7 +105,8 @@ pub fn with_cuts(instance: &Instance, last: &Decided, step: Decided, ranges: &Pa
 
 /// With the least values that the next step has for the same strip and band.
 pub fn settled(step: Decided, next: &Decided) -> Decided
-    ensures { fixed_of result ≡ fixed step.level (settled_known next.now.level (known_in step) (known_in next.now)) }
+    ensures { fixed_of result ≡ fixed step.level
+        (settled_known next.now.level (known_in step) (known_in next.now)) }
 {
     match next.level {
         Level::NewPlate | Level::NewStrip => step,

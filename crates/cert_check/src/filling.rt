@@ -46,7 +46,8 @@ fn next(
     requires few { length before.now < 800 }
     requires ranges { AreRangesWithin (unpacked ranges.now) }
     requires within { AreWithin (limit (length before.now)) (known_in last.now) }
-    ensures { fixed_of result ≡ next_fixed instance.now (draws_of before.now) (known_in last.now) (unpacked ranges.now) }
+    ensures { fixed_of result ≡ next_fixed instance.now (draws_of before.now) (known_in last.now)
+        (unpacked ranges.now) }
 {
     let level = level_behind(before, ranges.range(Var::Kind).0);
     let step = next_place(instance, taken, last, level, ranges);
@@ -61,7 +62,8 @@ fn follow(instance: &Instance, ranges: &[Packed], steps: &mut Run<Decided>, take
     requires taken { length taken.old.items ≡ 800 }
     ensures many { length steps.new.items ≡ length steps.old.items }
     ensures taken { length taken.new.items ≡ 800 }
-    ensures steps { map fixed_of (take (length ranges.now) steps.new.items) ≡ follow_of instance.now [] no_known (map unpacked ranges.now) }
+    ensures steps { map fixed_of (take (length ranges.now) steps.new.items)
+        ≡ follow_of instance.now [] no_known (map unpacked ranges.now) }
 {
     let _items = instance.items();
     clear(taken, ranges);
@@ -75,7 +77,8 @@ fn follow(instance: &Instance, ranges: &[Packed], steps: &mut Run<Decided>, take
 
 /// A step with the least values of the next one, if there is one, for the same strip and band.
 fn settled_by(step: Decided, later: &[Decided]) -> Decided
-    ensures { fixed_of result ≡ fixed step.level (settle_at (known_in step) (map fixed_of later.now)) }
+    ensures { fixed_of result ≡ fixed step.level
+        (settle_at (known_in step) (map fixed_of later.now)) }
 {
     match later.first() {
         None => step,
@@ -87,7 +90,8 @@ fn settled_by(step: Decided, later: &[Decided]) -> Decided
 fn settle(steps: &mut Run<Decided>, count: usize)
     requires { count ≤ length steps.old.items }
     ensures many { length steps.new.items ≡ length steps.old.items }
-    ensures steps { map fixed_of (take count steps.new.items) ≡ settle_of (map fixed_of (take count steps.old.items)) }
+    ensures steps { map fixed_of (take count steps.new.items)
+        ≡ settle_of (map fixed_of (take count steps.old.items)) }
 {
     for i in (0..count).rev() {
         let here = steps.as_slice()[i];

@@ -35,7 +35,8 @@ fn is_wedged(
 ) -> bool
     requires before { before.0 < 2 ^ 40 }
     requires ends { ends.0 < 2 ^ 40 }
-    ensures { IsTrue result ↔ (Tight waste before.0 before.1 begins.0 begins.1 ⊎ (IsTrue is_last × Tight waste ends.0 ends.1 room.0 room.1)) }
+    ensures { IsTrue result ↔ (Tight waste before.0 before.1 begins.0 begins.1
+        ⊎ (IsTrue is_last × Tight waste ends.0 ends.1 room.0 room.1)) }
 {
     is_tight(waste, before, begins) || (is_last && is_tight(waste, ends, room))
 }
@@ -70,7 +71,11 @@ fn strip_behind(
     later: &[Decided],
 ) -> bool
     requires { before.0 < 2 ^ 40 }
-    ensures { let k = known_in here.now in IsTrue result ↔ (Tight instance.now.params.waste before.0 before.1 k.least_a k.high_a ⊎ (IsTrue (last_strip whole (levels_in later.now)) × Tight instance.now.params.waste k.least_b k.high_b (Width instance.now k.plate) (Width instance.now k.plate))) }
+    ensures { let k = known_in here.now in IsTrue result
+        ↔ (Tight instance.now.params.waste before.0 before.1 k.least_a k.high_a
+        ⊎ (IsTrue (last_strip whole (levels_in later.now))
+        × Tight instance.now.params.waste k.least_b k.high_b (Width instance.now k.plate)
+        (Width instance.now k.plate))) }
 {
     let width = instance.width(here.plate());
     is_wedged(
@@ -91,7 +96,8 @@ fn strip_gap(
     here: &Decided,
     later: &[Decided],
 ) -> bool
-    ensures { IsTrue result ↔ StripR2 instance.now whole here.now.level (known_in last.now) (known_in here.now) (levels_in later.now) }
+    ensures { IsTrue result ↔ StripR2 instance.now whole here.now.level (known_in last.now)
+        (known_in here.now) (levels_in later.now) }
 {
     let strip_before = cut(last.least_b, last.high_b);
     match here.level {
@@ -110,7 +116,10 @@ fn band_behind(
     later: &[Decided],
 ) -> bool
     requires { before.0 < 2 ^ 40 }
-    ensures { let k = known_in here.now in IsTrue result ↔ (Tight params.now.waste before.0 before.1 k.least_c k.high_c ⊎ (IsTrue (last_band whole (levels_in later.now)) × Tight params.now.waste k.least_d k.high_d params.now.height params.now.height)) }
+    ensures { let k = known_in here.now in IsTrue result
+        ↔ (Tight params.now.waste before.0 before.1 k.least_c k.high_c
+        ⊎ (IsTrue (last_band whole (levels_in later.now))
+        × Tight params.now.waste k.least_d k.high_d params.now.height params.now.height)) }
 {
     let height = params.height;
     is_wedged(
@@ -125,7 +134,8 @@ fn band_behind(
 
 /// The gaps beside a band that the step begins.
 fn band_gap(params: &Params, whole: bool, last: &Decided, here: &Decided, later: &[Decided]) -> bool
-    ensures { IsTrue result ↔ BandR2 params.now whole here.now.level (known_in last.now) (known_in here.now) (levels_in later.now) }
+    ensures { IsTrue result ↔ BandR2 params.now whole here.now.level (known_in last.now)
+        (known_in here.now) (levels_in later.now) }
 {
     let band_before = cut(last.least_d, last.high_d);
     match here.level {
@@ -144,7 +154,10 @@ fn cell_behind(
     later: &[Decided],
 ) -> bool
     requires { before.0 < 2 ^ 40 }
-    ensures { let k = known_in here.now in IsTrue result ↔ (Tight params.now.waste before.0 before.1 k.least_e k.high_e ⊎ (IsTrue (last_cell whole (levels_in later.now)) × Tight params.now.waste (k.least_e + k.cell_w) (k.high_e + k.cell_w) k.least_b k.high_b)) }
+    ensures { let k = known_in here.now in IsTrue result
+        ↔ (Tight params.now.waste before.0 before.1 k.least_e k.high_e
+        ⊎ (IsTrue (last_cell whole (levels_in later.now))
+        × Tight params.now.waste (k.least_e + k.cell_w) (k.high_e + k.cell_w) k.least_b k.high_b)) }
 {
     is_wedged(
         params.waste,
@@ -158,7 +171,8 @@ fn cell_behind(
 
 /// The gaps beside a cell that the step begins.
 fn cell_gap(params: &Params, whole: bool, last: &Decided, here: &Decided, later: &[Decided]) -> bool
-    ensures { IsTrue result ↔ CellR2 params.now whole here.now.level (known_in last.now) (known_in here.now) (levels_in later.now) }
+    ensures { IsTrue result ↔ CellR2 params.now whole here.now.level (known_in last.now)
+        (known_in here.now) (levels_in later.now) }
 {
     let strip = cut(here.least_a, here.high_a);
     let cell_before = cut_behind(last.least_e, last.high_e, last.cell_w);
@@ -173,7 +187,9 @@ fn cell_gap(params: &Params, whole: bool, last: &Decided, here: &Decided, later:
 
 /// What is left over the only item of a finished cell, where it is not lifted.
 fn over_one(params: &Params, whole: bool, here: &Decided, later: &[Decided]) -> bool
-    ensures { (m : LevelOf) (j : Known) → IsTrue result ↔ TopR2 params.now whole m NewCell here.now.lift j (known_in here.now) (levels_in later.now) }
+    ensures { (m : LevelOf) (j : Known) → IsTrue result
+        ↔ TopR2 params.now whole m NewCell here.now.lift j (known_in here.now)
+        (levels_in later.now) }
 {
     here.lift == 0
         && is_last_in_cell(whole, later)
@@ -186,7 +202,9 @@ fn over_one(params: &Params, whole: bool, here: &Decided, later: &[Decided]) -> 
 
 /// What is left over the second item of a cell with no third one.
 fn over_two(last: &Decided, here: &Decided, later: &[Decided]) -> bool
-    ensures { (p : ParamsOf) (whole : Bool) → IsTrue result ↔ TopR2 p whole last.now.level Over here.now.lift (known_in last.now) (known_in here.now) (levels_in later.now) }
+    ensures { (p : ParamsOf) (whole : Bool) → IsTrue result
+        ↔ TopR2 p whole last.now.level Over here.now.lift (known_in last.now) (known_in here.now)
+        (levels_in later.now) }
 {
     let high_c = here.high_c;
     let both = u64::from(last.h) + u64::from(here.h);
@@ -198,7 +216,8 @@ fn over_two(last: &Decided, here: &Decided, later: &[Decided]) -> bool
 
 /// What is left over the items of a cell.
 fn top_gap(params: &Params, whole: bool, last: &Decided, here: &Decided, later: &[Decided]) -> bool
-    ensures { IsTrue result ↔ TopR2 params.now whole last.now.level here.now.level here.now.lift (known_in last.now) (known_in here.now) (levels_in later.now) }
+    ensures { IsTrue result ↔ TopR2 params.now whole last.now.level here.now.level here.now.lift
+        (known_in last.now) (known_in here.now) (levels_in later.now) }
 {
     if matches!(here.level, Level::Over) {
         over_two(last, here, later)
@@ -215,7 +234,8 @@ pub fn has_narrow_gap(
     here: &Decided,
     later: &[Decided],
 ) -> bool
-    ensures { IsTrue result ↔ StepR2 instance.now whole last.now.level (known_in last.now) here.now.level (known_in here.now) (levels_in later.now) }
+    ensures { IsTrue result ↔ StepR2 instance.now whole last.now.level
+        (known_in last.now) here.now.level (known_in here.now) (levels_in later.now) }
 {
     let params = instance.params();
     strip_gap(instance, whole, last, here, later)

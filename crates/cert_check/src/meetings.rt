@@ -53,7 +53,8 @@ pub fn item_met(defects: &DefectMap, here: &Decided) -> bool
 
 /// The sides of the strip.
 fn strip_met(ground: Ground<'_>, here: &Decided) -> bool
-    ensures { let b = ground.entry.instance.now in IsTrue result ↔ StripMet b b.defects (known_in here.now) }
+    ensures { let b = ground.entry.instance.now in IsTrue result
+        ↔ StripMet b b.defects (known_in here.now) }
 {
     let plate = here.plate();
     let height = ground.instance.params().height;
@@ -149,7 +150,8 @@ fn line_met(defects: &DefectMap, here: &Decided) -> bool
 /// Whether a cut of the step runs through one defect at every place of its ranges.
 pub fn cut_met(ground: Ground<'_>, here: &Decided) -> bool
     requires within { AreWithin 40000000 (known_in here.now) }
-    ensures { (m : LevelOf) (j : Known) (later : List LevelOf) → IsTrue result ↔ StepR4 ground.entry.instance.now m j here.now.level (known_in here.now) later }
+    ensures { (m : LevelOf) (j : Known) (later : List LevelOf) → IsTrue result
+        ↔ StepR4 ground.entry.instance.now m j here.now.level (known_in here.now) later }
 {
     strip_met(ground, here)
         || band_met(ground.instance.params(), ground.map, here)

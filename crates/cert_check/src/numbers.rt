@@ -12,7 +12,8 @@ use plan_trace::level::Level;
 
 /// Whether a cut can lie nowhere.
 pub fn has_no_place(here: &Decided) -> bool
-    ensures { (m : LevelOf) (j : Known) (later : List LevelOf) → IsTrue result ↔ StepR1 m j here.now.level (known_in here.now) later }
+    ensures { (m : LevelOf) (j : Known) (later : List LevelOf) → IsTrue result
+        ↔ StepR1 m j here.now.level (known_in here.now) later }
 {
     here.high_a < here.least_a
         || here.high_b < here.least_b
@@ -23,7 +24,8 @@ pub fn has_no_place(here: &Decided) -> bool
 
 /// Whether the strip is wider than allowed at every place.
 pub fn is_too_wide(params: &Params, here: &Decided) -> bool
-    ensures { (m : LevelOf) (j : Known) (later : List LevelOf) → IsTrue result ↔ StepR5 params.now m j here.now.level (known_in here.now) later }
+    ensures { (m : LevelOf) (j : Known) (later : List LevelOf) → IsTrue result
+        ↔ StepR5 params.now m j here.now.level (known_in here.now) later }
 {
     let high_a = u64::from(here.high_a);
     let widest = params.max1;
@@ -32,7 +34,8 @@ pub fn is_too_wide(params: &Params, here: &Decided) -> bool
 
 /// Whether an item that is to lie over the one before cannot: they are not as wide, or one is lifted, or that one is not the first.
 fn is_wrong_over(last: &Decided, here: &Decided) -> bool
-    ensures { IsTrue result ↔ OverR6 last.now.level here.now.level (known_in last.now) (known_in here.now) }
+    ensures { IsTrue result ↔ OverR6 last.now.level here.now.level (known_in last.now)
+        (known_in here.now) }
 {
     matches!(here.level, Level::Over)
         && (1 <= here.lift
@@ -43,7 +46,9 @@ fn is_wrong_over(last: &Decided, here: &Decided) -> bool
 
 /// Whether the discrete numbers break a rule.
 pub fn breaks_a_rule(params: &Params, last: &Decided, here: &Decided) -> bool
-    ensures { (later : List LevelOf) → IsTrue result ↔ StepR6 params.now last.now.level (known_in last.now) here.now.level (known_in here.now) later }
+    ensures { (later : List LevelOf) → IsTrue result
+        ↔ StepR6 params.now last.now.level (known_in last.now) here.now.level
+        (known_in here.now) later }
 {
     here.plates < 1
         || params.plates < here.plates

@@ -71,7 +71,9 @@ fn replace(stored: &mut Run<Packed>, frame: Frame, step: u32, var: Var, low: u32
     requires within { high ≤ (span_of var (full_ranges frame)).high }
     ensures stored { AreStored frame stored.new.items }
     ensures each_step { length stored.new.items ≡ length stored.old.items }
-    ensures ranges { map unpacked stored.new.items ≡ half_at (λ _. record { low = low; high = high }) (map unpacked stored.old.items) step var }
+    ensures ranges { map unpacked stored.new.items
+        ≡ half_at (λ _. record { low = low; high = high })
+        (map unpacked stored.old.items) step var }
 {
     let old = stored.as_slice()[step as usize];
     stored.set(step as usize, old.with(var, low, high));
@@ -81,7 +83,8 @@ fn replace(stored: &mut Run<Packed>, frame: Frame, step: u32, var: Var, low: u32
 fn back(stored: &mut Run<Packed>, turns: &mut Run<Turn>, frame: Frame) -> bool
     requires path { IsPathOf frame stored.old.items turns.old.items }
     ensures path { IsPathOf frame stored.new.items turns.new.items }
-    ensures boxes { boxes_of (not result) (map unpacked stored.new.items) turns.new.items ≡ beside (map unpacked stored.old.items) (reverse turns.old.items) }
+    ensures boxes { boxes_of (not result) (map unpacked stored.new.items) turns.new.items
+        ≡ beside (map unpacked stored.old.items) (reverse turns.old.items) }
 {
     while let Some(&turn) = turns.as_slice().last() {
         if !turn.upper {
@@ -113,9 +116,14 @@ fn enter(
 ) -> Result<(), Memory>
     requires path { IsPathOf frame stored.old.items turns.old.items }
     requires free { IsTrue (is_free (map unpacked stored.old.items) step var) }
-    requires wide { (span_of var (slice_index_or (map unpacked stored.old.items) step (full_ranges frame))).low < (span_of var (slice_index_or (map unpacked stored.old.items) step (full_ranges frame))).high }
+    requires wide { (span_of var (slice_index_or (map unpacked stored.old.items) step
+        (full_ranges frame))).low < (span_of var
+        (slice_index_or (map unpacked stored.old.items) step (full_ranges frame))).high }
     ensures path { IsPathOf frame stored.new.items turns.new.items }
-    ensures boxes { OnOk result (boxes_of false (map unpacked stored.new.items) turns.new.items ≡ half_at lower_half (map unpacked stored.old.items) step var ∷ half_at upper_half (map unpacked stored.old.items) step var ∷ beside (map unpacked stored.old.items) (reverse turns.old.items)) }
+    ensures boxes { OnOk result (boxes_of false (map unpacked stored.new.items) turns.new.items
+        ≡ half_at lower_half (map unpacked stored.old.items) step var
+        ∷ half_at upper_half (map unpacked stored.old.items) step var
+        ∷ beside (map unpacked stored.old.items) (reverse turns.old.items)) }
 {
     let (low, high) = stored.as_slice()[step as usize].range(var);
     append(
@@ -146,7 +154,8 @@ impl Path {
     /// The path to the root box, whose ranges are full.
     pub fn new(alloc: Global, instance: &Instance) -> Result<Path, Memory>
         ensures frame { IfOk result (λ p. p.frame ≡ frame_of instance.now) }
-        ensures boxes { IfOk result (λ p. p.boxes ≡ (root_of (frame_of instance.now) 0).ranges ∷ []) }
+        ensures boxes { IfOk result (λ p. p.boxes ≡
+            (root_of (frame_of instance.now) 0).ranges ∷ []) }
     {
         let frame = Frame::of(instance);
         Ok(Path {
@@ -173,7 +182,9 @@ impl Path {
         requires waits { self.old.boxes ≢ [] }
         requires free { IsTrue (is_free (top self.old.boxes) step var) }
         ensures frame { self.new.frame ≡ self.old.frame }
-        ensures boxes { OnOk result (self.new.boxes ≡ half_at lower_half (top self.old.boxes) step var ∷ half_at upper_half (top self.old.boxes) step var ∷ below self.old.boxes) }
+        ensures boxes { OnOk result (self.new.boxes
+            ≡ half_at lower_half (top self.old.boxes) step var
+            ∷ half_at upper_half (top self.old.boxes) step var ∷ below self.old.boxes) }
     {
         enter(&mut self.stored, &mut self.turns, self.frame, step, var)
     }
@@ -192,7 +203,8 @@ impl Path {
         requires waits { self.old.boxes ≢ [] }
         requires may_go { MayGo (top self.old.boxes) node }
         ensures frame { self.new.frame ≡ self.old.frame }
-        ensures boxes { OnOk result (self.new.boxes ≡ boxes_after node (top self.old.boxes) (below self.old.boxes)) }
+        ensures boxes { OnOk result (self.new.boxes
+            ≡ boxes_after node (top self.old.boxes) (below self.old.boxes)) }
     {
         match node {
             Node::Split { step, var } => self.split(step, var),

@@ -51,7 +51,9 @@ fn grown(last: &Decided, step: Decided, own: u32) -> Decided
     requires band_area { last.now.band_area ≤ 1000000000000 }
     requires area { last.now.area ≤ 1000000000000 }
     ensures item { result.item ≡ step.item }
-    ensures value { fixed_of result ≡ fixed step.level (with_place (known_in step) (grown_place step.level (place_in last.now) (place_in step) own)) }
+    ensures value { fixed_of result ≡ fixed step.level
+        (with_place (known_in step) (grown_place step.level (place_in last.now)
+        (place_in step) own)) }
 {
     let area = u64::from(step.w) * u64::from(step.h);
     let begun = Decided {
@@ -101,7 +103,10 @@ pub fn next_place(
     requires band_w { last.now.band_w ≤ 40000000 }
     requires band_area { last.now.band_area ≤ 1000000000000 }
     requires area { last.now.area ≤ 1000000000000 }
-    ensures value { (before : List Draw) → taken ≡ drawn_of before (unpacked ranges.now).stack.low → level ≡ begins before (unpacked ranges.now).kind.low → fixed_of result ≡ fixed level (with_place (known_in last.now) (place_of instance.now before (place_in last.now) (draw_at (unpacked ranges.now)))) }
+    ensures value { (before : List Draw) → taken ≡ drawn_of before (unpacked ranges.now).stack.low
+        → level ≡ begins before (unpacked ranges.now).kind.low
+        → fixed_of result ≡ fixed level (with_place (known_in last.now)
+        (place_of instance.now before (place_in last.now) (draw_at (unpacked ranges.now)))) }
     ensures item { IfSome result.item IsItemInRange }
     ensures rules { IsProblem instance.now }
 {

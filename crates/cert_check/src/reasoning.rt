@@ -83,11 +83,14 @@ fn name_on(
     path: &mut Path,
     scratch: &mut Scratch,
 ) -> Result<Run<Node>, Memory>
-    requires good { IsGood ground.instance.now (root_of (frame_of ground.instance.now) 0).ranges cert.now.loss cert.now }
+    requires good { IsGood ground.instance.now (root_of
+        (frame_of ground.instance.now) 0).ranges cert.now.loss cert.now }
     requires frame { path.old.frame ≡ frame_of ground.instance.now }
     requires boxes { path.old.boxes ≡ (root_of (frame_of ground.instance.now) 0).ranges ∷ [] }
     requires room { HasRoom (length ground.instance.now.items) scratch.old }
-    ensures { let b = ground.entry.instance.now in IfOk result (λ run. AllZip (IsNamedAt b) (visits_from ((root_of (frame_of b) 0).ranges ∷ []) cert.now.nodes.items) run.items) }
+    ensures { let b = ground.entry.instance.now in
+        IfOk result (λ run. AllZip (IsNamedAt b)
+        (visits_from ((root_of (frame_of b) 0).ranges ∷ []) cert.now.nodes.items) run.items) }
 {
     let mut nodes = Run::new(alloc);
     for node in cert.nodes.as_slice() {
@@ -100,8 +103,11 @@ fn name_on(
 
 /// The nodes of a certificate with their causes named.
 fn name_nodes(alloc: Global, ground: Ground<'_>, cert: &Certificate) -> Result<Run<Node>, Memory>
-    requires good { IsGood ground.instance.now (root_of (frame_of ground.instance.now) 0).ranges cert.now.loss cert.now }
-    ensures { let b = ground.entry.instance.now in IfOk result (λ run. AllZip (IsNamedAt b) (visits_from ((root_of (frame_of b) 0).ranges ∷ []) cert.now.nodes.items) run.items) }
+    requires good { IsGood ground.instance.now (root_of
+        (frame_of ground.instance.now) 0).ranges cert.now.loss cert.now }
+    ensures { let b = ground.entry.instance.now in
+        IfOk result (λ run. AllZip (IsNamedAt b)
+        (visits_from ((root_of (frame_of b) 0).ranges ∷ []) cert.now.nodes.items) run.items) }
 {
     let mut path = Path::new(alloc, ground.instance)?;
     let mut scratch = Scratch::new(alloc, ground.instance.items().len())?;
@@ -119,10 +125,13 @@ pub fn reasoned(
     cert: &Certificate,
 ) -> Result<Certificate, Memory>
     requires map { map.now ≡ instance.now.defects }
-    requires good { IsGood instance.now (root_of (frame_of instance.now) 0).ranges cert.now.loss cert.now }
+    requires good { IsGood instance.now (root_of
+        (frame_of instance.now) 0).ranges cert.now.loss cert.now }
     requires version { HasVersion cert.now }
-    ensures good { IfOk result (λ d. IsGood instance.now (root_of (frame_of instance.now) 0).ranges cert.now.loss d) }
-    ensures reasoned { IfOk result (λ d. IsReasoned instance.now (root_of (frame_of instance.now) 0).ranges cert.now d) }
+    ensures good { IfOk result (λ d. IsGood instance.now
+        (root_of (frame_of instance.now) 0).ranges cert.now.loss d) }
+    ensures reasoned { IfOk result (λ d. IsReasoned instance.now
+        (root_of (frame_of instance.now) 0).ranges cert.now d) }
     ensures version { IfOk result HasVersion }
     ensures later { IfOk result (λ d. 2 ≤ d.version) }
 {

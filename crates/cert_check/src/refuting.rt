@@ -36,7 +36,8 @@ fn is_fact_at(
     later: &[Decided],
 ) -> bool
     requires within { AreWithin 40000000 (known_in here.now) }
-    ensures { IsTrue result ↔ FactOf ground.entry.instance.now whole reason last.now.level (known_in last.now) here.now.level (known_in here.now) (levels_in later.now) }
+    ensures { IsTrue result ↔ FactOf ground.entry.instance.now whole reason last.now.level
+        (known_in last.now) here.now.level (known_in here.now) (levels_in later.now) }
 {
     let params = ground.instance.params();
     match reason {
@@ -53,7 +54,8 @@ fn is_fact_at(
 /// Whether a reason is a fact at one of these decided steps.
 fn is_fact_at_some(ground: Ground<'_>, whole: bool, reason: Reason, steps: &[Decided]) -> bool
     requires within { All (λ k. AreWithin 40000000 (known_in k)) steps.now }
-    ensures { IsTrue result ↔ SomeFixed (FactOf ground.entry.instance.now whole reason) NewPlate no_known (map fixed_of steps.now) }
+    ensures { IsTrue result ↔ SomeFixed (FactOf ground.entry.instance.now whole reason) NewPlate
+        no_known (map fixed_of steps.now) }
 {
     let mut last = Decided::none();
     for (i, here) in steps.iter().enumerate() {
@@ -68,7 +70,8 @@ fn is_fact_at_some(ground: Ground<'_>, whole: bool, reason: Reason, steps: &[Dec
 /// The same of the box of these ranges, of which these are the decided steps.
 fn is_fact(ground: Ground<'_>, ranges: &[Packed], steps: &[Decided], reason: Reason) -> bool
     requires known { AreKnown ground.instance.now (map unpacked ranges.now) steps.now }
-    ensures { let b = ground.entry.instance.now in let rs = map unpacked ranges.now in IsTrue result ↔ AtSome (FactOf b (all_decided rs) reason) b rs }
+    ensures { let b = ground.entry.instance.now in let rs = map unpacked ranges.now in IsTrue result
+        ↔ AtSome (FactOf b (all_decided rs) reason) b rs }
 {
     let whole = steps.len() == ranges.len();
     is_fact_at_some(ground, whole, reason, steps)
@@ -105,7 +108,8 @@ pub fn least_step(decided: &Decided) -> Step
 fn write(steps: &[Decided], numbers: &mut Run<Step>)
     requires { length steps.now ≤ length numbers.old.items }
     ensures many { length numbers.new.items ≡ length numbers.old.items }
-    ensures written { take (length steps.now) numbers.new.items ≡ map (λ k. least_step_of (known_in k)) steps.now }
+    ensures written { take (length steps.now) numbers.new.items
+        ≡ map (λ k. least_step_of (known_in k)) steps.now }
 {
     for (i, step) in steps.iter().enumerate() {
         numbers.set(i, least_step(step));
@@ -145,7 +149,9 @@ fn first_of(
     requires inside { length steps.now ≤ length ranges.now }
     requires room { length ranges.now ≤ length numbers.old.items }
     requires few { length ranges.now ≤ 800 }
-    ensures first { let b = ground.entry.instance.now in MatchOption result (¬ IsRefuted b (map unpacked ranges.now)) (λ r. IsFirstReason b (map unpacked ranges.now) r) }
+    ensures first { let b = ground.entry.instance.now in
+        MatchOption result (¬ IsRefuted b (map unpacked ranges.now))
+        (λ r. IsFirstReason b (map unpacked ranges.now) r) }
     ensures room { length numbers.new.items ≡ length numbers.old.items }
 {
     if is_impossible(ground, ranges, steps) {
@@ -185,7 +191,9 @@ pub fn first_reason(
     requires steps { length ranges.now ≤ length steps.old.items }
     requires taken { length taken.old.items ≡ 800 }
     requires numbers { length ranges.now ≤ length numbers.old.items }
-    ensures first { let b = ground.entry.instance.now in MatchOption result (¬ IsRefuted b (map unpacked ranges.now)) (λ r. IsFirstReason b (map unpacked ranges.now) r) }
+    ensures first { let b = ground.entry.instance.now in
+        MatchOption result (¬ IsRefuted b (map unpacked ranges.now))
+        (λ r. IsFirstReason b (map unpacked ranges.now) r) }
     ensures steps { length steps.new.items ≡ length steps.old.items }
     ensures taken { length taken.new.items ≡ 800 }
     ensures numbers { length numbers.new.items ≡ length numbers.old.items }

@@ -24,7 +24,8 @@ pub fn draw(taken: &mut Run<u32>, step: &Packed) -> u32
     requires inside { (unpacked step.now).stack.low < length taken.old.items }
     requires few { slice_index_or taken.old.items (unpacked step.now).stack.low 0 ≤ 800 }
     ensures count { result ≡ slice_index_or taken.old.items (unpacked step.now).stack.low 0 }
-    ensures counts { taken.new.items ≡ slice_set taken.old.items (unpacked step.now).stack.low (result + 1) }
+    ensures counts { taken.new.items ≡ slice_set taken.old.items
+        (unpacked step.now).stack.low (result + 1) }
 {
     let stack = step.range(Var::Stack).0 as usize;
     let count = taken.as_slice()[stack];

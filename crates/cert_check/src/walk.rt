@@ -5,13 +5,12 @@ ghost use Rattle.plan_box.specs.Packed.{unpacked};
 ghost use Rattle.cert_check.specs.inner.Paths.{AreStored};
 ghost use Rattle.plan_box.specs.Frames.{frame_of};
 ghost use Rattle.plan_box.specs.Ranges.{root_of};
-ghost use Rattle.cert_log.specs.Good.{Reaches, MayClose, lesser};
+ghost use Rattle.cert_log.specs.Good.{Reaches, MayClose, NodePasses};
 ghost use Rattle.plan_box.specs.Bounds.{bound as bound_of};
 ghost use Rattle.plan_box.specs.Reasons.{IsFirstReason, IsRefuted};
 ghost use Rattle.cert_log.specs.Trees.{IsTree};
 ghost use Rattle.cert_check.specs.inner.Knowns.{HasRoom};
 ghost use Rattle.cert_check.specs.inner.Paths.{top};
-ghost use Rattle.cert_check.specs.Visits.{NodePasses};
 ghost use Rattle.cert_check.specs.Faults.{FailsToClose, FallsShort, IsOtherReason, NodeFails};
 ghost use Rattle.cert_check.specs.inner.Walks.{Counts, Finds};
 
@@ -21,7 +20,7 @@ use crate::path::Path;
 use crate::refuting::first_reason;
 use crate::scratch::Scratch;
 use crate::verdict::Why;
-use cert_log::{Cause, Certificate, Node};
+use cert_log::{Cause, Certificate, Node, with_bound};
 use defect_map::{DefectMap, Ground};
 use glass_base::{Instance, Memory};
 use plan_box::{Packed, Reason};
@@ -82,16 +81,6 @@ fn reaches(loss: Option<u64>, bound: u64) -> bool
     }
 }
 
-/// The lesser of a loss and a bound.
-fn with_bound(loss: Option<u64>, bound: u64) -> Option<u64>
-    ensures { result ≡ lesser loss bound }
-{
-    match loss {
-        Some(loss) => Some(loss.min(bound)),
-        None => Some(bound),
-    }
-}
-
 /// Why a box may not be closed for this reason, if it may not.
 fn judge_reason(
     ground: Ground<'_>,
@@ -102,7 +91,9 @@ fn judge_reason(
     requires stored { AreStored (frame_of ground.instance.now) ranges.now }
     requires each_step { length ranges.now ≡ length ground.instance.now.items }
     requires room { HasRoom (length ground.instance.now.items) scratch.old }
-    ensures judged { let b = ground.entry.instance.now in MatchOption result (IsFirstReason b (map unpacked ranges.now) reason) (IsOtherReason b (map unpacked ranges.now) reason) }
+    ensures judged { let b = ground.entry.instance.now in
+        MatchOption result (IsFirstReason b (map unpacked ranges.now) reason)
+        (IsOtherReason b (map unpacked ranges.now) reason) }
     ensures room { HasRoom (length ground.entry.instance.now.items) scratch.new }
 {
     let said = reason.number();
@@ -146,7 +137,9 @@ fn judge_bound(
     requires stored { AreStored (frame_of instance.now) ranges.now }
     requires each_step { length ranges.now ≡ length instance.now.items }
     requires room { HasRoom (length instance.now.items) scratch.old }
-    ensures judged { MatchOption result (Reaches loss (bound_of instance.now (map unpacked ranges.now))) (FallsShort loss (bound_of instance.now (map unpacked ranges.now))) }
+    ensures judged { MatchOption result (Reaches loss
+        (bound_of instance.now (map unpacked ranges.now)))
+        (FallsShort loss (bound_of instance.now (map unpacked ranges.now))) }
     ensures room { HasRoom (length instance.now.items) scratch.new }
 {
     let bound = bound(instance, ranges, &mut scratch.steps, &mut scratch.taken);
@@ -158,7 +151,9 @@ fn is_refuted(ground: Ground<'_>, ranges: &[Packed], scratch: &mut Scratch) -> b
     requires stored { AreStored (frame_of ground.instance.now) ranges.now }
     requires each_step { length ranges.now ≡ length ground.instance.now.items }
     requires room { HasRoom (length ground.instance.now.items) scratch.old }
-    ensures refuted { let b = ground.entry.instance.now in MatchBool result (IsRefuted b (map unpacked ranges.now)) (¬ IsRefuted b (map unpacked ranges.now)) }
+    ensures refuted { let b = ground.entry.instance.now in
+        MatchBool result (IsRefuted b (map unpacked ranges.now))
+        (¬ IsRefuted b (map unpacked ranges.now)) }
     ensures room { HasRoom (length ground.entry.instance.now.items) scratch.new }
 {
     let first = first_reason(
@@ -191,7 +186,9 @@ fn judge_cause(
     requires stored { AreStored (frame_of ground.instance.now) ranges.now }
     requires each_step { length ranges.now ≡ length ground.instance.now.items }
     requires room { HasRoom (length ground.instance.now.items) scratch.old }
-    ensures judged { let b = ground.entry.instance.now in MatchOption result (MayClose b aim.floor aim.loss (map unpacked ranges.now) cause) (FailsToClose b aim.floor aim.loss (map unpacked ranges.now) cause) }
+    ensures judged { let b = ground.entry.instance.now in
+        MatchOption result (MayClose b aim.floor aim.loss (map unpacked ranges.now) cause)
+        (FailsToClose b aim.floor aim.loss (map unpacked ranges.now) cause) }
     ensures room { HasRoom (length ground.entry.instance.now.items) scratch.new }
 {
     match cause {
@@ -218,7 +215,9 @@ fn judge(
     requires frame { path.now.frame ≡ frame_of ground.instance.now }
     requires waits { path.now.boxes ≢ [] }
     requires room { HasRoom (length ground.instance.now.items) scratch.old }
-    ensures judged { let b = ground.entry.instance.now in MatchOption result (NodePasses b aim.floor aim.loss (top path.now.boxes) node) (NodeFails b aim.floor aim.loss (top path.now.boxes) node) }
+    ensures judged { let b = ground.entry.instance.now in
+        MatchOption result (NodePasses b aim.floor aim.loss (top path.now.boxes) node)
+        (NodeFails b aim.floor aim.loss (top path.now.boxes) node) }
     ensures room { HasRoom (length ground.entry.instance.now.items) scratch.new }
 {
     let ranges = path.stored();
@@ -278,7 +277,8 @@ fn walk_on(
     requires frame { path.old.frame ≡ frame_of ground.instance.now }
     requires boxes { path.old.boxes ≡ (root_of (frame_of ground.instance.now) 0).ranges ∷ [] }
     requires room { HasRoom (length ground.instance.now.items) scratch.old }
-    ensures { let b = ground.entry.instance.now in IfOk result (Finds b (root_of (frame_of b) 0).ranges loss cert.now) }
+    ensures { let b = ground.entry.instance.now in
+        IfOk result (Finds b (root_of (frame_of b) 0).ranges loss cert.now) }
 {
     let mut place = Place {
         line: 1,
@@ -318,7 +318,8 @@ pub(crate) fn walk(
     cert: &Certificate,
 ) -> Result<Walked, Memory>
     requires tree { IsTree cert.now.nodes.items }
-    ensures { let b = ground.entry.instance.now in IfOk result (Finds b (root_of (frame_of b) 0).ranges loss cert.now) }
+    ensures { let b = ground.entry.instance.now in
+        IfOk result (Finds b (root_of (frame_of b) 0).ranges loss cert.now) }
 {
     let mut path = Path::new(alloc, ground.instance)?;
     let mut scratch = Scratch::new(alloc, ground.instance.items().len())?;

@@ -14,9 +14,10 @@ use Rattle.plan_box.specs.Ranges.{Ranges, PlainBox, IsBox, root_of}
 use Rattle.plan_box.proofs.Plans.{root_holds_plan, refuted_holds_none, bound_of_plan}
 use Rattle.plan_box.proofs.Shared.{shared, lower_is_box, upper_is_box, root_is_box}
 use Rattle.cert_log.specs.declared.history.Cause.{Cause}
-use Rattle.cert_log.specs.Good.{IsFloor, Reaches, MayClose, Stands, open_bounds, lesser}
+use Rattle.cert_log.specs.Good.{IsFloor, Reaches, MayClose, lesser}
 use Rattle.cert_log.specs.Splits.{BoundsEachPlan}
 use Rattle.cert_log.specs.Trees.{Tree, halved, closed, waiting}
+use Rattle.cert_log.proofs.Walked.{Stands, open_bounds, good_stands, good_bound_is}
 
 reach_more : (loss : Option ℕ) (m n : ℕ) → Reaches loss m → m ≤ n → Reaches loss n
 reach_more None m n h le = h
@@ -60,5 +61,8 @@ module _ (b : Problem) (rules : IsProblem b) (plan : Forest) (lawful : IsLawful 
 
 pub bounds_each_plan : BoundsEachPlan
 bounds_each_plan b id loss c rules good plan lawful =
-    subst (λ (m : Option ℕ). Reaches m (loss_of b plan)) (sym good.bound_is)
-    (covers b rules plan lawful c.floor good.floor_is loss good.tree (root_of (frame_of b) id) (root_is_box (frame_of b) id) good.stands (root_holds_plan b rules plan lawful id) loss (λ r. r))
+    let root = root_of (frame_of b) id in let stands = good_stands b root.ranges loss c good in
+    let holds = root_holds_plan b rules plan lawful id in
+    subst (λ (m : Option ℕ). Reaches m (loss_of b plan)) (sym (good_bound_is b root.ranges loss c good))
+    (covers b rules plan lawful c.floor good.floor_is loss good.tree root (root_is_box (frame_of b) id)
+    stands holds loss (λ r. r))

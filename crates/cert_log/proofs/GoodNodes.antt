@@ -13,9 +13,10 @@ use Rattle.plan_box.specs.Ranges.{Ranges, root_of}
 use Rattle.plan_box.proofs.Depth.{paths_end}
 use Rattle.cert_log.specs.declared.certificate.Certificate.{Certificate}
 use Rattle.cert_log.specs.declared.certificate.Node.{Node}
-use Rattle.cert_log.specs.Good.{open_bounds, Stands, IsGood}
+use Rattle.cert_log.specs.Good.{IsGood}
 use Rattle.cert_log.specs.Splits.{IsNoLargerThanFull}
 use Rattle.cert_log.specs.Trees.{Tree, halved, closed, waiting, nodes_of, is_left}
+use Rattle.cert_log.proofs.Walked.{Stands, open_bounds, good_stands, good_left_is}
 
 -- one for a node that is no open one
 abbrev pub one : Node → ℕ
@@ -37,7 +38,7 @@ tree_counts b floor rs waiting = refl
 -- the nodes that are no open ones are all but those that the certificate counts as left
 pub good_counts : (b : Problem) (rs : List Ranges) (loss : Option ℕ) (c : Certificate) → IsGood b rs loss c → count_by (λ node. not (is_left node)) c.nodes.items + c.left ≡ length c.nodes.items
 good_counts b rs loss c good =
-    ap (λ (n : ℕ). shut c.nodes.items + n) good.left_is
+    ap (λ (n : ℕ). shut c.nodes.items + n) (good_left_is b rs loss c good)
     ∙ subst (λ (ns : List Node). shut ns + length (open_bounds b c.floor rs good.tree) ≡ length ns) (sym good.nodes_are) (tree_counts b c.floor rs good.tree)
 
 tree_left : (b : Problem) (floor : ℕ) (rs : List Ranges) (t : Tree) → length (open_bounds b floor rs t) ≤ shut (nodes_of t) + 1
@@ -51,7 +52,7 @@ tree_left b floor rs waiting = omega arith
 -- there is at most one open node more than there are others
 pub good_left : (b : Problem) (rs : List Ranges) (loss : Option ℕ) (c : Certificate) → IsGood b rs loss c → c.left ≤ count_by (λ node. not (is_left node)) c.nodes.items + 1
 good_left b rs loss c good =
-    let e = good.left_is in
+    let e = good_left_is b rs loss c good in
     let few = subst (λ (ns : List Node). length (open_bounds b c.floor rs good.tree) ≤ shut ns + 1) (sym good.nodes_are) (tree_left b c.floor rs good.tree) in omega arith
 
 -- no path of splits from the box is longer than this
@@ -80,6 +81,8 @@ tree_few b floor loss rs waiting depth end st = one_power depth
 
 pub no_larger_than_full : IsNoLargerThanFull
 no_larger_than_full b id depth loss c is good =
-    let few = tree_few b c.floor loss (root_of (frame_of b) id).ranges good.tree depth (paths_end (frame_of b) id depth is) good.stands in
+    let rs = (root_of (frame_of b) id).ranges in
+    let stands = good_stands b rs loss c good in
+    let few = tree_few b c.floor loss rs good.tree depth (paths_end (frame_of b) id depth is) stands in
     let e : suc depth ≡ depth + 1 = omega arith in
     omega (arith, few, ap length good.nodes_are, ap (λ (n : ℕ). 2 ^ n) e)

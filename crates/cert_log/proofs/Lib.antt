@@ -1,5 +1,6 @@
 pub mod Members
 pub mod Standing
+pub mod Walked
 pub mod Versions
 pub mod Naming
 pub mod Growing
@@ -23,4 +24,7 @@ pub mod Totals
 pub mod GoodNodes
 pub mod Covers
 pub mod ShortTexts
-mod TraceEnds
+pub mod Sames
+pub mod Sizes
+pub mod Counts
+pub mod Weights

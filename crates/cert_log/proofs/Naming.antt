@@ -11,13 +11,14 @@ use Rattle.cert_log.specs.declared.history.Cause.{Cause}
 use Rattle.cert_log.specs.declared.history.Act.{Act}
 use Rattle.cert_log.specs.declared.history.History.{History}
 use Rattle.cert_log.specs.declared.certificate.Node.{Node}
-use Rattle.cert_log.specs.Good.{Stands, GoodSteps, version_for}
+use Rattle.cert_log.specs.Good.{GoodSteps, version_for}
 use Rattle.cert_log.specs.Trees.{Tree, halved, closed, waiting, nodes_of, FitsVersion, StepBelow}
 use Rattle.cert_log.specs.Levels.{lower_id, upper_id}
 use Rattle.cert_log.specs.Lawful.{Course, level_of, ClosedFor, IsLawful}
 use Rattle.cert_log.specs.inner.Growth.{Twig, forks, ends, waits, bare, Grows}
 use Rattle.cert_log.proofs.Standing.{handled_as, lower_in, upper_in}
 use Rattle.cert_log.proofs.Versions.{three, two_or_three}
+use Rattle.cert_log.proofs.Walked.{Stands, good_stands}
 
 -- each split of a tree that is right for a box is at a step of the box
 stands_below : (b : Problem) (floor : ℕ) (loss : Option ℕ) (rs : List Ranges) (steps : ℕ) (t : Tree) → length rs ≡ steps → Stands b floor loss rs t → All (StepBelow steps) (nodes_of t)
@@ -31,7 +32,9 @@ stands_below b floor loss rs steps (closed cause) len st = All-cons (StepBelow s
 stands_below b floor loss rs steps waiting len st = All-cons (StepBelow steps) Node.Left [] tt (All-nil (StepBelow steps))
 
 pub good_steps : GoodSteps
-good_steps b rs loss c g = All-same (StepBelow (length rs)) c.nodes.items (nodes_of g.tree) g.nodes_are (stands_below b c.floor loss rs (length rs) g.tree refl g.stands)
+good_steps b rs loss c g =
+    All-same (StepBelow (length rs)) c.nodes.items (nodes_of g.tree) g.nodes_are
+    (stands_below b c.floor loss rs (length rs) g.tree refl (good_stands b rs loss c g))
 
 closed_fits : (b : Problem) (floor threshold : ℕ) (rs : List Ranges) (cause : Cause) → ClosedFor b floor threshold rs cause → FitsVersion (version_for floor) (Node.Closed cause)
 closed_fits b floor threshold rs Cause.Unsaid c = absurd c

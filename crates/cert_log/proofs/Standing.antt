@@ -13,12 +13,12 @@ use Rattle.cert_log.specs.declared.history.Cause.{Cause}
 use Rattle.cert_log.specs.declared.history.Act.{Act}
 use Rattle.cert_log.specs.declared.history.Note.{Note}
 use Rattle.cert_log.specs.declared.history.History.{History}
-use Rattle.cert_log.specs.Good.{Reaches, MayClose, Stands, open_bounds}
+use Rattle.cert_log.specs.Good.{Reaches, MayClose}
 use Rattle.cert_log.specs.Levels.{lower_id, upper_id, made_of, children}
 use Rattle.cert_log.specs.Lawful.{Course, no_loss, loss_of, level_of, ClosedFor, Handled, IsLawful}
-use Rattle.cert_log.specs.Splits.{SplitsBelow}
 use Rattle.cert_log.specs.inner.Growth.{Twig, forks, ends, waits, bare, kept_bounds, Grows}
 use Rattle.cert_log.proofs.Members.{first_or_later, is_first, is_later, contains_none, Contains-flat_map}
+use Rattle.cert_log.proofs.Walked.{Stands, open_bounds, SplitsBelow}
 
 -- what a note makes of the box of its identity stands in the next level
 pub child_in : (starts : ℕ) (ns : List Note) (m : Note) (x y : PlainBox) → Contains ns m → m.id ≡ x.id → Contains (made_of starts m.ticket m.act x) y → Contains (children starts ns x) y

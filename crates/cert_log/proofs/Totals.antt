@@ -11,7 +11,7 @@ use Rattle.cert_log.specs.declared.history.Note.{Note}
 use Rattle.cert_log.specs.declared.history.Left.{Left}
 use Rattle.cert_log.specs.declared.history.History.{History}
 use Rattle.cert_log.specs.declared.certificate.Certificate.{Certificate}
-use Rattle.cert_log.specs.Good.{least_of, open_bounds, version_for, IsFloor, IsGood, AreGood, IsVersionFor, Stands}
+use Rattle.cert_log.specs.Good.{least_of, version_for, IsFloor, IsGood, AreGood, IsVersionFor}
 use Rattle.cert_log.specs.Splits.{IsSearched, AreSearched}
 use Rattle.std.proofs.lemmas.List.Elements.{All-cons, All-nil, All-same}
 use Rattle.cert_log.specs.Trees.{nodes_of, FitsVersion}
@@ -21,6 +21,7 @@ use Rattle.cert_log.specs.Lawful.{Course, times, loss_of, numbered, ids_of, IsLa
 use Rattle.cert_log.specs.inner.Growth.{Twig, forks, ends, waits, bare, kept_bounds, Grows, IsMade, AreDifferent, IsRooted, AreMade}
 use Rattle.cert_log.proofs.Members.{is_first, is_later, counted, times-append}
 use Rattle.cert_log.proofs.Standing.{grown_stands, grown_splits, grown_bounds}
+use Rattle.cert_log.proofs.Walked.{Stands, open_bounds, good_of, splits_all}
 use Rattle.cert_log.proofs.Growing.{has_twig}
 use Rattle.cert_log.proofs.Versions.{none_before}
 use Rattle.cert_log.proofs.Counting.{AreOf, weigh, weigh_all, not_left}
@@ -99,19 +100,20 @@ module _ (b : Problem) (s : Course) (h : History) (lawful : IsLawful b s h) wher
   made_good : (x : PlainBox) (c : Certificate) → Contains s.boxes x → IsMade h x.id c → IsGood b x.ranges (loss_of h.best) c
   made_good x c at m =
       let e = grown_bounds b s h lawful zero x m.twig at m.grows in
-      record {
-        tree = bare m.twig;
-        nodes_are = m.nodes_are;
-        loss_is = m.loss_is;
-        floor_is = subst (IsFloor b) (sym m.floor_is) lawful.least_is;
-        stands = subst (λ (floor : ℕ). Stands b floor (loss_of h.best) x.ranges (bare m.twig)) (sym m.floor_is) (grown_stands b s h lawful zero x m.twig at m.grows);
-        left_is = m.left_is ∙ sym (length-map (kept_bounds m.twig) (max h.floor)) ∙ ap length (sym e) ∙ ap (λ (floor : ℕ). length (open_bounds b floor x.ranges (bare m.twig))) (sym m.floor_is);
-        bound_is = m.bound_is ∙ ap (least_of (loss_of h.best)) (sym e) ∙ ap (λ (floor : ℕ). least_of (loss_of h.best) (open_bounds b floor x.ranges (bare m.twig))) (sym m.floor_is);
-      }
+      let t = bare m.twig in let floor = sym m.floor_is in
+      let stands = grown_stands b s h lawful zero x m.twig at m.grows in
+      let left = m.left_is ∙ sym (length-map (kept_bounds m.twig) (max h.floor)) ∙ ap length (sym e) in
+      let least = m.bound_is ∙ ap (least_of (loss_of h.best)) (sym e) in
+      good_of b x.ranges (loss_of h.best) c t m.nodes_are m.loss_is (subst (IsFloor b) floor lawful.least_is)
+      (subst (λ (n : ℕ). Stands b n (loss_of h.best) x.ranges t) floor stands)
+      (left ∙ ap (λ (n : ℕ). length (open_bounds b n x.ranges t)) floor)
+      (least ∙ ap (λ (n : ℕ). least_of (loss_of h.best) (open_bounds b n x.ranges t)) floor)
 
   -- it splits no other boxes than those that had to be searched
   made_searched : (x : PlainBox) (c : Certificate) → Contains s.boxes x → IsMade h x.id c → IsSearched b s.first x.ranges c
-  made_searched x c at m = record { tree = bare m.twig; nodes_are = m.nodes_are; splits = grown_splits b s h lawful zero x m.twig at m.grows }
+  made_searched x c at m =
+      let t = bare m.twig in let splits = grown_splits b s h lawful zero x m.twig at m.grows in
+      record { tree = t; nodes_are = m.nodes_are; splits = splits_all b s.first t x.ranges splits }
 
   -- what holds of each certificate that tells the tree of a box, box by box
   each_from : (P : PlainBox → Certificate → Type 0) → ((x : PlainBox) (c : Certificate) → Contains s.boxes x → IsMade h x.id c → P x c)

@@ -7,13 +7,14 @@ use Rattle.cut_model.specs.Loss.{loss_of}
 use Rattle.cut_model.specs.Tree.{Forest}
 use Rattle.plan_box.specs.Ranges.{Ranges, PlainBox}
 use Rattle.plan_box.specs.Decisions.{is_free}
-use Rattle.plan_box.specs.Halves.{lower_half, upper_half, half_at}
 use Rattle.plan_box.specs.Bounds.{bound}
 use Rattle.plan_box.specs.Reasons.{IsRefuted, IsFirstReason}
 use Rattle.cert_log.specs.declared.history.Cause.{Cause}
 use Rattle.cert_log.specs.declared.certificate.Certificate.{Certificate}
+use Rattle.cert_log.specs.declared.certificate.Node.{Node}
 use Rattle.cert_log.specs.Values.{IsVersionNumber}
-use Rattle.cert_log.specs.Trees.{Tree, halved, closed, waiting, nodes_of, FitsVersion, StepBelow}
+use Rattle.cert_log.specs.Trees.{Tree, nodes_of, FitsVersion, StepBelow}
+use Rattle.cert_log.specs.Visits.{Visit, visits}
 
 -- a number is at least the loss, and never where there is none
 abbrev pub Reaches : Option ℕ → ℕ → Type 0
@@ -31,19 +32,25 @@ MayClose b floor loss rs Cause.Bound = Reaches loss (bound b rs)
 MayClose b floor loss rs Cause.Floor = Reaches loss floor
 MayClose b floor loss rs Cause.Unsaid = IsRefuted b rs ⊎ Reaches loss (bound b rs)
 
--- walking the tree from the box, each split is of a free variable, and each closed box may be closed
-abbrev pub Stands : Problem → ℕ → Option ℕ → List Ranges → Tree → Type 0
-Stands b floor loss rs (halved step v lower upper) =
-    IsTrue (is_free rs step v) × Stands b floor loss (half_at lower_half rs step v) lower × Stands b floor loss (half_at upper_half rs step v) upper
-Stands b floor loss rs (closed cause) = MayClose b floor loss rs cause
-Stands b floor loss rs waiting = Unit {0}
+-- the node may stand at this box, where no lawful plan loses less than the floor
+abbrev pub NodePasses : Problem → ℕ → Option ℕ → List Ranges → Node → Type 0
+NodePasses b floor loss rs (Node.Split step v) = IsTrue (is_free rs step v)
+NodePasses b floor loss rs (Node.Closed cause) = MayClose b floor loss rs cause
+NodePasses b floor loss rs Node.Left = Unit {0}
 
--- the bounds of the boxes that the tree leaves open, each raised to the floor, walking it from the box
-abbrev pub open_bounds : Problem → ℕ → List Ranges → Tree → List ℕ
-open_bounds b floor rs (halved step v lower upper) =
-    open_bounds b floor (half_at lower_half rs step v) lower ++ open_bounds b floor (half_at upper_half rs step v) upper
-open_bounds b floor rs (closed cause) = []
-open_bounds b floor rs waiting = max floor (bound b rs) ∷ []
+-- the same of a node with its box
+abbrev pub Passes : Problem → ℕ → Option ℕ → Visit → Type 0
+Passes b floor loss x = NodePasses b floor loss x.ranges x.node
+
+-- the bound of the box of an open node, raised to the floor
+abbrev pub node_bounds : Problem → ℕ → List Ranges → Node → List ℕ
+node_bounds b floor rs Node.Left = max floor (bound b rs) ∷ []
+node_bounds b floor rs _ = []
+
+-- the bounds of the boxes of the open nodes
+abbrev pub visit_bounds : Problem → ℕ → List Visit → List ℕ
+visit_bounds b floor [] = []
+visit_bounds b floor (x ∷ xs) = node_bounds b floor x.ranges x.node ++ visit_bounds b floor xs
 
 -- the lesser of a loss and a number
 abbrev pub lesser : Option ℕ → ℕ → Option ℕ
@@ -60,9 +67,9 @@ pub record IsGood (b : Problem) (rs : List Ranges) (loss : Option ℕ) (c : Cert
   pub nodes_are : c.nodes.items ≡ nodes_of tree
   pub loss_is : c.loss ≡ loss
   pub floor_is : IsFloor b c.floor
-  pub stands : Stands b c.floor loss rs tree
-  pub left_is : c.left ≡ length (open_bounds b c.floor rs tree)
-  pub bound_is : c.bound ≡ least_of loss (open_bounds b c.floor rs tree)
+  pub passes : All (Passes b c.floor loss) (visits rs tree)
+  pub left_is : c.left ≡ length (visit_bounds b c.floor (visits rs tree))
+  pub bound_is : c.bound ≡ least_of loss (visit_bounds b c.floor (visits rs tree))
 
 -- each certificate is right for its box
 abbrev pub AreGood : Problem → Option ℕ → List PlainBox → List Certificate → Type 0

@@ -1,7 +1,9 @@
 pub mod Trees
+pub mod Visits
 pub mod Good
 pub mod Levels
 pub mod Lawful
+pub mod Events
 pub mod Texts
 pub mod Values
 pub mod Follow

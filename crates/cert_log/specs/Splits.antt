@@ -1,5 +1,5 @@
 -- Which boxes a certificate splits.
-use Rattle.std.specs.Prelude.{◌≡◌, ◌<◌, ◌≤◌, ◌+◌, ◌*◌, ◌^◌, ℕ, List, length, count_by, not}
+use Rattle.std.specs.Prelude.{◌≡◌, ◌<◌, ◌≤◌, ◌+◌, ◌*◌, ◌^◌, ℕ, List, length, count_by, not, All}
 use Rattle.std.specs.List.{AllZip}
 use Rattle.glass_base.specs.Problem.{Problem, IsProblem}
 use Rattle.cut_model.specs.Lawful.{IsLawful}
@@ -7,30 +7,32 @@ use Rattle.cut_model.specs.Loss.{loss_of}
 use Rattle.cut_model.specs.Tree.{Forest}
 use Rattle.plan_box.specs.Bounds.{bound}
 use Rattle.plan_box.specs.Frames.{frame_of}
-use Rattle.plan_box.specs.Halves.{IsDepth, lower_half, upper_half, half_at}
+use Rattle.plan_box.specs.Halves.{IsDepth}
 use Rattle.plan_box.specs.Ranges.{PlainBox, Ranges, root_of}
 use Rattle.plan_box.specs.Reasons.{IsRefuted}
 use Rattle.cert_log.specs.declared.certificate.Certificate.{Certificate}
+use Rattle.cert_log.specs.declared.certificate.Node.{Node}
 use Rattle.cert_log.specs.Good.{IsGood, Reaches}
 use Rattle.cert_log.specs.Outcomes.{IsHead}
 use Rattle.cert_log.specs.Texts.{cert_text, head_of}
-use Rattle.cert_log.specs.Trees.{Tree, halved, closed, waiting, nodes_of, is_left}
+use Rattle.cert_log.specs.Trees.{Tree, nodes_of, is_left}
+use Rattle.cert_log.specs.Visits.{Visit, visits}
 use Rattle.std.specs.Prelude.{Option}
 
--- walking the tree from the box, each box that is split is not refuted, and its bound is below the loss that is to be beaten
-abbrev pub SplitsBelow : Problem → ℕ → List Ranges → Tree → Type 0
-SplitsBelow b to_beat rs (halved step v lower upper) =
-    ¬ IsRefuted b rs × (bound b rs < to_beat)
-    × SplitsBelow b to_beat (half_at lower_half rs step v) lower
-    × SplitsBelow b to_beat (half_at upper_half rs step v) upper
-SplitsBelow b to_beat rs (closed cause) = Unit {0}
-SplitsBelow b to_beat rs waiting = Unit {0}
+-- where this node splits the box, it is not refuted, and its bound is below the loss that is to be beaten
+abbrev pub NodeSplitsRightly : Problem → ℕ → List Ranges → Node → Type 0
+NodeSplitsRightly b to_beat rs (Node.Split step v) = ¬ IsRefuted b rs × (bound b rs < to_beat)
+NodeSplitsRightly b to_beat rs _ = Unit {0}
+
+-- a box that is split is not refuted, and its bound is below the loss that is to be beaten
+abbrev pub SplitsRightly : Problem → ℕ → Visit → Type 0
+SplitsRightly b to_beat x = NodeSplitsRightly b to_beat x.ranges x.node
 
 -- the certificate splits no other boxes, walking it from this box
 pub record IsSearched (b : Problem) (to_beat : ℕ) (rs : List Ranges) (c : Certificate) : Type 0 where
   pub tree : Tree
   pub nodes_are : c.nodes.items ≡ nodes_of tree
-  pub splits : SplitsBelow b to_beat rs tree
+  pub splits : All (SplitsRightly b to_beat) (visits rs tree)
 
 -- each certificate, walking it from its box
 abbrev pub AreSearched : Problem → ℕ → List PlainBox → List Certificate → Type 0

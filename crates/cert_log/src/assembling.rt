@@ -12,7 +12,7 @@ ghost use Rattle.cert_log.specs.Trees.{is_left};
 ghost use Rattle.cert_log.specs.inner.Writing.{IsNext, Writes};
 
 use crate::certificate::{Certificate, Node};
-use crate::history::{Act, History};
+use crate::history::{Act, History, NO_LOSS};
 use crate::places::{Entry, entry_of, places};
 use glass_base::{Instance, Memory, Run, append};
 use std::alloc::Global;
@@ -21,15 +21,15 @@ use std::alloc::Global;
 pub fn best_loss(history: &History) -> Option<u64>
     ensures { result ≡ loss_of history.now.best }
 {
-    if history.best < u64::MAX {
+    if history.best < NO_LOSS {
         Some(history.best)
     } else {
         None
     }
 }
 
-/// The lesser of a loss and a bound.
-fn with_bound(loss: Option<u64>, bound: u64) -> Option<u64>
+/// The lesser of a loss and a bound, in mm²; the bound where there is no loss.
+pub fn with_bound(loss: Option<u64>, bound: u64) -> Option<u64>
     ensures { result ≡ lesser loss bound }
 {
     match loss {
@@ -97,7 +97,15 @@ fn version_for(floor: u64) -> u32
 
 /// The certificate of these nodes.
 fn with_nodes(loss: Option<u64>, bound: Option<u64>, floor: u64, nodes: Run<Node>) -> Certificate
-    ensures made { result ≡ record { version = version_of floor; loss = loss; bound = bound; left = count_by is_left nodes.items; floor = floor; nodes = nodes } }
+    ensures made { result ≡ record {
+      version = version_of floor;
+      loss = loss;
+      bound = bound;
+      left =
+          count_by is_left nodes.items;
+      floor = floor;
+      nodes = nodes;
+    } }
     ensures head { IsHead (head_of result) }
 {
     let left = count_left(nodes.as_slice());
@@ -166,10 +174,14 @@ pub fn assemble(
     history: &History,
 ) -> Result<Run<Certificate>, Memory>
     requires { HasCourse instance.now history.now }
-    ensures good { IfOk result (λ cs. (s : Course) → IsLawful instance.now s history.now → AreGood instance.now (loss_of history.now.best) s.boxes cs.items) }
-    ensures searched { IfOk result (λ cs. (s : Course) → IsLawful instance.now s history.now → AreSearched instance.now s.first s.boxes cs.items) }
-    ensures nodes { IfOk result (λ cs. sum_by (λ c. length c.nodes.items) cs.items ≡ length history.now.log.items + length history.now.left.items) }
-    ensures left { IfOk result (λ cs. sum_by (λ c. c.left) cs.items ≡ length history.now.left.items) }
+    ensures good { IfOk result (λ cs. (s : Course) → IsLawful instance.now s history.now
+        → AreGood instance.now (loss_of history.now.best) s.boxes cs.items) }
+    ensures searched { IfOk result (λ cs. (s : Course) → IsLawful instance.now s history.now
+        → AreSearched instance.now s.first s.boxes cs.items) }
+    ensures nodes { IfOk result (λ cs. sum_by (λ c. length c.nodes.items) cs.items
+        ≡ length history.now.log.items + length history.now.left.items) }
+    ensures left { IfOk result (λ cs. sum_by (λ c. c.left) cs.items
+        ≡ length history.now.left.items) }
     ensures version { IfOk result (λ cs. All (IsVersionFor history.now.floor) cs.items) }
     ensures heads { IfOk result (λ cs. All (λ c. IsHead (head_of c)) cs.items) }
 {

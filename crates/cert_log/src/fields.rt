@@ -18,7 +18,8 @@ pub(crate) fn is_word(text: &[u8], word: &[u8]) -> bool
 
 /// What stands before a mark's first place, and behind it.
 pub(crate) fn field(text: &[u8], mark: u8) -> Option<(&[u8], &[u8])>
-    ensures { MatchOption result (Lacks mark text.now) (λ p. (text.now ≡ p.0.now ++ mark ∷ p.1.now) × Lacks mark p.0.now) }
+    ensures { MatchOption result (Lacks mark text.now) (λ p. (text.now ≡ p.0.now ++ mark ∷ p.1.now)
+        × Lacks mark p.0.now) }
 {
     for (at, byte) in text.iter().enumerate() {
         if *byte == mark {

@@ -1,5 +1,7 @@
-//! Laws: one certificate has one spelling; a right one splits at steps of its box, bounds each plan, has few nodes and a short text. The functions do nothing: their contracts are the laws.
+//! Laws: one certificate has one spelling; a right one splits at steps of its box, bounds each plan, has few nodes and a short text;
+//! what a search handled and left are the boxes of all levels. The functions do nothing: their contracts are the laws.
 
+ghost use Rattle.cert_log.specs.Events.{BoxesAreOfLevels};
 ghost use Rattle.cert_log.specs.Good.{GoodSteps};
 ghost use Rattle.cert_log.specs.ReadAgain.{OneCertificate, OneReading, OneRefusal, ReadIsText, RoundTrip, WrittenIsRead};
 ghost use Rattle.cert_log.specs.Readings.{OneSpelling};
@@ -58,4 +60,9 @@ pub fn good_certificates_are_no_larger_than_full_trees()
 /// The text of a certificate that is right for the box of all plans has at most twelve bytes for each box that was closed or split, and 100.
 pub fn good_certificates_have_short_texts()
     ensures { HaveShortTexts }
+{}
+
+/// What was handled and what is left are the boxes of all levels, each once.
+pub fn boxes_are_of_levels()
+    ensures { BoxesAreOfLevels }
 {}

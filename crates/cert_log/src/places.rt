@@ -21,7 +21,8 @@ pub(crate) enum Entry {
 fn enter_notes(entries: &mut Vec<usize>, history: &History)
     requires { All (λ id. id < length entries.old.items) (ids_of history.now) }
     ensures len { length entries.new.items ≡ length entries.old.items }
-    ensures index { IsIndexed (ids_of history.now) (length history.now.log.items) entries.new.items }
+    ensures index { IsIndexed (ids_of history.now)
+        (length history.now.log.items) entries.new.items }
 {
     for (place, note) in history.log.as_slice().iter().enumerate() {
         entries[note.id as usize] = place;
@@ -31,7 +32,8 @@ fn enter_notes(entries: &mut Vec<usize>, history: &History)
 /// Enters the place of each left box at its identity, counted on from the notes.
 fn enter_left(entries: &mut Vec<usize>, history: &History)
     requires known { All (λ id. id < length entries.old.items) (ids_of history.now) }
-    requires notes { IsIndexed (ids_of history.now) (length history.now.log.items) entries.old.items }
+    requires notes { IsIndexed (ids_of history.now)
+        (length history.now.log.items) entries.old.items }
     ensures len { length entries.new.items ≡ length entries.old.items }
     ensures index { IsIndexed (ids_of history.now) (length (ids_of history.now)) entries.new.items }
 {
@@ -45,7 +47,8 @@ fn enter_left(entries: &mut Vec<usize>, history: &History)
 pub(crate) fn places(alloc: Global, history: &History, room: usize) -> Result<Vec<usize>, Memory>
     requires known { All (λ id. id < room) (ids_of history.now) }
     ensures len { IfOk result (λ entries. length entries.items ≡ room) }
-    ensures index { IfOk result (λ entries. IsIndexed (ids_of history.now) (length (ids_of history.now)) entries.items) }
+    ensures index { IfOk result (λ entries. IsIndexed (ids_of history.now)
+        (length (ids_of history.now)) entries.items) }
 {
     let mut entries = vec![in alloc; 0usize; room]?;
     enter_notes(&mut entries, history);

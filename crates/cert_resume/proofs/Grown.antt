@@ -13,8 +13,9 @@ use Rattle.plan_box.specs.declared.var.Var.{Var}
 use Rattle.cert_log.specs.declared.certificate.Certificate.{Certificate}
 use Rattle.cert_log.specs.declared.certificate.Node.{Node}
 use Rattle.cert_log.specs.declared.history.Cause.{Cause}
-use Rattle.cert_log.specs.Good.{IsFloor, IsGood, MayClose, Reaches, Stands, lesser, open_bounds}
+use Rattle.cert_log.specs.Good.{IsFloor, IsGood, MayClose, Reaches, lesser}
 use Rattle.cert_log.specs.Trees.{Tree, halved, closed, waiting, nodes_of}
+use Rattle.cert_log.proofs.Walked.{Stands, open_bounds, good_bound_is, good_left_is, good_of, good_stands}
 use Rattle.cert_resume.specs.Joins.{AreRightParts, IsAtMost, IsJoined, KeepsRight, bounds_of, filled, lesser_of, nodes_in, raised}
 use Rattle.cert_resume.specs.OpenBoxes.{open_boxes}
 use Rattle.cert_resume.proofs.Least.{at_most_itself, at_most_least, least_raised, reaches_less}
@@ -155,29 +156,31 @@ grows b floor m before waiting rs (p ∷ []) at_most stands right =
     let good : IsGood b rs m p = right.0.0 in let low : p.floor ≤ floor = right.0.1 in
     record {
       tree = good.tree;
-      stands = stands_more b p.floor floor m rs good.tree low good.stands;
+      stands = stands_more b p.floor floor m rs good.tree low (good_stands b rs m p good);
       nodes_are = λ later more. ap (λ (ns : List Node). ns ++ filled later more) good.nodes_are;
-      left_is = (let e = good.left_is ∙ count_raised b p.floor floor rs good.tree low in omega (arith, e));
+      left_is =
+          (let left = good_left_is b rs m p good in
+          let count = count_raised b p.floor floor rs good.tree low in omega (arith, left, count));
       bound_is = λ x less.
-          ap (λ (o : Option ℕ). lesser_of x (raised floor o)) good.bound_is ∙ least_raised floor x m (open_bounds b p.floor rs good.tree) less
+          ap (λ (o : Option ℕ). lesser_of x (raised floor o)) (good_bound_is b rs m p good)
+          ∙ least_raised floor x m (open_bounds b p.floor rs good.tree) less
           ∙ ap (λ (ns : List ℕ). fold lesser x ns) (raised_more b p.floor floor rs good.tree low);
     }
 
 -- what right certificates are joined to is right
 pub keeps_right : (c : Certificate) (parts : List Certificate) (loss : Option ℕ) (j : Certificate) → All (λ (p : Certificate). p.floor ≤ c.floor) parts → IsJoined c parts loss j → KeepsRight c parts loss j
 keeps_right c parts loss j low joined = λ b rs before good at_most right.
-    let g = grows b c.floor loss before good.tree rs parts at_most good.stands (are_parts b c.floor loss (open_boxes rs good.tree) parts right low) in
-    let floor = sym joined.floor_is in
-    record {
-      tree = g.tree;
-      nodes_are =
-          joined.nodes_are
-          ∙ ap (λ (ns : List Node). filled ns (nodes_in parts)) (good.nodes_are ∙ sym (append-nil (nodes_of good.tree)))
-          ∙ ap (λ (ps : List (List Node)). filled (nodes_of good.tree ++ []) ps) (sym (append-nil (nodes_in parts)))
-          ∙ g.nodes_are [] [] ∙ append-nil (nodes_of g.tree);
-      loss_is = joined.loss_is;
-      floor_is = subst (IsFloor b) floor good.floor_is;
-      stands = subst (λ (n : ℕ). Stands b n loss rs g.tree) floor g.stands;
-      left_is = joined.left_is ∙ g.left_is ∙ ap (λ (n : ℕ). length (open_bounds b n rs g.tree)) floor;
-      bound_is = joined.bound_is ∙ g.bound_is loss (at_most_itself loss) ∙ ap (λ (n : ℕ). fold lesser loss (open_bounds b n rs g.tree)) floor;
-    }
+    let stands = good_stands b rs before c good in
+    let each = are_parts b c.floor loss (open_boxes rs good.tree) parts right low in
+    let g = grows b c.floor loss before good.tree rs parts at_most stands each in
+    let floor = sym joined.floor_is in let whole = nodes_of good.tree in
+    let nodes =
+    joined.nodes_are
+    ∙ ap (λ (ns : List Node). filled ns (nodes_in parts)) (good.nodes_are ∙ sym (append-nil whole))
+    ∙ ap (λ (ps : List (List Node)). filled (whole ++ []) ps) (sym (append-nil (nodes_in parts)))
+    ∙ g.nodes_are [] [] ∙ append-nil (nodes_of g.tree) in
+    let least = joined.bound_is ∙ g.bound_is loss (at_most_itself loss) in
+    good_of b rs loss j g.tree nodes joined.loss_is (subst (IsFloor b) floor good.floor_is)
+    (subst (λ (n : ℕ). Stands b n loss rs g.tree) floor g.stands)
+    (joined.left_is ∙ g.left_is ∙ ap (λ (n : ℕ). length (open_bounds b n rs g.tree)) floor)
+    (least ∙ ap (λ (n : ℕ). fold lesser loss (open_bounds b n rs g.tree)) floor)

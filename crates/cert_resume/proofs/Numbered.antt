@@ -11,9 +11,10 @@ use Rattle.plan_box.specs.Halves.{lower_half, upper_half, half_at}
 use Rattle.plan_box.specs.Ranges.{PlainBox, Ranges}
 use Rattle.cert_log.specs.declared.certificate.Certificate.{Certificate}
 use Rattle.cert_log.specs.declared.certificate.Node.{Node}
-use Rattle.cert_log.specs.Good.{IsGood, Stands, open_bounds}
+use Rattle.cert_log.specs.Good.{IsGood}
 use Rattle.cert_log.specs.Lawful.{numbered}
 use Rattle.cert_log.specs.Trees.{Tree, halved, closed, waiting, nodes_of, is_left}
+use Rattle.cert_log.proofs.Walked.{Stands, open_bounds, good_left_is, good_stands}
 use Rattle.cert_resume.specs.OpenBoxes.{CanBeWalked, SplitsFree, numbered_from, open_boxes}
 
 pub are_numbered : (f : Frame) (n : ℕ) (boxes : List (List Ranges)) → numbered n (numbered_from f n boxes)
@@ -66,8 +67,14 @@ stands_free b floor loss rs waiting st = tt
 
 -- a right certificate can be walked
 pub can_be_walked : (b : Problem) (loss : Option ℕ) (rs : List Ranges) (c : Certificate) → IsGood b rs loss c → CanBeWalked rs c.nodes.items
-can_be_walked b loss rs c good = record { tree = good.tree; nodes_are = good.nodes_are; free = stands_free b c.floor loss rs good.tree good.stands }
+can_be_walked b loss rs c good = record {
+  tree = good.tree;
+  nodes_are = good.nodes_are;
+  free = stands_free b c.floor loss rs good.tree (good_stands b rs loss c good);
+}
 
 -- and has as many open nodes as it says
 pub left_counted : (b : Problem) (loss : Option ℕ) (rs : List Ranges) (c : Certificate) → IsGood b rs loss c → c.left ≡ count_by is_left c.nodes.items
-left_counted b loss rs c good = good.left_is ∙ bound_for_each b c.floor rs good.tree ∙ one_for_each rs good.tree ∙ ap (λ (ns : List Node). count_by is_left ns) (sym good.nodes_are)
+left_counted b loss rs c good =
+    good_left_is b rs loss c good ∙ bound_for_each b c.floor rs good.tree ∙ one_for_each rs good.tree
+    ∙ ap (λ (ns : List Node). count_by is_left ns) (sym good.nodes_are)

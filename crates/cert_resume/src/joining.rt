@@ -73,7 +73,9 @@ fn fill<'a>(
     node: Node,
     parts: &'a [Certificate],
 ) -> Result<&'a [Certificate], Memory>
-    ensures { IfOk result (λ rest. (later : List NodeOf) → nodes.new.items ++ filled later (nodes_in rest.now) ≡ nodes.old.items ++ filled (node ∷ later) (nodes_in parts.now)) }
+    ensures { IfOk result (λ rest. (later : List NodeOf)
+        → nodes.new.items ++ filled later (nodes_in rest.now)
+        ≡ nodes.old.items ++ filled (node ∷ later) (nodes_in parts.now)) }
 {
     match node {
         Node::Left => match parts.split_first() {
@@ -123,7 +125,9 @@ pub fn join(
     requires left { sum_by (λ (p : CertificateOf). p.left) parts.items < 2 ^ 64 }
     ensures joined { IfOk result (IsJoined cert.now parts.items loss) }
     ensures right { IfOk result (KeepsRight cert.now parts.items loss) }
-    ensures nodes { IfOk result (λ j. length j.nodes.items + length parts.items ≡ length cert.now.nodes.items + sum_by (λ (p : CertificateOf). length p.nodes.items) parts.items) }
+    ensures nodes { IfOk result (λ j. length j.nodes.items + length parts.items
+        ≡ length cert.now.nodes.items + sum_by
+        (λ (p : CertificateOf). length p.nodes.items) parts.items) }
     ensures head { IfOk result (λ j. IsHead (head_of j)) }
     ensures number { IfOk result (λ j. IsNumber (length j.nodes.items)) }
 {

@@ -25,7 +25,8 @@ fn split(
 ) -> Result<(), Memory>
     requires frame { bx.frame ≡ frame_of instance.now }
     requires may { MayPass bx.ranges (Node.Split step var) }
-    ensures { OnOk result (waiting.new.items ≡ waiting.old.items ++ boxes_behind (Node.Split step var) bx) }
+    ensures { OnOk result (waiting.new.items ≡ waiting.old.items
+        ++ boxes_behind (Node.Split step var) bx) }
 {
     match bx.split(alloc, instance, step, var, (0, 0)) {
         Ok((lower, upper)) => {
@@ -48,7 +49,8 @@ fn pass(
     requires frame { bx.frame ≡ frame_of instance.now }
     requires may { MayPass bx.ranges node }
     ensures waiting { OnOk result (waiting.new.items ≡ waiting.old.items ++ boxes_behind node bx) }
-    ensures boxes { OnOk result (boxes.new.items ≡ boxes.old.items ++ left_at (length boxes.old.items) node bx) }
+    ensures boxes { OnOk result (boxes.new.items
+        ≡ boxes.old.items ++ left_at (length boxes.old.items) node bx) }
 {
     match node {
         Node::Split { step, var } => split(alloc, instance, step, var, bx, waiting),
@@ -71,8 +73,10 @@ pub fn left_boxes(
     requires { CanBeWalked (root_of (frame_of instance.now) 0).ranges cert.now.nodes.items }
     ensures boxes { IfOk result (λ boxes. AreLeftBoxes instance.now cert.now boxes.items) }
     ensures ids { IfOk result (λ boxes. numbered 0 boxes.items) }
-    ensures frames { IfOk result (λ boxes. All (λ (x : PlainBox). x.frame ≡ frame_of instance.now) boxes.items) }
-    ensures count { IfOk result (λ boxes. length boxes.items ≡ count_by is_left cert.now.nodes.items) }
+    ensures frames { IfOk result (λ boxes. All (λ (x : PlainBox). x.frame
+        ≡ frame_of instance.now) boxes.items) }
+    ensures count { IfOk result (λ boxes. length boxes.items
+        ≡ count_by is_left cert.now.nodes.items) }
 {
     let mut waiting = Run::new(alloc);
     append(&mut waiting, PlanBox::root(alloc, instance, 0)?)?;

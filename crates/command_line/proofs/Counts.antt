@@ -8,7 +8,7 @@ use Rattle.std.specs.Str.Parse.{ParsesUnsigned, digits_value}
 use Rattle.std.specs.Str.Pattern.{LacksTextAt}
 use Rattle.std.proofs.lemmas.Bool.{cases_Bool}
 use Rattle.std.proofs.lemmas.Str.Parse.{IsDigitsTest, numerals_by_value, parse_digits}
-use Rattle.command_line.specs.Grammar.{count_front, count_value, has_leading_zero, is_number, number_within}
+use Rattle.command_line.specs.Grammar.{count_value, has_leading_zero, is_number, number_within, setting_of}
 use Rattle.command_line.specs.declared.grammar.Count.{Count}
 use Rattle.command_line.proofs.Prefixes.{front_differs}
 
@@ -64,7 +64,7 @@ no_value : {X : Type 0} (test : Bool) (found : Option X) → test ≡ false → 
 no_value test found e = rw e refl
 
 -- a word that does not begin with the front of a count's option sets no such count
-pub sets_none : (of : Count) (front word : List ℕ) → front ≡ count_front of → LacksTextAt front word 0 → None ≡ count_value of word
+pub sets_none : (of : Count) (front word : List ℕ) → front ≡ (setting_of of).front → LacksTextAt front word 0 → None ≡ count_value of word
 sets_none of front word e lacks =
     let P : List ℕ → Type 0 = λ f. LacksTextAt f word 0 in
-    no_value _ _ (front_differs (count_front of) word (subst P e lacks))
+    no_value _ _ (front_differs (setting_of of).front word (subst P e lacks))

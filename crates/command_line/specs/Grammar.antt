@@ -136,40 +136,21 @@ option_name of word =
 abbrev pub is_option : Role → List ℕ → Bool
 is_option of word = is_some (option_name of word)
 
--- what stands before the number in an option
-abbrev pub count_front : Count → List ℕ
-count_front count.Workers = codes "--workers="
-count_front count.Budget = codes "--budget="
-count_front count.Frozen = codes "--frozen="
-count_front count.Effort = codes "--effort="
+-- a number that a line can set: what stands before it in an option, the least that a line may have, whether it sets one or not, the greatest that can be
+-- set, the one where a line sets none, and the file without which it says nothing, if there is one
+pub record Setting : Type 0 where
+  pub front : List ℕ
+  pub least : ℕ
+  pub most : ℕ
+  pub usual : ℕ
+  pub needs : Option Role
 
--- the greatest number that can be set; the least is 1
-abbrev pub count_most : Count → ℕ
-count_most count.Workers = 8
-count_most count.Budget = 10000000
-count_most count.Frozen = 1000
-count_most count.Effort = 1000000
-
--- the number where a line sets none: no plates are cut already, and no more work is done than for the usual first plan
-abbrev pub count_usual : Count → ℕ
-count_usual count.Workers = 4
-count_usual count.Budget = 100000
-count_usual count.Frozen = 0
-count_usual count.Effort = 0
-
--- the least number that a line may have, whether it sets one or not
-abbrev pub count_least : Count → ℕ
-count_least count.Workers = 1
-count_least count.Budget = 1
-count_least count.Frozen = 0
-count_least count.Effort = 0
-
--- the file without which this number says nothing, if there is one
-abbrev pub count_needs : Count → Option Role
-count_needs count.Workers = None
-count_needs count.Budget = None
-count_needs count.Frozen = Some role.Plan
-count_needs count.Effort = None
+-- usually no plates are cut already, and no more work is done than for the usual first plan; the least that can be set is 1
+abbrev pub setting_of : Count → Setting
+setting_of count.Workers = record { front = codes "--workers="; least = 1; most = 8; usual = 4; needs = None }
+setting_of count.Budget = record { front = codes "--budget="; least = 1; most = 10000000; usual = 100000; needs = None }
+setting_of count.Frozen = record { front = codes "--frozen="; least = 0; most = 1000; usual = 0; needs = Some role.Plan }
+setting_of count.Effort = record { front = codes "--effort="; least = 0; most = 1000000; usual = 0; needs = None }
 
 -- the word of an option that has no value
 abbrev pub flag_word : Flag → List ℕ
@@ -202,27 +183,21 @@ abbrev pub is_lead : Lead → Lead → Bool
 is_lead of other = lead_place of == lead_place other
 
 -- the least and the greatest number that can stand before the names
-abbrev pub lead_least : Lead → ℕ
-lead_least lead.Start = 0
-lead_least lead.Items = 1
-lead_least lead.Defects = 0
-lead_least lead.Frozen = 1
-
-abbrev pub lead_most : Lead → ℕ
-lead_most lead.Start = 4294967295
-lead_most lead.Items = 800
-lead_most lead.Defects = 20000
-lead_most lead.Frozen = 1000
+abbrev pub lead_range : Lead → ℕ × ℕ
+lead_range lead.Start = (0, 4294967295)
+lead_range lead.Items = (1, 800)
+lead_range lead.Defects = (0, 20000)
+lead_range lead.Frozen = (1, 1000)
 
 -- the number that a word before the names is
 abbrev pub lead_value : Lead → List ℕ → Option ℕ
-lead_value of word = number_within (lead_least of) (lead_most of) word
+lead_value of word = number_within (lead_range of).0 (lead_range of).1 word
 
 -- the number that a word sets
 abbrev pub count_value : Count → List ℕ → Option ℕ
 count_value of word =
-    let front = count_front of in
-    if bytes_eq (take (length front) word) front then number_within 1 (count_most of) (drop (length front) word) else None
+    let front = (setting_of of).front in
+    if bytes_eq (take (length front) word) front then number_within 1 (setting_of of).most (drop (length front) word) else None
 
 abbrev pub is_count : Count → List ℕ → Bool
 is_count of word = is_some (count_value of word)
@@ -231,39 +206,23 @@ is_count of word = is_some (count_value of word)
 abbrev pub is_flag : Flag → List ℕ → Bool
 is_flag of word = bytes_eq word (flag_word of)
 
--- a word is one of these options without a value
-abbrev pub is_some_flag : List Flag → List ℕ → Bool
-is_some_flag flags word = list_any (λ of. is_flag of word) flags
+-- a word is one of these options
+abbrev pub is_any_of : {A : Type 0} → (A → List ℕ → Bool) → List A → List ℕ → Bool
+is_any_of is all word = list_any (λ of. is of word) all
 
--- a word sets one of these numbers
-abbrev pub is_some_count : List Count → List ℕ → Bool
-is_some_count counts word = list_any (λ of. is_count of word) counts
-
--- a word is an option of one of these roles
-abbrev pub is_some_option : List Role → List ℕ → Bool
-is_some_option roles word = list_any (λ of. is_option of word) roles
-
--- one of these words at the most is an option of this role
-abbrev pub is_once : List (List ℕ) → Role → Bool
-is_once words of = nat_le (count_by (is_option of) words) 1
-
--- one of these words at the most sets this number
-abbrev pub is_count_once : List (List ℕ) → Count → Bool
-is_count_once words of = nat_le (count_by (is_count of) words) 1
-
--- one of these words at the most is this option without a value
-abbrev pub is_flag_once : List (List ℕ) → Flag → Bool
-is_flag_once words of = nat_le (count_by (is_flag of) words) 1
+-- each of these options is one of these words at the most
+abbrev pub are_once : {A : Type 0} → (A → List ℕ → Bool) → List A → List (List ℕ) → Bool
+are_once is all words = list_all (λ of. nat_le (count_by (is of) words) 1) all
 
 -- a word is one of the options of a command
 abbrev pub is_command_option : Pattern → List ℕ → Bool
-is_command_option pattern word = is_some_option pattern.options word || is_some_count pattern.counts word || is_some_flag pattern.flags word
+is_command_option pattern word = is_any_of is_option pattern.options word || is_any_of is_count pattern.counts word || is_any_of is_flag pattern.flags word
 
 -- the words are options of a command, each of them once at the most
 abbrev pub are_options : Pattern → List (List ℕ) → Bool
 are_options pattern words =
-    list_all (is_command_option pattern) words && list_all (is_once words) pattern.options && list_all (is_count_once words) pattern.counts
-    && list_all (is_flag_once words) pattern.flags
+    list_all (is_command_option pattern) words && are_once is_option pattern.options words && are_once is_count pattern.counts words
+    && are_once is_flag pattern.flags words
 
 -- a command line: its command, the numbers behind it, the names of files, and its options
 pub record Line : Type 0 where
@@ -294,7 +253,7 @@ is_read_named line of = is_some (name_at line of) || list_any (λ other. is_role
 
 -- whether a line names the file without which this number says nothing, where it sets the number
 abbrev pub is_count_served : Line → Count → Bool
-is_count_served line of = not (list_any (is_count of) line.options) || option_map_or (λ needed. is_some (name_at line needed)) (count_needs of) true
+is_count_served line of = not (list_any (is_count of) line.options) || option_map_or (λ needed. is_some (name_at line needed)) (setting_of of).needs true
 
 -- the names under which a line stores
 abbrev pub stored_names : Line → List (List ℕ)
@@ -375,7 +334,7 @@ name_of line of = option_or (name_at line of) (name_by_option line of)
 
 -- the number that a line sets, or the usual one
 abbrev pub count_in : Line → Count → ℕ
-count_in line of = unwrap_or (option_and_then (count_value of) (find (is_count of) line.options)) (count_usual of)
+count_in line of = unwrap_or (option_and_then (count_value of) (find (is_count of) line.options)) (setting_of of).usual
 
 -- whether a line has this option without a value
 abbrev pub flag_in : Line → Flag → Bool
@@ -383,7 +342,7 @@ flag_in line of = list_any (is_flag of) line.options
 
 -- the number of this kind that stands before a line's names
 abbrev pub lead_in : Line → Lead → ℕ
-lead_in line of = unwrap_or (lead_at line of) (lead_least of)
+lead_in line of = unwrap_or (lead_at line of) (lead_range of).0
 
 -- the file of this role with its name, if the line names it
 abbrev pub file_of : Line → Role → Option (Role × List ℕ)

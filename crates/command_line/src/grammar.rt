@@ -1,7 +1,7 @@
 //! The commands, each a row of one table.
 
 ghost use Rattle.std.specs.Prelude.{◌≡◌};
-ghost use Rattle.command_line.specs.Grammar.{fetch_order, option_front as option_front_of, role_word as role_word_of, count_front as count_front_of, count_most as count_most_of, count_usual as count_usual_of, count_needs as count_needs_of, flag_word as flag_word_of, lead_least as lead_least_of, lead_most as lead_most_of, verbs};
+ghost use Rattle.command_line.specs.Grammar.{fetch_order, option_front as option_front_of, role_word as role_word_of, flag_word as flag_word_of, verbs, setting_of, lead_range};
 
 use glass_base::Role;
 
@@ -323,7 +323,7 @@ pub(crate) fn option_front(role: Role) -> &'static str
 
 /// What stands before the number in an option.
 pub(crate) fn count_front(count: Count) -> &'static str
-    ensures { result.now ≡ count_front_of count }
+    ensures { result.now ≡ (setting_of count).front }
 {
     match count {
         Count::Workers => "--workers=",
@@ -335,7 +335,7 @@ pub(crate) fn count_front(count: Count) -> &'static str
 
 /// The greatest number that can be set.
 pub(crate) fn count_most(count: Count) -> u32
-    ensures { result ≡ count_most_of count }
+    ensures { result ≡ (setting_of count).most }
 {
     match count {
         Count::Workers => 8,
@@ -347,7 +347,7 @@ pub(crate) fn count_most(count: Count) -> u32
 
 /// The number where a line sets none.
 pub(crate) fn count_usual(count: Count) -> u32
-    ensures { result ≡ count_usual_of count }
+    ensures { result ≡ (setting_of count).usual }
 {
     match count {
         Count::Workers => 4,
@@ -359,7 +359,7 @@ pub(crate) fn count_usual(count: Count) -> u32
 
 /// The file without which the number says nothing, if there is one.
 pub(crate) fn count_needs(count: Count) -> Option<Role>
-    ensures { result ≡ count_needs_of count }
+    ensures { result ≡ (setting_of count).needs }
 {
     match count {
         Count::Workers => None,
@@ -381,7 +381,7 @@ pub(crate) fn flag_word(flag: Flag) -> &'static str
 
 /// The least number that can stand before the names.
 pub(crate) fn lead_least(lead: Lead) -> u32
-    ensures { result ≡ lead_least_of lead }
+    ensures { result ≡ (lead_range lead).0 }
 {
     match lead {
         Lead::Start => 0,
@@ -393,7 +393,7 @@ pub(crate) fn lead_least(lead: Lead) -> u32
 
 /// The greatest number that can stand before the names.
 pub(crate) fn lead_most(lead: Lead) -> u32
-    ensures { result ≡ lead_most_of lead }
+    ensures { result ≡ (lead_range lead).1 }
 {
     match lead {
         Lead::Start => u32::MAX,

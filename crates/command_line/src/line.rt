@@ -5,7 +5,7 @@ ghost use Rattle.std.specs.List.{list_all};
 ghost use Rattle.std.specs.Option.{option_map_or};
 ghost use Rattle.std.specs.Str.{bytes_eq};
 ghost use Rattle.std.specs.String.{string_bytes};
-ghost use Rattle.command_line.specs.Grammar.{count_least as count_least_of, count_most as count_most_of, count_needs as count_needs_of, lead_least as lead_least_of, lead_most as lead_most_of, line_if, line_of, line_with, picture_line_of, verb_of};
+ghost use Rattle.command_line.specs.Grammar.{line_if, line_of, line_with, picture_line_of, verb_of, setting_of, lead_range};
 ghost use Rattle.command_line.specs.Lines.{line_in};
 
 use crate::grammar::{
@@ -49,7 +49,8 @@ impl<'a> CommandLine<'a> {
 
     /// Whether each number that stands before the names of the command is said.
     fn says_each_lead(&self) -> bool
-        ensures { result ≡ list_all (λ of. is_some (lead_at (line_in self.now) of)) (pattern_of self.now.verb).leads }
+        ensures { result ≡ list_all (λ of. is_some (lead_at (line_in self.now) of))
+            (pattern_of self.now.verb).leads }
     {
         self.verb
             .form()
@@ -67,7 +68,9 @@ impl<'a> CommandLine<'a> {
 
     /// How often names and options name this file.
     fn namings(&self, name: &str) -> usize
-        ensures { result ≡ count_by (λ n. bytes_eq n name.now) (line_in self.now).names + count_by (option_names_of (pattern_of self.now.verb).options name.now) (line_in self.now).options }
+        ensures { result ≡ count_by (λ n. bytes_eq n name.now) (line_in self.now).names
+            + count_by (option_names_of (pattern_of self.now.verb).options name.now)
+            (line_in self.now).options }
     {
         let roles = self.verb.form().options;
         let names = self.names.iter().filter(|n| n.as_str() == name).count();
@@ -96,7 +99,9 @@ impl<'a> CommandLine<'a> {
 
     /// The name under which the command stores this, if it does.
     fn stored_at(&self, product: Product) -> Option<&'a str>
-        ensures { option_map (λ name. name.now) result ≡ option_and_then (slice_get (stored_names (line_in self.now))) (position (is_product product) (pattern_of self.now.verb).stores) }
+        ensures { option_map (λ name. name.now) result
+            ≡ option_and_then (slice_get (stored_names (line_in self.now)))
+            (position (is_product product) (pattern_of self.now.verb).stores) }
     {
         let place = product_among(product, self.verb.form().stores)?;
         word_at(self.stored(), place)
@@ -114,7 +119,8 @@ impl<'a> CommandLine<'a> {
 
     /// Whether each name under which the command stores is named once.
     fn stores_apart(&self) -> bool
-        ensures { result ≡ list_all (is_named_once (line_in self.now)) (stored_names (line_in self.now)) }
+        ensures { result ≡ list_all (is_named_once (line_in self.now))
+            (stored_names (line_in self.now)) }
     {
         self.stored()
             .iter()
@@ -139,7 +145,8 @@ impl<'a> CommandLine<'a> {
 
     /// Whether the line names each file that the command reads, or the command can do without it.
     fn names_all_read(&self) -> bool
-        ensures { result ≡ list_all (is_read_named (line_in self.now)) (pattern_of self.now.verb).reads }
+        ensures { result ≡ list_all (is_read_named (line_in self.now))
+            (pattern_of self.now.verb).reads }
     {
         self.verb
             .form()
@@ -161,7 +168,8 @@ impl<'a> CommandLine<'a> {
 
     /// Whether the line names the file without which this number says nothing.
     fn names_needed(&self, count: Count) -> bool
-        ensures { result ≡ option_map_or (λ needed. is_some (name_at (line_in self.now) needed)) (count_needs_of count) true }
+        ensures { result ≡ option_map_or (λ needed. is_some (name_at (line_in self.now) needed))
+            (setting_of count).needs true }
     {
         match count_needs(count) {
             Some(role) => self.name_at(role).is_some(),
@@ -178,7 +186,8 @@ impl<'a> CommandLine<'a> {
 
     /// Whether the line names the file that each number needs.
     fn serves_all(&self) -> bool
-        ensures { result ≡ list_all (is_count_served (line_in self.now)) (pattern_of self.now.verb).counts }
+        ensures { result ≡ list_all (is_count_served (line_in self.now))
+            (pattern_of self.now.verb).counts }
     {
         self.verb
             .form()
@@ -202,8 +211,8 @@ impl<'a> CommandLine<'a> {
     /// The number of this kind that stands before the names.
     pub fn lead(&self, lead: Lead) -> u32
         ensures value { result ≡ lead_in (line_in self.now) lead }
-        ensures least { lead_least_of lead ≤ result }
-        ensures most { result ≤ lead_most_of lead }
+        ensures least { (lead_range lead).0 ≤ result }
+        ensures most { result ≤ (lead_range lead).1 }
     {
         match self.lead_at(lead) {
             Some(number) => number,
@@ -214,8 +223,8 @@ impl<'a> CommandLine<'a> {
     /// The number that the line sets, or the usual one.
     pub fn count(&self, count: Count) -> u32
         ensures value { result ≡ count_in (line_in self.now) count }
-        ensures least { count_least_of count ≤ result }
-        ensures most { result ≤ count_most_of count }
+        ensures least { (setting_of count).least ≤ result }
+        ensures most { result ≤ (setting_of count).most }
     {
         match count_set(count, self.options) {
             Some(number) => number,

@@ -1,18 +1,17 @@
 //! Questions on single words of a command line, and on all words of one kind.
 
 ghost use Rattle.std.specs.Prelude.{◌≡◌, ◌≤◌, ◌||◌, map, count_by, option_map, option_and_then, find, position, slice_get, IfSome};
-ghost use Rattle.std.specs.Char.{is_ascii_digit};
 ghost use Rattle.std.specs.List.{list_all, list_any};
 ghost use Rattle.std.specs.String.{string_bytes};
 ghost use Rattle.glass_base.specs.Roles.{is_role};
-ghost use Rattle.command_line.specs.Grammar.{count_most as count_most_of, are_options as are_options_of, has_leading_zero as has_leading_zero_of, is_command_option as is_command_option_of, is_flag as is_flag_of, is_flag_once, is_some_flag as is_some_flag_of, is_number as is_number_of, is_count as is_count_of, is_count_once, is_some_count as is_some_count_of, is_dash as is_dash_of, is_lead, is_product, lead_value as lead_value_of, name_said as name_said_of, number_within as number_within_of, count_value as count_value_of, is_once, is_option_for as is_option_for_of, is_some_option as is_some_option_of, is_name as is_name_of, is_option as is_option_of, option_name as option_name_of, option_names as option_names_of};
+ghost use Rattle.command_line.specs.Grammar.{are_options as are_options_of, has_leading_zero as has_leading_zero_of, is_command_option as is_command_option_of, is_flag as is_flag_of, is_number as is_number_of, is_count as is_count_of, is_dash as is_dash_of, is_lead, is_product, lead_value as lead_value_of, name_said as name_said_of, number_within as number_within_of, count_value as count_value_of, is_option_for as is_option_for_of, is_name as is_name_of, is_option as is_option_of, option_name as option_name_of, option_names as option_names_of, setting_of, is_any_of, are_once as are_once_of};
 ghost use Rattle.command_line.specs.inner.Forms.{pattern_in};
 
 use crate::grammar::{
     Count, Flag, Form, Lead, Product, count_front, count_most, flag_word, lead_least, lead_most,
     option_front,
 };
-use glass_base::Role;
+use glass_base::{Role, are_digits};
 
 /// Whether a word is a file name: not empty, no dash alone, and without two dashes at its front.
 fn is_name(word: &str) -> bool
@@ -59,7 +58,8 @@ fn is_name_or_dash(word: &str) -> bool
 
 /// Whether each word may stand in the place of a name.
 pub(crate) fn are_names_or_dashes(words: &[String]) -> bool
-    ensures { result ≡ list_all (λ word. is_name_of word || is_dash_of word) (map string_bytes words.now) }
+    ensures { result ≡ list_all (λ word. is_name_of word || is_dash_of word)
+        (map string_bytes words.now) }
 {
     words.iter().all(|word| is_name_or_dash(word.as_str()))
 }
@@ -83,7 +83,7 @@ fn is_option(role: Role, word: &str) -> bool
 
 /// Whether a word is an option of one of these roles.
 fn is_some_option(roles: &[Role], word: &str) -> bool
-    ensures { result ≡ is_some_option_of roles.now word.now }
+    ensures { result ≡ is_any_of is_option_of roles.now word.now }
 {
     roles.iter().any(|role| is_option(*role, word))
 }
@@ -100,7 +100,7 @@ fn options_of_role(role: Role, words: &[String]) -> usize
 
 /// Whether each of these roles has one option at the most.
 fn are_once(roles: &[Role], words: &[String]) -> bool
-    ensures { result ≡ list_all (is_once (map string_bytes words.now)) roles.now }
+    ensures { result ≡ are_once_of is_option_of roles.now (map string_bytes words.now) }
 {
     roles.iter().all(|role| options_of_role(*role, words) <= 1)
 }
@@ -113,13 +113,6 @@ fn has_leading_zero(text: &[u8]) -> bool
         [first, _, ..] => *first == b'0',
         _ => false,
     }
-}
-
-/// Whether a text has no other bytes than digits.
-fn are_digits(text: &[u8]) -> bool
-    ensures { result ≡ list_all is_ascii_digit text.now }
-{
-    text.iter().all(|byte| byte.is_ascii_digit())
 }
 
 /// Whether a text is a number: one digit or more, without a sign and without a zero at the front.
@@ -159,7 +152,7 @@ pub(crate) fn lead_value(lead: Lead, word: &str) -> Option<u32>
 /// The number that a word sets.
 fn count_value(count: Count, word: &str) -> Option<u32>
     ensures value { result ≡ count_value_of count word.now }
-    ensures within { IfSome result (λ n. (1 ≤ n) × (n ≤ count_most_of count)) }
+    ensures within { IfSome result (λ n. (1 ≤ n) × (n ≤ (setting_of count).most)) }
 {
     match word.strip_prefix(count_front(count)) {
         Some(text) => number_within(1, count_most(count), text),
@@ -176,7 +169,7 @@ fn is_count(count: Count, word: &str) -> bool
 
 /// Whether a word sets one of these numbers.
 fn is_some_count(counts: &[Count], word: &str) -> bool
-    ensures { result ≡ is_some_count_of counts.now word.now }
+    ensures { result ≡ is_any_of is_count_of counts.now word.now }
 {
     counts.iter().any(|count| is_count(*count, word))
 }
@@ -200,7 +193,7 @@ fn counts_of(count: Count, words: &[String]) -> usize
 
 /// Whether each of these numbers is set once at the most.
 fn are_counts_once(counts: &[Count], words: &[String]) -> bool
-    ensures { result ≡ list_all (is_count_once (map string_bytes words.now)) counts.now }
+    ensures { result ≡ are_once_of is_count_of counts.now (map string_bytes words.now) }
 {
     counts.iter().all(|count| counts_of(*count, words) <= 1)
 }
@@ -214,7 +207,7 @@ fn is_flag(flag: Flag, word: &str) -> bool
 
 /// Whether a word is one of these options without a value.
 fn is_some_flag(flags: &[Flag], word: &str) -> bool
-    ensures { result ≡ is_some_flag_of flags.now word.now }
+    ensures { result ≡ is_any_of is_flag_of flags.now word.now }
 {
     flags.iter().any(|flag| is_flag(*flag, word))
 }
@@ -231,7 +224,7 @@ fn flags_of(flag: Flag, words: &[String]) -> usize
 
 /// Whether each of these options without a value is there once at the most.
 fn are_flags_once(flags: &[Flag], words: &[String]) -> bool
-    ensures { result ≡ list_all (is_flag_once (map string_bytes words.now)) flags.now }
+    ensures { result ≡ are_once_of is_flag_of flags.now (map string_bytes words.now) }
 {
     flags.iter().all(|flag| flags_of(*flag, words) <= 1)
 }
@@ -254,7 +247,8 @@ fn is_command_option(form: &Form, word: &str) -> bool
 
 /// Whether each word is one of the options of a command.
 fn are_command_options(form: &Form, words: &[String]) -> bool
-    ensures { result ≡ list_all (is_command_option_of (pattern_in form.now)) (map string_bytes words.now) }
+    ensures { result ≡ list_all (is_command_option_of (pattern_in form.now))
+        (map string_bytes words.now) }
 {
     words
         .iter()
@@ -322,7 +316,8 @@ pub(crate) fn word_at(words: &[String], place: usize) -> Option<&str>
 
 /// The first word that sets this number.
 fn first_count(count: Count, words: &[String]) -> Option<&str>
-    ensures { option_map (λ word. word.now) result ≡ find (is_count_of count) (map string_bytes words.now) }
+    ensures { option_map (λ word. word.now) result
+        ≡ find (is_count_of count) (map string_bytes words.now) }
 {
     words
         .iter()
@@ -332,8 +327,9 @@ fn first_count(count: Count, words: &[String]) -> Option<&str>
 
 /// The number that the first such word sets.
 pub(crate) fn count_set(count: Count, words: &[String]) -> Option<u32>
-    ensures value { result ≡ option_and_then (count_value_of count) (find (is_count_of count) (map string_bytes words.now)) }
-    ensures within { IfSome result (λ n. (1 ≤ n) × (n ≤ count_most_of count)) }
+    ensures value { result ≡ option_and_then (count_value_of count)
+        (find (is_count_of count) (map string_bytes words.now)) }
+    ensures within { IfSome result (λ n. (1 ≤ n) × (n ≤ (setting_of count).most)) }
 {
     let word = first_count(count, words)?;
     count_value(count, word)
@@ -341,7 +337,8 @@ pub(crate) fn count_set(count: Count, words: &[String]) -> Option<u32>
 
 /// The first option of this role.
 pub(crate) fn first_option(role: Role, words: &[String]) -> Option<&str>
-    ensures { option_map (λ word. word.now) result ≡ find (is_option_of role) (map string_bytes words.now) }
+    ensures { option_map (λ word. word.now) result
+        ≡ find (is_option_of role) (map string_bytes words.now) }
 {
     words
         .iter()

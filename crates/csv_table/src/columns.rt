@@ -30,7 +30,8 @@ fn whole_of(row: u64, column: u64, most: u32, field: &[u8]) -> Result<u32, BadTe
 /// field is no whole number, `Range` where the number is above `most`.
 pub fn whole_at(row: u64, column: u64, most: u32, fields: &ByteRecord) -> Result<u32, BadText>
     requires { 0 < column }
-    ensures value { result ≡ whole_in row column most (field_at (fields_of fields.now) (column - 1)) }
+    ensures value { result ≡ whole_in row column most
+        (field_at (fields_of fields.now) (column - 1)) }
     ensures range { IfOk result (λ number. number ≤ most) }
 {
     match fields.get((column - 1) as usize) {
@@ -60,7 +61,8 @@ fn measure_of(row: u64, column: u64, most: u32, field: &[u8]) -> Result<Decimal,
 /// `Range` where the number is above `most`.
 pub fn measure_at(row: u64, column: u64, most: u32, fields: &ByteRecord) -> Result<Decimal, BadText>
     requires { 0 < column }
-    ensures value { result ≡ measure_in row column most (field_at (fields_of fields.now) (column - 1)) }
+    ensures value { result ≡ measure_in row column most
+        (field_at (fields_of fields.now) (column - 1)) }
     ensures range { IfOk result (IsAtMost most) }
 {
     match fields.get((column - 1) as usize) {

@@ -33,7 +33,8 @@ impl Model for Lines {
 fn push_line(writer: &mut Writer<Vec<u8>>, fields: &[&[u8]]) -> Result<(), Memory>
     requires { IsBetween writer.old }
     ensures between { OnOk result (IsBetween writer.new) }
-    ensures wrote { OnOk result (Wrote writer.old writer.new (row_text semicolons (map (λ f. f.now) fields.now))) }
+    ensures wrote { OnOk result (Wrote writer.old writer.new
+        (row_text semicolons (map (λ f. f.now) fields.now))) }
 {
     match writer.write_fields(fields) {
         Ok(()) => Ok(()),
@@ -61,7 +62,8 @@ impl Lines {
     pub fn write_line(&mut self, fields: &[&[u8]]) -> Result<(), Memory>
         requires some { 2 ≤ length fields.now }
         requires plain { ArePlain (map (λ f. f.now) fields.now) }
-        ensures ok { OnOk result (self.new.text ≡ self.old.text ++ line_of (map (λ f. f.now) fields.now)) }
+        ensures ok { OnOk result (self.new.text ≡ self.old.text
+            ++ line_of (map (λ f. f.now) fields.now)) }
         ensures err { IsErr result ↔ (self.new.failed ≡ true) }
         ensures failed { self.old.failed ≡ true → IsErr result }
     {

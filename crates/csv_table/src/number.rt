@@ -6,6 +6,8 @@ ghost use Rattle.std.specs.List.{list_all, prefix_len, suffix_len};
 ghost use Rattle.std.specs.Str.Parse.{digits_value};
 ghost use Rattle.csv_table.specs.Numbers.{decimal, digits, is_blank as blank, is_point, number_at, trimmed};
 
+use glass_base::are_digits;
+
 /// A number with up to six decimals.
 #[derive(Clone, Copy, Debug, PartialEq, Eq)]
 pub struct Decimal {
@@ -60,13 +62,6 @@ fn value_of(text: &[u8]) -> u32
         value = value * 10 + u32::from(*byte - b'0');
     }
     value
-}
-
-/// Whether a text has no other bytes than digits.
-fn are_digits(text: &[u8]) -> bool
-    ensures { result ≡ list_all is_ascii_digit text.now }
-{
-    text.iter().all(|byte| byte.is_ascii_digit())
 }
 
 /// The number that one to `most` digits write. Leading zeros are allowed.

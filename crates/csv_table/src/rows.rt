@@ -48,7 +48,8 @@ impl<'a> Rows<'a> {
 
     /// The next row, or none at the end. After an error there are no more rows.
     pub fn next_row(&mut self) -> Result<Option<ByteRecord>, Memory>
-        ensures ok { IfOk result (λ o. MatchOption o ((self.old ≡ []) × (self.new ≡ [])) (λ r. self.old ≡ fields_of r ∷ self.new)) }
+        ensures ok { IfOk result (λ o. MatchOption o ((self.old ≡ [])
+            × (self.new ≡ [])) (λ r. self.old ≡ fields_of r ∷ self.new)) }
         ensures err { OnErr result (self.new ≡ []) }
     {
         if self.ended {

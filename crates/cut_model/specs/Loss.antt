@@ -9,8 +9,7 @@ use Rattle.cut_model.specs.Tree.{Forest, is_residual, sort_named}
 -- the area of a row, in mm², where its type is that of a waste
 abbrev pub area_wasted : ℤ → Row → ℕ
 area_wasted (negsuc zero) row = row.width * row.height
-area_wasted (negsuc (suc _)) row = 0
-area_wasted (pos _) row = 0
+area_wasted _ row = 0
 
 -- the areas of the wastes, together
 abbrev pub waste_of : List Row → ℕ

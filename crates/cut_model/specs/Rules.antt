@@ -15,9 +15,7 @@ use Rattle.cut_model.specs.Order.{item_with}
 -- L1: a plate, and a piece that is cut, has a child, and its children's sizes add up to its own in the direction of the cut
 abbrev pub AddsUp : Family → Sort → Type 0
 AddsUp f Sort.Branch = (f.children.empty ≡ false) × (f.children.total ≡ side_along (turned f.along) f.row)
-AddsUp f (Sort.Item _) = Unit {0}
-AddsUp f Sort.Waste = Unit {0}
-AddsUp f Sort.Residual = Unit {0}
+AddsUp f _ = Unit {0}
 
 -- the row has the item's sides, in one of the two turns
 abbrev pub IsTurnOf : Row → Item → Type 0
@@ -27,16 +25,13 @@ IsTurnOf row item =
 -- L2: an item piece has its item's sides; an item that is not in the batch is a matter of L9
 abbrev pub HasItsSides : List Item → Family → Sort → Type 0
 HasItsSides items f (Sort.Item number) = IfSome (item_with items number) (IsTurnOf f.row)
-HasItsSides items f Sort.Waste = Unit {0}
-HasItsSides items f Sort.Branch = Unit {0}
-HasItsSides items f Sort.Residual = Unit {0}
+HasItsSides items f _ = Unit {0}
 
 -- L3: both sides of a waste, and the width of the residual, are at least the least waste
 abbrev pub IsBroad : Params → Family → Sort → Type 0
 IsBroad p f Sort.Waste = (p.waste ≤ f.row.width) × (p.waste ≤ f.row.height)
 IsBroad p f Sort.Residual = p.waste ≤ f.row.width
-IsBroad p f (Sort.Item _) = Unit {0}
-IsBroad p f Sort.Branch = Unit {0}
+IsBroad p f _ = Unit {0}
 
 -- a piece of a 1-cut has the width of a strip
 abbrev pub HasStripWidth : Params → Row → Type 0
@@ -46,8 +41,7 @@ HasStripWidth p row = row.cut ≡ 1 → (p.min1 ≤ row.width) × (row.width ≤
 abbrev pub IsStrip : Params → Family → Sort → Type 0
 IsStrip p f Sort.Waste = Unit {0}
 IsStrip p f Sort.Residual = Unit {0}
-IsStrip p f (Sort.Item _) = HasStripWidth p f.row
-IsStrip p f Sort.Branch = HasStripWidth p f.row
+IsStrip p f _ = HasStripWidth p f.row
 
 -- a piece of a 2-cut has the height of a band
 abbrev pub HasBandHeight : Params → Row → Type 0
@@ -57,15 +51,13 @@ HasBandHeight p row = row.cut ≡ 2 → p.min2 ≤ row.height
 abbrev pub IsBand : Params → Family → Sort → Type 0
 IsBand p f Sort.Waste = Unit {0}
 IsBand p f Sort.Residual = Unit {0}
-IsBand p f (Sort.Item _) = HasBandHeight p f.row
-IsBand p f Sort.Branch = HasBandHeight p f.row
+IsBand p f _ = HasBandHeight p f.row
 
 -- L6: a piece that is cut by a 4-cut holds an item, and a residual is the last piece of a 1-cut on the last plate
 abbrev pub IsInPlace : Family → Sort → Type 0
 IsInPlace f Sort.Branch = f.row.cut ≡ 3 → f.children.has_item ≡ true
 IsInPlace f Sort.Residual = (f.row.cut ≡ 1) × (f.ends ≡ true)
-IsInPlace f (Sort.Item _) = Unit {0}
-IsInPlace f Sort.Waste = Unit {0}
+IsInPlace f _ = Unit {0}
 
 -- the inside of the row, where it has one, meets the inside of no defect
 abbrev pub IsSound : List Defect → Row → Type 0
@@ -76,9 +68,7 @@ IsSound defects row =
 -- L7: the inside of no item meets a defect of its plate
 abbrev pub AvoidsDefects : List Defect → Family → Sort → Type 0
 AvoidsDefects defects f (Sort.Item _) = IsSound defects f.row
-AvoidsDefects defects f Sort.Waste = Unit {0}
-AvoidsDefects defects f Sort.Branch = Unit {0}
-AvoidsDefects defects f Sort.Residual = Unit {0}
+AvoidsDefects defects f _ = Unit {0}
 
 -- the border to the neighbour before a row, where it has a length, runs through the inside of no defect
 abbrev pub HasClearBorder : List Defect → Along → Row → Type 0

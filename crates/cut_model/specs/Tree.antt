@@ -95,23 +95,17 @@ total_size (piece size _ _ later) = size + total_size later
 -- whether a piece is an item
 abbrev pub is_item : Sort → Bool
 is_item (Sort.Item _) = true
-is_item Sort.Waste = false
-is_item Sort.Branch = false
-is_item Sort.Residual = false
+is_item _ = false
 
 -- whether it is a plate, or a piece that is cut
 abbrev pub is_branch : Sort → Bool
 is_branch Sort.Branch = true
-is_branch Sort.Waste = false
-is_branch Sort.Residual = false
-is_branch (Sort.Item _) = false
+is_branch _ = false
 
 -- whether it is the residual
 abbrev pub is_residual : Sort → Bool
 is_residual Sort.Residual = true
-is_residual Sort.Waste = false
-is_residual Sort.Branch = false
-is_residual (Sort.Item _) = false
+is_residual _ = false
 
 -- whether one of the neighbours is an item
 abbrev pub holds_item : Forest → Bool

@@ -90,7 +90,8 @@ fn is_numbered(sort: Sort) -> bool
 
 /// What is left of `room` for rows by this piece and those inside it, if they are in range.
 fn room_after_piece<P: Part>(room: u64, piece: &P) -> Option<u64>
-    ensures { MatchOption result (¬ FitsPiece room (P.sort piece.now) (P.inner piece.now)) (λ left. LeavesPiece room (P.sort piece.now) (P.inner piece.now) left) }
+    ensures { MatchOption result (¬ FitsPiece room (P.sort piece.now) (P.inner piece.now))
+        (λ left. LeavesPiece room (P.sort piece.now) (P.inner piece.now) left) }
 {
     if !is_numbered(piece.sort()) {
         return None;
@@ -100,7 +101,8 @@ fn room_after_piece<P: Part>(room: u64, piece: &P) -> Option<u64>
 
 /// What is left of `room` for rows by these neighbours, if they are in range.
 pub fn room_after<P: Part>(room: u64, pieces: &[P]) -> Option<u64>
-    ensures { let forest = neighbours P.size P.sort P.inner pieces.now in MatchOption result (¬ FitsIn 20000 room forest) (λ left. Leaves 20000 room forest left) }
+    ensures { let forest = neighbours P.size P.sort P.inner pieces.now in
+        MatchOption result (¬ FitsIn 20000 room forest) (λ left. Leaves 20000 room forest left) }
 {
     let mut length = SIZE_LIMIT;
     let mut left = room;
@@ -114,7 +116,8 @@ pub fn room_after<P: Part>(room: u64, pieces: &[P]) -> Option<u64>
 /// The family of a piece at this place.
 fn family_of<P: Part>(at: &Area, first: bool, ends: bool, node: u64, piece: &P) -> Family
     requires { total_size (P.inner piece.now) ≤ 20000 }
-    ensures { result ≡ family_with at.now first ends node (P.size piece.now) (P.sort piece.now) (children_in (P.inner piece.now)) }
+    ensures { result ≡ family_with at.now first ends node (P.size piece.now) (P.sort piece.now)
+        (children_in (P.inner piece.now)) }
 {
     Family::new(
         at,
@@ -136,9 +139,14 @@ pub fn walk_piece<V: Visitor, P: Part>(
     node: u64,
     piece: &P,
 ) -> Result<u64, V::Stop>
-    requires next { NextWithin P.level node at.now first ends (P.size piece.now) (P.sort piece.now) (P.inner piece.now) }
+    requires next { NextWithin P.level node at.now first ends (P.size piece.now) (P.sort piece.now)
+        (P.inner piece.now) }
     requires room { node + 1 + count (P.inner piece.now) ≤ 2000000000 }
-    ensures { let f = family_with at.now first ends node (P.size piece.now) (P.sort piece.now) (children_in (P.inner piece.now)) in IfOk result (λ next. Walked V.has_seen visitor.old visitor.new (f ∷ families (inside f) true (node + 1) (P.inner piece.now)) next (node + 1 + count (P.inner piece.now))) }
+    ensures { let f = family_with at.now first ends node (P.size piece.now) (P.sort piece.now)
+        (children_in (P.inner piece.now)) in
+        IfOk result (λ next. Walked V.has_seen visitor.old visitor.new
+        (f ∷ families (inside f) true (node + 1) (P.inner piece.now)) next
+        (node + 1 + count (P.inner piece.now))) }
 {
     let family = family_of(at, first, ends, node, piece);
     visitor.visit(&family)?;
@@ -155,7 +163,9 @@ pub fn walk_neighbours<V: Visitor, P: Part>(
     requires start { IsStart P.level first_node at }
     requires fits { FitsIn 20000 2000000000 (neighbours P.size P.sort P.inner pieces.now) }
     requires room { first_node + count (neighbours P.size P.sort P.inner pieces.now) ≤ 2000000000 }
-    ensures { let forest = neighbours P.size P.sort P.inner pieces.now in IfOk result (λ next. Walked V.has_seen visitor.old visitor.new (families at true first_node forest) next (first_node + count forest)) }
+    ensures { let forest = neighbours P.size P.sort P.inner pieces.now in
+        IfOk result (λ next. Walked V.has_seen visitor.old visitor.new
+        (families at true first_node forest) next (first_node + count forest)) }
 {
     let mut rest = at;
     let mut node = first_node;

@@ -16,7 +16,8 @@ use glass_base::Instance;
 /// Tells the visitor the families of a plan, in order of node number. It takes no memory.
 pub fn walk<V: Visitor>(visitor: &mut V, instance: &Instance, plan: &Plan) -> Result<(), V::Stop>
     requires { Fits (tree plan.now) }
-    ensures told { OnOk result (V.has_seen visitor.old visitor.old [] → V.has_seen visitor.old visitor.new (families_of instance.now (tree plan.now))) }
+    ensures told { OnOk result (V.has_seen visitor.old visitor.old []
+        → V.has_seen visitor.old visitor.new (families_of instance.now (tree plan.now))) }
     ensures rules { IsProblem instance.now }
 {
     let mut at = Area {

@@ -19,7 +19,8 @@ use std::convert::Infallible;
 /// The breach of this rule by a piece, if it breaks it.
 fn breach_at(ground: Ground<'_>, rule: CutRule, family: &Family) -> Option<Broken>
     requires small { IsSmall family.now }
-    ensures { let b = ground.entry.instance.now in MatchOption result (KeepsCutRule b rule family.now) (BreaksWith b rule family.now) }
+    ensures { let b = ground.entry.instance.now in
+        MatchOption result (KeepsCutRule b rule family.now) (BreaksWith b rule family.now) }
 {
     let (left, right) = breach(ground, rule, family)?;
     Some(Broken {
@@ -42,7 +43,10 @@ struct Watch<'a> {
 /// The first breach, after one more piece.
 fn first_or_breach(watch: &Watch<'_>, family: &Family) -> Option<Broken>
     requires { IsSmall family.now }
-    ensures { MatchOption watch.now.first (MatchOption result (KeepsCutRule watch.now.ground.instance.now watch.now.rule family.now) (BreaksWith watch.now.ground.instance.now watch.now.rule family.now)) (λ broken. result ≡ Some broken) }
+    ensures { MatchOption watch.now.first (MatchOption result
+        (KeepsCutRule watch.now.ground.instance.now watch.now.rule family.now)
+        (BreaksWith watch.now.ground.instance.now watch.now.rule family.now))
+        (λ broken. result ≡ Some broken) }
 {
     match watch.first {
         Some(broken) => Some(broken),
@@ -69,7 +73,8 @@ impl<'a> Visitor for Watch<'a> {
 /// The first breach of this rule, if some piece breaks it.
 fn first_breach(ground: Ground<'_>, plan: &Plan, rule: CutRule) -> Option<Broken>
     requires fits { Fits (tree plan.now) }
-    ensures { let b = ground.entry.instance.now in Watched b rule (families_of b (tree plan.now)) result }
+    ensures { let b = ground.entry.instance.now in
+        Watched b rule (families_of b (tree plan.now)) result }
 {
     let mut watch = Watch {
         ground,
@@ -96,7 +101,9 @@ const CUT_RULES: [CutRule; 8] = [
 /// The first breach of the first of these rules that some piece breaks.
 fn first_of(ground: Ground<'_>, plan: &Plan, rules: &[CutRule]) -> Option<Broken>
     requires fits { Fits (tree plan.now) }
-    ensures { let b = ground.entry.instance.now in let fs = families_of b (tree plan.now) in MatchOption result (All (λ rule. All (KeepsCutRule b rule) fs) rules.now) (IsBreachOf b fs rules.now) }
+    ensures { let b = ground.entry.instance.now in let fs = families_of b (tree plan.now) in
+        MatchOption result (All (λ rule. All (KeepsCutRule b rule) fs) rules.now)
+        (IsBreachOf b fs rules.now) }
 {
     for rule in rules {
         match first_breach(ground, plan, *rule) {
@@ -123,8 +130,10 @@ fn first_of(ground: Ground<'_>, plan: &Plan, rules: &[CutRule]) -> Option<Broken
 pub fn judge_cuts(instance: &Instance, map: &DefectMap, plan: &Plan) -> Result<(), Broken>
     requires same { map.now ≡ instance.now.defects }
     requires fits { Fits (tree plan.now) }
-    ensures lawful { let b = instance.now in IsOk result ↔ All (KeepsCutRules b) (families_of b (tree plan.now)) }
-    ensures first { let b = instance.now in IfErr result (IsBreach b (families_of b (tree plan.now))) }
+    ensures lawful { let b = instance.now in IsOk result
+        ↔ All (KeepsCutRules b) (families_of b (tree plan.now)) }
+    ensures first { let b = instance.now in IfErr result
+        (IsBreach b (families_of b (tree plan.now))) }
 {
     match first_of(Ground { instance, map }, plan, &CUT_RULES) {
         Some(broken) => Err(broken),

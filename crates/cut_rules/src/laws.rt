@@ -8,5 +8,6 @@ ghost use Rattle.cut_rules.specs.Breaches.{IsBreach};
 
 /// There is one breach at the most: the definition leaves the judge no choice.
 pub fn breaches_are_one()
-    ensures { (b : Problem) → (fs : List Family) → (x y : Broken) → IsBreach b fs x → IsBreach b fs y → x ≡ y }
+    ensures { (b : Problem) → (fs : List Family) → (x y : Broken) → IsBreach b fs x
+        → IsBreach b fs y → x ≡ y }
 {}

@@ -171,7 +171,8 @@ fn first_met(map: &DefectMap, row: &Row) -> Option<usize>
     requires y { row.now.y ≤ 100000 }
     requires width { row.now.width ≤ 20000 }
     requires height { row.now.height ≤ 20000 }
-    ensures { MatchOption result (IsSound map.now row.now) (λ i. (¬ IsSound map.now row.now) × (position (meets_of row.now) map.now ≡ Some i)) }
+    ensures { MatchOption result (IsSound map.now row.now) (λ i. (¬ IsSound map.now row.now)
+        × (position (meets_of row.now) map.now ≡ Some i)) }
 {
     if row.width == 0 || row.height == 0 {
         return None;
@@ -204,7 +205,9 @@ fn avoids_defects(ground: Ground<'_>, family: &Family) -> Option<(u64, u64)>
 fn first_crossing_upright(map: &DefectMap, row: &Row) -> Option<usize>
     requires y { row.now.y ≤ 100000 }
     requires height { row.now.height ≤ 20000 }
-    ensures { MatchOption result (HasClearBorder map.now X row.now) (λ i. (¬ HasClearBorder map.now X row.now) × (position (crosses_of X row.now) map.now ≡ Some i)) }
+    ensures { MatchOption result (HasClearBorder map.now X row.now)
+        (λ i. (¬ HasClearBorder map.now X row.now)
+        × (position (crosses_of X row.now) map.now ≡ Some i)) }
 {
     if row.height == 0 {
         return None;
@@ -216,7 +219,9 @@ fn first_crossing_upright(map: &DefectMap, row: &Row) -> Option<usize>
 fn first_crossing_level(map: &DefectMap, row: &Row) -> Option<usize>
     requires x { row.now.x ≤ 100000 }
     requires width { row.now.width ≤ 20000 }
-    ensures { MatchOption result (HasClearBorder map.now Y row.now) (λ i. (¬ HasClearBorder map.now Y row.now) × (position (crosses_of Y row.now) map.now ≡ Some i)) }
+    ensures { MatchOption result (HasClearBorder map.now Y row.now)
+        (λ i. (¬ HasClearBorder map.now Y row.now)
+        × (position (crosses_of Y row.now) map.now ≡ Some i)) }
 {
     if row.width == 0 {
         return None;
@@ -230,7 +235,9 @@ fn first_crossing(map: &DefectMap, along: Along, row: &Row) -> Option<usize>
     requires y { row.now.y ≤ 100000 }
     requires width { row.now.width ≤ 20000 }
     requires height { row.now.height ≤ 20000 }
-    ensures { MatchOption result (HasClearBorder map.now along row.now) (λ i. (¬ HasClearBorder map.now along row.now) × (position (crosses_of along row.now) map.now ≡ Some i)) }
+    ensures { MatchOption result (HasClearBorder map.now along row.now)
+        (λ i. (¬ HasClearBorder map.now along row.now)
+        × (position (crosses_of along row.now) map.now ≡ Some i)) }
 {
     match along {
         Along::Plates => None,

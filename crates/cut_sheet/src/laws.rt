@@ -16,12 +16,14 @@ ghost use Rattle.cut_sheet.specs.Sheets.{IsCuttable, pieces_of, sheet_in};
 /// A table that follows the sheet of a plan is never stuck, and the pieces that leave it are those of the plan that are not cut any further,
 /// in cutting order: each on its plate, in its place, with its sides, its type and its cut.
 pub fn sheets_make_their_plans()
-    ensures { (b : Problem) → (plan : Forest) → IsPlanShaped plan → IsCuttable b plan → replayed b (sheet_in plan) ≡ Ok (pieces_of b plan) }
+    ensures { (b : Problem) → (plan : Forest) → IsPlanShaped plan → IsCuttable b plan
+        → replayed b (sheet_in plan) ≡ Ok (pieces_of b plan) }
 {}
 
 /// No glass is lost: the pieces of a sheet that is not stuck make up the plates that it loads.
 pub fn sheets_make_up_their_plates()
-    ensures { (b : Problem) → (sheet : List Instr) → (made : List Made) → replayed b sheet ≡ Ok made → MakesUp b made }
+    ensures { (b : Problem) → (sheet : List Instr) → (made : List Made) → replayed b sheet ≡ Ok made
+        → MakesUp b made }
 {}
 
 /// The wastes among the pieces of a plan have the area that the plan loses.

@@ -35,7 +35,8 @@ fn parted(last: bool, size: u32) -> Instr
 
 /// Appends what is done with neighbours.
 fn put_parts<P: Part>(sheet: &mut Run<Instr>, parts: &[P]) -> Result<(), Memory>
-    ensures { OnOk result (sheet.new.items ≡ sheet.old.items ++ parts_sheet (neighbours P.size P.sort P.inner parts.now)) }
+    ensures { OnOk result (sheet.new.items ≡ sheet.old.items
+        ++ parts_sheet (neighbours P.size P.sort P.inner parts.now)) }
 {
     let count = parts.len();
     for (place, part) in parts.iter().enumerate() {
@@ -47,7 +48,8 @@ fn put_parts<P: Part>(sheet: &mut Run<Instr>, parts: &[P]) -> Result<(), Memory>
 
 /// Appends that a piece leaves the table as this sort.
 fn put_done(sheet: &mut Run<Instr>, sort: Sort) -> Result<(), Memory>
-    ensures { OnOk result (sheet.new.items ≡ sheet.old.items ++ Instr.Done (type_number sort) ∷ []) }
+    ensures { OnOk result (sheet.new.items ≡ sheet.old.items
+        ++ Instr.Done (type_number sort) ∷ []) }
 {
     append(sheet, Instr::Done(sort.kind()))
 }
@@ -142,7 +144,8 @@ impl Part for Piece1 {
 
 /// Appends what is done with a plate of this number.
 pub(crate) fn put_plate(sheet: &mut Run<Instr>, number: u32, plate: &Plate) -> Result<(), Memory>
-    ensures { OnOk result (sheet.new.items ≡ sheet.old.items ++ Instr.Load number ∷ parts_sheet (strips plate.now.pieces.items)) }
+    ensures { OnOk result (sheet.new.items ≡ sheet.old.items ++ Instr.Load number
+        ∷ parts_sheet (strips plate.now.pieces.items)) }
 {
     append(sheet, Instr::Load(number))?;
     put_parts(sheet, plate.pieces.as_slice())

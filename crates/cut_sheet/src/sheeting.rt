@@ -21,7 +21,8 @@ pub fn sheet_of(alloc: Global, instance: &Instance, plan: &Plan) -> Result<Run<I
     requires fits { Fits (tree plan.now) }
     requires cuttable { IsCuttable instance.now (tree plan.now) }
     ensures sheet { IfOk result (λ sheet. sheet.items ≡ sheet_in (tree plan.now)) }
-    ensures replayed { IfOk result (λ sheet. replayed instance.now sheet.items ≡ Ok (pieces_of instance.now (tree plan.now))) }
+    ensures replayed { IfOk result (λ sheet. replayed instance.now sheet.items
+        ≡ Ok (pieces_of instance.now (tree plan.now))) }
     ensures writable { IfOk result (λ sheet. All IsWritable sheet.items) }
 {
     let mut sheet = Run::new(alloc);

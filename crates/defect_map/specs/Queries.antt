@@ -1,6 +1,20 @@
--- Questions on defects where a place is known by its range alone: a defect that stands in the way at every place of the range.
-use Rattle.std.specs.Prelude.{ℕ, ◌+◌, Bool, ◌==◌, ◌&&◌, nat_lt}
+-- Questions on defects: places that none stands in the way of, and, where a place is known by its range alone, a defect that stands
+-- in the way at every place of the range.
+use Rattle.std.specs.Prelude.{ℕ, ◌+◌, Bool, ◌==◌, ◌&&◌, nat_lt, List, IsTrue, All}
 use Rattle.glass_base.specs.declared.item.Defect.{Defect}
+use Rattle.glass_base.specs.Defects.{hits, crosses_x, crosses_y}
+
+-- the inside of the rectangle meets the inside of no defect of the plate
+abbrev pub HitsNone : List Defect → ℕ → ℕ → ℕ → ℕ → ℕ → Type 0
+HitsNone defects plate x0 y0 x1 y1 = All (λ d. ¬ IsTrue (hits plate x0 y0 x1 y1 d)) defects
+
+-- the upright line at x runs through the inside of no defect of the plate
+abbrev pub CrossesNoneX : List Defect → ℕ → ℕ → ℕ → ℕ → Type 0
+CrossesNoneX defects plate x y0 y1 = All (λ d. ¬ IsTrue (crosses_x plate x y0 y1 d)) defects
+
+-- the level line at y runs through the inside of no defect of the plate
+abbrev pub CrossesNoneY : List Defect → ℕ → ℕ → ℕ → ℕ → Type 0
+CrossesNoneY defects plate y x0 x1 = All (λ d. ¬ IsTrue (crosses_y plate y x0 x1 d)) defects
 
 -- the defect lies on this plate, and its inside meets the inside of a rectangle of width `w` and height `h`, wherever its lower
 -- left corner lies from (x0, y0) to (x1, y1)

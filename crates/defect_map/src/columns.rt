@@ -35,7 +35,8 @@ pub fn column_at(plate: u32, x: u32) -> usize
 /// The columns from the first to the last of these numbers, as far as there are any.
 pub fn between(columns: &[Column], first: usize, last: usize) -> &[Column]
     requires { last < 2 ^ 32 }
-    ensures { (k : ℕ) (c : _) → first ≤ k → k ≤ last → slice_get columns.now k ≡ Some c → Contains result.now c }
+    ensures { (k : ℕ) (c : _) → first ≤ k → k ≤ last → slice_get columns.now k ≡ Some c
+        → Contains result.now c }
 {
     let end = columns.len().min(last + 1);
     let start = first.min(end);

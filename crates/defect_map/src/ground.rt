@@ -13,3 +13,26 @@ pub struct Ground<'a> {
     pub map: &'a DefectMap,
     ghost mapped: { map.now ≡ instance.now.defects },
 }
+
+impl<'a> Ground<'a> {
+    ghost use Rattle.std.specs.Prelude.{◌↔◌, ◌<◌, IsTrue};
+    ghost use Rattle.defect_map.specs.Queries.{CrossesNoneX, CrossesNoneY};
+
+    /// Whether the upright line at x from y0 to y1 runs through no defect of the plate.
+    #[tactic(auto, using(crate::proofs::Clear::none_passes))]
+    pub fn is_clear_x(self, plate: u32, x: u32, y0: u32, y1: u32) -> bool
+        requires { y0 < y1 }
+        ensures { IsTrue result ↔ CrossesNoneX self.entry.instance.now.defects plate x y0 y1 }
+    {
+        !self.map.crosses_x(plate, x, y0, y1)
+    }
+
+    /// Whether the level line at y from x0 to x1 runs through no defect of the plate.
+    #[tactic(auto, using(crate::proofs::Clear::none_passes))]
+    pub fn is_clear_y(self, plate: u32, y: u32, x0: u32, x1: u32) -> bool
+        requires { x0 < x1 }
+        ensures { IsTrue result ↔ CrossesNoneY self.entry.instance.now.defects plate y x0 x1 }
+    {
+        !self.map.crosses_y(plate, y, x0, x1)
+    }
+}

@@ -15,7 +15,8 @@ use std::alloc::Global;
 
 /// What a beam found, where its trace has a step for each item and meets the rules.
 pub(crate) fn checked(ground: Ground<'_>, found: Option<Found>) -> Option<Found>
-    ensures { IfSome result (λ found. IsComplete ground.entry.instance.now found.trace.steps.items) }
+    ensures { IfSome result (λ found. IsComplete ground.entry.instance.now
+        found.trace.steps.items) }
 {
     let found = found?;
     if found.trace.steps.len() != ground.instance.items().len() {
@@ -56,7 +57,8 @@ pub(crate) fn narrow_plan(
     beams: &Beams,
     ticks: u64,
 ) -> Result<Option<Found>, Memory>
-    ensures { IfOk result (λ found. IfSome found (λ found. IsComplete ground.entry.instance.now found.trace.steps.items)) }
+    ensures { IfOk result (λ found. IfSome found
+        (λ found. IsComplete ground.entry.instance.now found.trace.steps.items)) }
 {
     let found = beams.first(alloc, ground.instance, narrow_part(ticks))?;
     Ok(checked(ground, found))
@@ -70,7 +72,8 @@ pub(crate) fn wide_plan(
     lost: Option<u64>,
     ticks: u64,
 ) -> Result<Option<Trace>, Memory>
-    ensures { IfOk result (λ found. IfSome found (λ trace. IsComplete ground.entry.instance.now trace.steps.items)) }
+    ensures { IfOk result (λ found. IfSome found
+        (λ trace. IsComplete ground.entry.instance.now trace.steps.items)) }
 {
     let wide = ticks.saturating_sub(narrow_part(ticks));
     let found = beams.second(alloc, ground.instance, lost, wide)?;
@@ -84,7 +87,8 @@ pub(crate) fn beam_plan(
     ticks: u64,
 ) -> Result<Option<Trace>, Memory>
     requires problem { IsProblem ground.instance.now }
-    ensures { IfOk result (λ found. IfSome found (λ trace. IsComplete ground.entry.instance.now trace.steps.items)) }
+    ensures { IfOk result (λ found. IfSome found
+        (λ trace. IsComplete ground.entry.instance.now trace.steps.items)) }
 {
     let beams = Beams::new(alloc, ground.instance)?;
     let narrow = narrow_plan(alloc, ground, &beams, ticks)?;

@@ -52,7 +52,8 @@ pub(crate) fn first_of(
 ) -> Option<Trace>
     requires problem { IsProblem instance.now }
     requires found { IfSome found (λ trace. IsComplete instance.now trace.steps.items) }
-    requires drafted { MatchResult drafted (λ trace. IsDraft instance.now trace.steps.items) (HasNoDraft instance.now) }
+    requires drafted { MatchResult drafted (λ trace. IsDraft instance.now trace.steps.items)
+        (HasNoDraft instance.now) }
     requires complete { IfOk drafted (λ trace. IsComplete instance.now trace.steps.items) }
     ensures plan { IfSome result (λ trace. IsFirstPlan instance.now trace.steps.items) }
     ensures none { IfNone result ((number : ℕ) × HasNoDraft instance.now number) }
@@ -71,8 +72,10 @@ pub fn first_plan(
     map: &DefectMap,
 ) -> Result<Option<Trace>, Memory>
     requires map { map.now ≡ instance.now.defects }
-    ensures plan { IfOk result (λ found. IfSome found (λ trace. IsFirstPlan instance.now trace.steps.items)) }
-    ensures none { IfOk result (λ found. IfNone found ((number : ℕ) × HasNoDraft instance.now number)) }
+    ensures plan { IfOk result (λ found. IfSome found
+        (λ trace. IsFirstPlan instance.now trace.steps.items)) }
+    ensures none { IfOk result (λ found. IfNone found ((number : ℕ)
+        × HasNoDraft instance.now number)) }
 {
     let ticks = effort(instance.items().len());
     let found = beam_plan(alloc, Ground { instance, map }, ticks)?;

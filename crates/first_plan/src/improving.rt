@@ -82,7 +82,8 @@ fn shorter_of(instance: &Instance, first: Trace, other: Option<Trace>) -> Trace
     requires plan { IsFirstPlan instance.now first.steps.items }
     requires other { IfSome other (λ trace. IsComplete instance.now trace.steps.items) }
     ensures improved { IsImproved instance.now first.steps.items result.steps.items }
-    ensures as_short_as_other { IfSome other (λ trace. length_of instance.now result.steps.items ≤ length_of instance.now trace.steps.items) }
+    ensures as_short_as_other { IfSome other (λ trace. length_of instance.now result.steps.items
+        ≤ length_of instance.now trace.steps.items) }
 {
     match other {
         Some(other) => {
@@ -107,7 +108,8 @@ fn worked_on<R: Threads + Sync, P: Progress>(
     beam: WideBeam,
 ) -> Result<Work, Memory>
     requires plan { IsFirstPlan ground.instance.now work.best.steps.items }
-    ensures { IfOk result (λ done. IsImproved ground.entry.instance.now work.best.steps.items done.best.steps.items) }
+    ensures { IfOk result (λ done. IsImproved ground.entry.instance.now work.best.steps.items
+        done.best.steps.items) }
 {
     let Work { best, spent } = work;
     let crew = Crew {
@@ -141,7 +143,8 @@ pub fn improve<R: Threads + Sync, P: Progress>(
     floor: u64,
 ) -> Result<Trace, Memory>
     requires plan { IsFirstPlan ground.instance.now first.steps.items }
-    ensures { IfOk result (λ trace. IsImproved ground.entry.instance.now first.steps.items trace.steps.items) }
+    ensures { IfOk result (λ trace. IsImproved ground.entry.instance.now first.steps.items
+        trace.steps.items) }
 {
     let first_ticks = first_effort(ground.instance.items().len());
     let most = u64::from(team.effort.millions).saturating_mul(TICKS);

@@ -80,9 +80,12 @@ pub fn start_by_fronts<W: Watch>(
     ground: Ground<'_>,
     watch: &W,
 ) -> Result<Start, Memory>
-    ensures plan { IfOk result (λ start. IfSome start.first (λ trace. IsFirstPlan ground.entry.instance.now trace.steps.items)) }
-    ensures none { IfOk result (λ start. IfNone start.first ((number : ℕ) × HasNoDraft ground.entry.instance.now number)) }
-    ensures floor { let b = ground.entry.instance.now in IfOk result (λ start. (plan : Forest) → IsLawful b plan → start.floor ≤ loss_of b plan) }
+    ensures plan { IfOk result (λ start. IfSome start.first
+        (λ trace. IsFirstPlan ground.entry.instance.now trace.steps.items)) }
+    ensures none { IfOk result (λ start. IfNone start.first ((number : ℕ)
+        × HasNoDraft ground.entry.instance.now number)) }
+    ensures floor { let b = ground.entry.instance.now in
+        IfOk result (λ start. (plan : Forest) → IsLawful b plan → start.floor ≤ loss_of b plan) }
 {
     let ticks = effort(ground.instance.items().len());
     let beams = Beams::new(alloc, ground.instance)?;

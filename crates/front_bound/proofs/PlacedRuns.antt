@@ -10,7 +10,7 @@ use Rattle.glass_base.specs.Defects.{hits, crosses_x}
 use Rattle.glass_base.specs.Items.{IsDefectInRange}
 use Rattle.glass_base.specs.Plates.{Before, Width}
 use Rattle.glass_base.specs.Problem.{Problem}
-use Rattle.plan_trace.specs.TraceRules.{HitsNone}
+use Rattle.defect_map.specs.Queries.{HitsNone}
 use Rattle.front_course.specs.Fronts.{Front, next}
 use Rattle.front_course.specs.Cells.{Cell, pick_width, pick_height, CanStand, after_cell, cell_width, after_cells, cells_width, AllStand}
 use Rattle.front_course.specs.Cells.Cell.{alone, pair}

@@ -70,7 +70,8 @@ fn first_within(ends: &[End], within: u64) -> usize
 pub fn near(ends: &[End], within: u64) -> Option<u64>
     requires { Falls ends.now }
     ensures none { IfNone result ((area to_go : ℕ) → Ended ends.now area to_go → within < to_go) }
-    ensures least { IfSome result (λ least. (area to_go : ℕ) → Ended ends.now area to_go → to_go ≤ within → least ≤ area) }
+    ensures least { IfSome result (λ least. (area to_go : ℕ) → Ended ends.now area to_go
+        → to_go ≤ within → least ≤ area) }
 {
     let low = first_within(ends, within);
     if low < ends.len() {

@@ -51,7 +51,8 @@ fn least_in(labels: &[Label], height: u32, to_go: u64, found: u64) -> u64
 fn least_end(pool: &Pool, levels: &[Level], start: usize, height: u32) -> u64
     requires pool { start < length pool.now }
     requires levels { start < length levels.now }
-    ensures { (m w : ℕ) → m < start → HeldAt pool.now m height w → result ≤ w + to_go_at levels.now m }
+    ensures { (m w : ℕ) → m < start → HeldAt pool.now m height w
+        → result ≤ w + to_go_at levels.now m }
 {
     let mut least = FAR;
     let low = pool.low();
@@ -69,10 +70,13 @@ fn least_of_class(
     low: u32,
 ) -> Result<u64, Halt>
     requires pool { behind.now.start < length pool.old }
-    requires searchable { Searchable behind.now.fronts.rows.now behind.now.fronts.levels.now limits.now behind.now.start }
+    requires searchable { Searchable behind.now.fronts.rows.now behind.now.fronts.levels.now
+        limits.now behind.now.start }
     requires fitting { Fitting behind.now.instance.now limits.now behind.now.fronts.cover }
     ensures len { OnOk result (length pool.new ≡ length pool.old) }
-    ensures least { IfOk result (IsLeast behind.now.instance.now behind.now.fronts.rows.now (to_go_at behind.now.fronts.levels.now) behind.now.start low limits.now.bound limits.now.most) }
+    ensures least { IfOk result (IsLeast behind.now.instance.now behind.now.fronts.rows.now
+        (to_go_at behind.now.fronts.levels.now) behind.now.start low limits.now.bound
+        limits.now.most) }
 {
     let fronts = behind.fronts;
     let waste = behind.instance.params().waste;
@@ -99,7 +103,9 @@ fn least_in_class(
     requires pool { behind.now.start < length pool.old }
     requires class { class < length behind.now.fronts.tops.now }
     ensures len { OnOk result (length pool.new ≡ length pool.old) }
-    ensures least { IfOk result (IsLeast behind.now.instance.now behind.now.fronts.rows.now (to_go_at behind.now.fronts.levels.now) behind.now.start low (slice_index_or behind.now.fronts.tops.now class 0) most) }
+    ensures least { IfOk result (IsLeast behind.now.instance.now behind.now.fronts.rows.now
+        (to_go_at behind.now.fronts.levels.now) behind.now.start low
+        (slice_index_or behind.now.fronts.tops.now class 0) most) }
 {
     let params = behind.instance.params();
     let top = behind.fronts.tops[class];
@@ -151,7 +157,8 @@ fn least_strip(
 ) -> Result<u64, Halt>
     requires { behind.now.start < length pool.old }
     ensures len { OnOk result (length pool.new ≡ length pool.old) }
-    ensures least { IfOk result (LeavesLeast behind.now.instance.now behind.now.fronts.rows.now (to_go_at behind.now.fronts.levels.now) behind.now.start) }
+    ensures least { IfOk result (LeavesLeast behind.now.instance.now behind.now.fronts.rows.now
+        (to_go_at behind.now.fronts.levels.now) behind.now.start) }
 {
     let params = behind.instance.params();
     let tops = behind.fronts.tops;
@@ -185,7 +192,8 @@ pub fn far_from(
 ) -> Result<u64, Halt>
     requires { behind.now.start < length pool.old }
     ensures len { OnOk result (length pool.new ≡ length pool.old) }
-    ensures least { IfOk result (LeavesLeast behind.now.instance.now behind.now.fronts.rows.now (to_go_at behind.now.fronts.levels.now) behind.now.start) }
+    ensures least { IfOk result (LeavesLeast behind.now.instance.now behind.now.fronts.rows.now
+        (to_go_at behind.now.fronts.levels.now) behind.now.start) }
 {
     let mut step = FIRST_STEP;
     for _ in 0..ROUNDS {

@@ -15,7 +15,8 @@ fn add_hole(
     left: u32,
     end: u64,
 ) -> Result<(), Halt>
-    ensures { OnOk result ((d : DefectOf) → Contains holes.new.items d → Contains holes.old.items d ⊎ ((defect.now ≡ d) × (plate ≡ defect.now.plate))) }
+    ensures { OnOk result ((d : DefectOf) → Contains holes.new.items d → Contains holes.old.items d
+        ⊎ ((defect.now ≡ d) × (plate ≡ defect.now.plate))) }
 {
     if defect.plate != plate {
         return Ok(());
@@ -50,7 +51,9 @@ pub fn holes_of(
 /// A side moved to the right, out of one of the defects that are lower than a height, and not beyond a plate's width.
 fn past_one(hole: &Defect, side: u32, height: u32, width: u32) -> u32
     requires { side ≤ width }
-    ensures least { (right : ℕ) → side ≤ right → right ≤ width → (right < width → hole.now.y0 < height → 0 < hole.now.y1 → (right ≤ hole.now.x0) ⊎ (hole.now.x1 ≤ right)) → result ≤ right }
+    ensures least { (right : ℕ) → side ≤ right → right ≤ width
+        → (right < width → hole.now.y0 < height → 0 < hole.now.y1 → (right ≤ hole.now.x0)
+        ⊎ (hole.now.x1 ≤ right)) → result ≤ right }
     ensures within { result ≤ width }
 {
     if hole.x0 < side && side < hole.x1 && hole.y0 < height && 0 < hole.y1 {
@@ -62,7 +65,8 @@ fn past_one(hole: &Defect, side: u32, height: u32, width: u32) -> u32
 /// The same of each of the defects once.
 fn past_once(holes: &[Defect], side: u32, height: u32, width: u32) -> u32
     requires { side ≤ width }
-    ensures least { (right : ℕ) → side ≤ right → right ≤ width → (right < width → LineClear holes.now height right) → result ≤ right }
+    ensures least { (right : ℕ) → side ≤ right → right ≤ width
+        → (right < width → LineClear holes.now height right) → result ≤ right }
     ensures within { result ≤ width }
 {
     let mut least = side;
@@ -78,7 +82,8 @@ const PASSES: u32 = 8;
 /// The least side from this one on that lies in none of the defects, as far as some passes over them tell.
 pub fn past(holes: &[Defect], side: u32, height: u32, width: u32) -> u32
     requires { side ≤ width }
-    ensures { (right : ℕ) → side ≤ right → right ≤ width → (right < width → LineClear holes.now height right) → result ≤ right }
+    ensures { (right : ℕ) → side ≤ right → right ≤ width
+        → (right < width → LineClear holes.now height right) → result ≤ right }
 {
     let mut least = side;
     for _ in 0..PASSES {

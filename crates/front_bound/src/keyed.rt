@@ -46,7 +46,8 @@ fn append_band(
     place: usize,
 ) -> Result<(), Halt>
     ensures kept { OnOk result ((p k : ℕ) → Listed list.old.items p k → Listed list.new.items p k) }
-    ensures new { OnOk result (band.now.label.across.least ≤ top → Listed list.new.items place (waste_of rows.now row top band.now)) }
+    ensures new { OnOk result (band.now.label.across.least ≤ top
+        → Listed list.new.items place (waste_of rows.now row top band.now)) }
 {
     if band.label.across.least > top {
         return Ok(());

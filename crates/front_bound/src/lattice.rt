@@ -58,7 +58,8 @@ fn is_one_more(rows: &[Row], row: usize, stack: u32, to: usize, other: u32) -> b
 
 /// Whether the other row has one item more of this stack, and of the others as many.
 fn is_more(instance: &Instance, rows: &[Row], row: usize, stack: u32, to: usize) -> bool
-    ensures { IsTrue result → (other : ℕ) → other < length instance.now.stacks → IsOneMore rows.now row stack to other }
+    ensures { IsTrue result → (other : ℕ) → other < length instance.now.stacks
+        → IsOneMore rows.now row stack to other }
 {
     for other in 0..instance.stacks() {
         if !is_one_more(rows, row, stack, to, other) {
@@ -88,7 +89,8 @@ fn is_link(
 /// The link that takes this item of a stack.
 fn link_of(instance: &Instance, rows: &[Row], row: usize, stack: u32, item: &Item) -> Option<u32>
     requires { row < length rows.now }
-    ensures { IfSome result (λ to. Contains (links_at rows.now row) to × IsLink instance.now rows.now row stack item.now to) }
+    ensures { IfSome result (λ to. Contains (links_at rows.now row) to
+        × IsLink instance.now rows.now row stack item.now to) }
 {
     for to in links_of(rows, row) {
         if is_link(instance, rows, row, stack, item, *to as usize) {
@@ -100,7 +102,8 @@ fn link_of(instance: &Instance, rows: &[Row], row: usize, stack: u32, item: &Ite
 
 /// Whether a move leads there with this width, and with each of these heights.
 fn leads(next: &Move, to: u32, wide: u32, high: &SizeSet) -> bool
-    ensures { IsTrue result → (next.now.to ≡ to) × ((y : ℕ) → Has high.now y → Fits next.now.label wide y) }
+    ensures { IsTrue result → (next.now.to ≡ to)
+        × ((y : ℕ) → Has high.now y → Fits next.now.label wide y) }
 {
     if next.to != to {
         return false;
@@ -175,7 +178,8 @@ fn pairs_led(
     other: &Item,
 ) -> bool
     requires { mid < length rows.now }
-    ensures { IsTrue result → PairsLed instance.now rows.now moves.now item.now mid stack other.now }
+    ensures { IsTrue result → PairsLed instance.now rows.now moves.now item.now mid
+        stack other.now }
 {
     match link_of(instance, rows, mid, stack, other) {
         Some(to) => {
@@ -210,7 +214,8 @@ fn stack_pairs_led(
 /// Whether they have each pair of this item and another.
 fn all_pairs_led(instance: &Instance, rows: &[Row], moves: &[Move], item: &Item, mid: usize) -> bool
     requires { mid < length rows.now }
-    ensures { IsTrue result → (other : ℕ) → other < length instance.now.stacks → AllPairsLed instance.now rows.now moves.now item.now mid other }
+    ensures { IsTrue result → (other : ℕ) → other < length instance.now.stacks
+        → AllPairsLed instance.now rows.now moves.now item.now mid other }
 {
     for other in 0..instance.stacks() {
         if !stack_pairs_led(instance, rows, moves, item, mid, other) {
@@ -252,7 +257,8 @@ fn stack_led(instance: &Instance, rows: &[Row], row: usize, stack: u32) -> bool
 /// Whether they have each cell.
 fn stacks_led(instance: &Instance, rows: &[Row], row: usize) -> bool
     requires { row < length rows.now }
-    ensures { IsTrue result → (stack : ℕ) → stack < length instance.now.stacks → StackLed instance.now rows.now row stack }
+    ensures { IsTrue result → (stack : ℕ) → stack < length instance.now.stacks
+        → StackLed instance.now rows.now row stack }
 {
     for stack in 0..instance.stacks() {
         if !stack_led(instance, rows, row, stack) {
@@ -328,7 +334,8 @@ fn is_row(instance: &Instance, weights: &[u64], rows: &[Row], row: usize) -> boo
 /// Whether each row keeps all that is asked of it.
 fn are_rows(instance: &Instance, weights: &[u64], rows: &[Row]) -> bool
     requires { length weights.now ≡ length instance.now.stacks }
-    ensures { IsTrue result → (n : ℕ) → n < length rows.now → IsRow instance.now weights.now rows.now n }
+    ensures { IsTrue result → (n : ℕ) → n < length rows.now
+        → IsRow instance.now weights.now rows.now n }
 {
     for row in 0..rows.len() {
         if !is_row(instance, weights, rows, row) {
@@ -340,7 +347,8 @@ fn are_rows(instance: &Instance, weights: &[u64], rows: &[Row]) -> bool
 
 /// Whether nothing is taken at a row.
 fn is_first(instance: &Instance, rows: &[Row], row: usize) -> bool
-    ensures { IsTrue result → (stack : ℕ) → stack < length instance.now.stacks → count_at rows.now row stack ≡ 0 }
+    ensures { IsTrue result → (stack : ℕ) → stack < length instance.now.stacks
+        → count_at rows.now row stack ≡ 0 }
 {
     for stack in 0..instance.stacks() {
         if count(rows, row, stack) != 0 {

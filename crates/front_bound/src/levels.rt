@@ -68,7 +68,8 @@ pub fn band_at(levels: &[Level], row: usize, place: u32) -> Option<Move>
 /// Appends a row.
 pub fn push_level(levels: &mut Vec<Level>, level: Level) -> Result<(), Halt>
     ensures len { OnOk result (length levels.new.items ≡ length levels.old.items + 1) }
-    ensures same { OnOk result ((n : ℕ) → n < length levels.old.items → SameLevel levels.old.items levels.new.items n) }
+    ensures same { OnOk result ((n : ℕ) → n < length levels.old.items
+        → SameLevel levels.old.items levels.new.items n) }
     ensures new { OnOk result (IsLast levels.new.items (length levels.old.items) level) }
 {
     match levels.push(level) {

@@ -39,7 +39,8 @@ fn length_of_loss(instance: &Instance, loss: u64) -> u64
 ///
 /// Only want of memory is refused.
 pub fn floor_up_to(alloc: Global, instance: &Instance, loss: u64) -> Result<u64, Memory>
-    ensures shown { IfOk result (λ floor. (plan : Forest) → IsLawful instance.now plan → floor ≤ loss_of instance.now plan) }
+    ensures shown { IfOk result (λ floor. (plan : Forest) → IsLawful instance.now plan
+        → floor ≤ loss_of instance.now plan) }
     ensures most { IfOk result (λ floor. floor ≤ loss) }
 {
     if loss == 0 {

@@ -79,7 +79,11 @@ fn place_begin(
     ensures space { OnOk result (IsRoomy outset.now.fronts.rows.now space.new) }
     ensures clear { OnOk result (space.new.clear ≡ space.old.clear) }
     ensures spreads { OnOk result (Spreads outset.now.row sides.old sides.new) }
-    ensures goes_on { IfOk result (λ done. done ≡ true → ClassGoesOn outset.now.instance.now outset.now.fronts.rows.now (to_go_at outset.now.fronts.levels.now) outset.now.most sides.new outset.now.row (begin.now ∷ []) class.now.plate class.now.low class.now.limits.top class.now.room class.now.limits.most) }
+    ensures goes_on { IfOk result (λ done. done ≡ true
+        → ClassGoesOn outset.now.instance.now outset.now.fronts.rows.now
+        (to_go_at outset.now.fronts.levels.now) outset.now.most sides.new outset.now.row
+        (begin.now ∷ []) class.now.plate class.now.low class.now.limits.top class.now.room
+        class.now.limits.most) }
 {
     if !begin.across.has(class.plate) {
         return Ok(true);
@@ -146,7 +150,8 @@ fn place_begin(
 
 /// Keeps a begin that is clear of defects.
 fn keep_clear(clear: &mut Vec<Label>, begin: &Label, done: bool) -> Result<(), Halt>
-    ensures kept { OnOk result ((l : LabelOf) → Contains clear.old.items l → Contains clear.new.items l) }
+    ensures kept { OnOk result ((l : LabelOf) → Contains clear.old.items l
+        → Contains clear.new.items l) }
     ensures new { OnOk result (done ≡ false → Contains clear.new.items begin.now) }
 {
     if done {
@@ -171,7 +176,11 @@ pub fn place_begins(
     requires class { IsClass outset.now.instance.now outset.now.fronts class.now }
     ensures space { OnOk result (IsRoomy outset.now.fronts.rows.now space.new) }
     ensures spreads { OnOk result (Spreads outset.now.row sides.old sides.new) }
-    ensures goes_on { OnOk result ((k : ℕ) (d : LabelOf) → k < length begins.now → BeginGoesOn outset.now.instance.now outset.now.fronts.rows.now (to_go_at outset.now.fronts.levels.now) outset.now.most sides.new outset.now.row space.new.clear.items (slice_index_or begins.now k d) class.now.plate class.now.low class.now.limits.top class.now.room class.now.limits.most) }
+    ensures goes_on { OnOk result ((k : ℕ) (d : LabelOf) → k < length begins.now
+        → BeginGoesOn outset.now.instance.now outset.now.fronts.rows.now
+        (to_go_at outset.now.fronts.levels.now) outset.now.most sides.new outset.now.row
+        space.new.clear.items (slice_index_or begins.now k d) class.now.plate class.now.low
+        class.now.limits.top class.now.room class.now.limits.most) }
 {
     space.clear.clear();
     for begin in begins {

@@ -81,7 +81,8 @@ fn join_run(pool: &mut Pool, onward: &Onward<'_>, to: usize, cells: &Label) -> R
     requires levels { to < length onward.now.stretch.now.levels.now }
     requires falls { Falls (ends_at onward.now.stretch.now.levels.now to) }
     ensures spreads { OnOk result (Spreads (to + 1) pool.old pool.new) }
-    ensures joined { OnOk result (RunJoined onward.now.stretch.now pool.new onward.now.row onward.now.label.now to cells.now) }
+    ensures joined { OnOk result (RunJoined onward.now.stretch.now pool.new onward.now.row
+        onward.now.label.now to cells.now) }
 {
     let stretch = onward.stretch;
     let label = onward.label;
@@ -102,7 +103,8 @@ fn join_runs(pool: &mut Pool, onward: &Onward<'_>, to: usize, runs: &[Label]) ->
     requires levels { to < length onward.now.stretch.now.levels.now }
     requires falls { Falls (ends_at onward.now.stretch.now.levels.now to) }
     ensures spreads { OnOk result (Spreads (to + 1) pool.old pool.new) }
-    ensures joined { OnOk result (RunsJoined onward.now.stretch.now pool.new onward.now.row onward.now.label.now to runs.now) }
+    ensures joined { OnOk result (RunsJoined onward.now.stretch.now pool.new onward.now.row
+        onward.now.label.now to runs.now) }
 {
     for cells in runs {
         join_run(pool, onward, to, cells)?;
@@ -115,9 +117,12 @@ pub fn join_rows(pool: &mut Pool, onward: &Onward<'_>, cells: &Pool) -> Result<(
     requires pool { onward.now.row < length pool.old }
     requires cells { onward.now.row < length cells.now }
     requires levels { onward.now.row < length onward.now.stretch.now.levels.now }
-    requires falls { (n : ℕ) → n ≤ onward.now.row → Falls (ends_at onward.now.stretch.now.levels.now n) }
+    requires falls { (n : ℕ) → n ≤ onward.now.row
+        → Falls (ends_at onward.now.stretch.now.levels.now n) }
     ensures spreads { OnOk result (Spreads onward.now.row pool.old pool.new) }
-    ensures joined { OnOk result ((to : ℕ) → to < onward.now.row → RunsJoined onward.now.stretch.now pool.new onward.now.row onward.now.label.now to (row_at cells.now to)) }
+    ensures joined { OnOk result ((to : ℕ) → to < onward.now.row
+        → RunsJoined onward.now.stretch.now pool.new onward.now.row onward.now.label.now to
+        (row_at cells.now to)) }
 {
     let low = cells.low();
     for to in low..onward.row {
@@ -179,10 +184,12 @@ fn join_entry(
 pub fn join_list(pool: &mut Pool, onward: &Onward<'_>, list: &[Keyed]) -> Result<(), Halt>
     requires pool { onward.now.row < length pool.old }
     requires levels { onward.now.row < length onward.now.stretch.now.levels.now }
-    requires falls { (n : ℕ) → n ≤ onward.now.row → Falls (ends_at onward.now.stretch.now.levels.now n) }
+    requires falls { (n : ℕ) → n ≤ onward.now.row
+        → Falls (ends_at onward.now.stretch.now.levels.now n) }
     requires rises { Rises list.now }
     ensures spreads { OnOk result (Spreads onward.now.row pool.old pool.new) }
-    ensures joined { OnOk result ((e : KeyedOf) → Contains list.now e → e.key ≤ onward.now.slack → EntryJoined onward.now.stretch.now pool.new onward.now.row onward.now.label.now e.place) }
+    ensures joined { OnOk result ((e : KeyedOf) → Contains list.now e → e.key ≤ onward.now.slack
+        → EntryJoined onward.now.stretch.now pool.new onward.now.row onward.now.label.now e.place) }
 {
     for at in 0..list.len() {
         if u64::from(key_at(list, at)) > onward.slack {

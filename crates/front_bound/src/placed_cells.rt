@@ -33,7 +33,9 @@ fn join_place(
 ) -> Result<(), Halt>
     requires { to < length pool.old }
     ensures spreads { OnOk result (Spreads (to + 1) pool.old pool.new) }
-    ensures held { OnOk result ((x y left low up : ℕ) → Fits joined.now x y → joined.now.up ≤ up → place.now.x ≤ left → place.now.y ≤ low → low + piece.now.high ≤ up → HeldTo (row_at pool.new to) x y (left + piece.now.wide) up) }
+    ensures held { OnOk result ((x y left low up : ℕ) → Fits joined.now x y → joined.now.up ≤ up
+        → place.now.x ≤ left → place.now.y ≤ low → low + piece.now.high ≤ up
+        → HeldTo (row_at pool.new to) x y (left + piece.now.wide) up) }
 {
     let label = Label {
         along: joined.along,
@@ -55,7 +57,9 @@ fn join_places(
 ) -> Result<(), Halt>
     requires { to < length pool.old }
     ensures spreads { OnOk result (Spreads (to + 1) pool.old pool.new) }
-    ensures held { OnOk result ((x y left low up : ℕ) → Fits joined.now x y → joined.now.up ≤ up → Covered places.now left low → low + piece.now.high ≤ up → HeldTo (row_at pool.new to) x y (left + piece.now.wide) up) }
+    ensures held { OnOk result ((x y left low up : ℕ) → Fits joined.now x y → joined.now.up ≤ up
+        → Covered places.now left low → low + piece.now.high ≤ up
+        → HeldTo (row_at pool.new to) x y (left + piece.now.wide) up) }
 {
     for place in places {
         join_place(pool, to, joined, piece, place)?;
@@ -65,7 +69,8 @@ fn join_places(
 
 /// Whether cells that lead to a row, at least so wide in a band at least so high, leave more beside and over them than the band may.
 fn is_wasteful(stretch: &Stretch<'_>, sought: &Sought, to: usize, wide: u32, high: u32) -> bool
-    ensures { IsTrue result → (x y : ℕ) → wide ≤ x → high ≤ y → IsLean stretch.now sought.now to x y → ⊥ }
+    ensures { IsTrue result → (x y : ℕ) → wide ≤ x → high ≤ y
+        → IsLean stretch.now sought.now to x y → ⊥ }
 {
     let used = glass_of(wide, high).saturating_add(area_left(stretch.rows, to));
     let most = sought
@@ -148,7 +153,8 @@ fn join_cells(
     requires row { row ≤ length pool.old }
     requires down { All (λ m. m.to < row) cells.now }
     ensures spreads { OnOk result (Spreads row pool.old pool.new) }
-    ensures joined { OnOk result (All (CellJoined stretch.now sought.now pool.new label.now) cells.now) }
+    ensures joined { OnOk result (All (CellJoined stretch.now sought.now pool.new
+        label.now) cells.now) }
 {
     for cell in cells {
         join_cell(pool, lists, stretch, sought, label, cell)?;
@@ -188,7 +194,8 @@ fn spread_cells(
     requires pool { length pool.old ≡ length stretch.now.rows.now }
     requires down { LeadDown stretch.now.rows.now }
     ensures spreads { OnOk result (Spreads sought.now.start pool.old pool.new) }
-    ensures goes_on { OnOk result ((n : ℕ) → n ≤ sought.now.start → CellsGoOn stretch.now sought.now pool.new n (moves_at stretch.now.rows.now n)) }
+    ensures goes_on { OnOk result ((n : ℕ) → n ≤ sought.now.start
+        → CellsGoOn stretch.now sought.now pool.new n (moves_at stretch.now.rows.now n)) }
 {
     let start = sought.start;
     for done in 0..start + 1 {

@@ -25,7 +25,8 @@ fn offer_placed(
 ) -> Result<(), Halt>
     requires { ending.now.row < length sides.old }
     ensures spreads { OnOk result (Spreads (ending.now.row + 1) sides.old sides.new) }
-    ensures held { OnOk result (EndsPlaced ending.now.instance.now holes.now ending.now.far ending.now.most sides.new ending.now.row ending.now.plate begin (strip.now ∷ [])) }
+    ensures held { OnOk result (EndsPlaced ending.now.instance.now holes.now ending.now.far
+        ending.now.most sides.new ending.now.row ending.now.plate begin (strip.now ∷ [])) }
 {
     let instance = ending.instance;
     let plate = ending.plate;
@@ -69,7 +70,8 @@ fn offer_all_placed(
 ) -> Result<(), Halt>
     requires { ending.now.row < length sides.old }
     ensures spreads { OnOk result (Spreads (ending.now.row + 1) sides.old sides.new) }
-    ensures held { OnOk result (EndsPlaced ending.now.instance.now holes.now ending.now.far ending.now.most sides.new ending.now.row ending.now.plate begin strips.now) }
+    ensures held { OnOk result (EndsPlaced ending.now.instance.now holes.now ending.now.far
+        ending.now.most sides.new ending.now.row ending.now.plate begin strips.now) }
 {
     for strip in strips {
         offer_placed(ending, holes, sides, begin, strip)?;
@@ -90,7 +92,10 @@ pub fn offer_placed_ends(
     requires pool { outset.now.row < length pool.now }
     requires plate { plate ≤ 1000 }
     ensures spreads { OnOk result (Spreads outset.now.row sides.old sides.new) }
-    ensures held { OnOk result ((m : ℕ) → m < outset.now.row → EndsPlaced outset.now.instance.now holes.now (to_go_at outset.now.fronts.levels.now m) outset.now.most sides.new m plate begin (row_at pool.now m)) }
+    ensures held { OnOk result ((m : ℕ) → m < outset.now.row
+        → EndsPlaced outset.now.instance.now holes.now
+        (to_go_at outset.now.fronts.levels.now m) outset.now.most sides.new m plate begin
+        (row_at pool.now m)) }
 {
     let low = pool.low();
     for row in low..outset.row {

@@ -69,7 +69,8 @@ fn extend_freely(pool: &mut Pool, onward: &Onward<'_>) -> Result<(), Halt>
     requires pool { onward.now.row < length pool.old }
     requires stretch { IsStretch onward.now.stretch.now }
     ensures spreads { OnOk result (Spreads onward.now.row pool.old pool.new) }
-    ensures extended { OnOk result (Extended onward.now.stretch.now pool.new onward.now.row onward.now.label.now) }
+    ensures extended { OnOk result (Extended onward.now.stretch.now pool.new onward.now.row
+        onward.now.label.now) }
 {
     let stretch = onward.stretch;
     let list = list_of(stretch.levels, onward.row, stretch.limits.class);
@@ -92,7 +93,8 @@ fn extend_around(
     ensures len { OnOk result (length cells.new ≡ length cells.old) }
     ensures are { IfOk result (AreCells onward.now.stretch.now onward.now.row cells.new) }
     ensures spreads { OnOk result (Spreads onward.now.row pool.old pool.new) }
-    ensures extended { OnOk result (Extended onward.now.stretch.now pool.new onward.now.row onward.now.label.now) }
+    ensures extended { OnOk result (Extended onward.now.stretch.now pool.new onward.now.row
+        onward.now.label.now) }
 {
     let sought = cells_above(cells, lists, onward, pool.labels(onward.row), made)?;
     join_rows(pool, onward, cells)?;
@@ -179,7 +181,8 @@ pub fn placed_from(
     requires stretch { IsStretch stretch.now }
     ensures cells { OnOk result (length cells.new ≡ length cells.old) }
     ensures len { OnOk result (length pool.new ≡ length pool.old) }
-    ensures begun { OnOk result ((x w right up : ℕ) → (x ≡ 0) ⊎ (0 + stretch.now.site.waste ≤ x) → low ≤ w → stretch.now.site.left ≤ right → HeldTo (row_at pool.new start) x w right up) }
+    ensures begun { OnOk result ((x w right up : ℕ) → (x ≡ 0) ⊎ (0 + stretch.now.site.waste ≤ x)
+        → low ≤ w → stretch.now.site.left ≤ right → HeldTo (row_at pool.new start) x w right up) }
     ensures placed { OnOk result ((n : ℕ) → n ≤ start → RowPlaced stretch.now pool.new n) }
 {
     pool.clear();

@@ -51,8 +51,10 @@ fn met(holes: &[Defect], piece: &Piece, place: &Place) -> Option<Defect>
 
 /// Lists a place.
 fn push(places: &mut Vec<Place>, x: u32, y: u32) -> Result<(), Halt>
-    ensures kept { OnOk result ((left low : ℕ) → Covered places.old.items left low → Covered places.new.items left low) }
-    ensures new { OnOk result ((left low : ℕ) → x ≤ left → y ≤ low → Covered places.new.items left low) }
+    ensures kept { OnOk result ((left low : ℕ) → Covered places.old.items left low
+        → Covered places.new.items left low) }
+    ensures new { OnOk result ((left low : ℕ) → x ≤ left → y ≤ low
+        → Covered places.new.items left low) }
 {
     match places.push(Place { x, y }) {
         Ok(()) => Ok(()),
@@ -67,8 +69,10 @@ fn look(
     piece: &Piece,
     place: &Place,
 ) -> Result<bool, Halt>
-    ensures kept { OnOk result ((left low : ℕ) → Covered places.old.items left low → Covered places.new.items left low) }
-    ensures new { OnOk result ((left low : ℕ) → place.now.x ≤ left → place.now.y ≤ low → IsFree holes.now piece.now left low → Covered places.new.items left low) }
+    ensures kept { OnOk result ((left low : ℕ) → Covered places.old.items left low
+        → Covered places.new.items left low) }
+    ensures new { OnOk result ((left low : ℕ) → place.now.x ≤ left → place.now.y ≤ low
+        → IsFree holes.now piece.now left low → Covered places.new.items left low) }
 {
     if u64::from(place.x) + u64::from(piece.wide) > u64::from(piece.room) {
         return Ok(false);
@@ -92,7 +96,8 @@ fn look_at_all(
     holes: &[Defect],
     piece: &Piece,
 ) -> Result<bool, Halt>
-    ensures { OnOk result ((left low : ℕ) → Covered old.now left low → IsFree holes.now piece.now left low → Covered places.new.items left low) }
+    ensures { OnOk result ((left low : ℕ) → Covered old.now left low
+        → IsFree holes.now piece.now left low → Covered places.new.items left low) }
 {
     places.clear();
     let mut changed = false;
@@ -113,7 +118,8 @@ pub fn least_places(
     x: u32,
     y: u32,
 ) -> Result<(), Halt>
-    ensures { OnOk result ((left low : ℕ) → x ≤ left → y ≤ low → IsFree holes.now piece.now left low → Covered found.new.items left low) }
+    ensures { OnOk result ((left low : ℕ) → x ≤ left → y ≤ low → IsFree holes.now piece.now left low
+        → Covered found.new.items left low) }
 {
     found.clear();
     push(found, x, y)?;

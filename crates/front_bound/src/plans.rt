@@ -99,7 +99,8 @@ fn plan_within<W: Watch>(
     watch: &W,
 ) -> Result<Option<Trace>, Halt>
     requires fronts { AreFronts ground.instance.now fronts.now }
-    ensures { IfOk result (λ plan. IfSome plan (λ trace. IsComplete ground.entry.instance.now trace.steps.items)) }
+    ensures { IfOk result (λ plan. IfSome plan
+        (λ trace. IsComplete ground.entry.instance.now trace.steps.items)) }
 {
     match trace_within(alloc, ground, fronts, length, limit, watch) {
         Ok(trace) => Ok(checked(ground, trace)),
@@ -119,7 +120,8 @@ fn plan_below<W: Watch>(
     watch: &W,
 ) -> Result<Option<Trace>, Halt>
     requires fronts { AreFronts ground.instance.now fronts.now }
-    ensures { IfOk result (λ plan. IfSome plan (λ trace. IsComplete ground.entry.instance.now trace.steps.items)) }
+    ensures { IfOk result (λ plan. IfSome plan
+        (λ trace. IsComplete ground.entry.instance.now trace.steps.items)) }
 {
     let mut within = length;
     let mut step = FIRST_STEP;
@@ -147,7 +149,8 @@ fn shown_by_fronts<W: Watch>(
 ) -> Result<Shown, Halt>
     ensures shown { IfOk result (λ s. NoCourseShorter ground.entry.instance.now s.length) }
     ensures most { IfOk result (λ s. s.length ≤ most) }
-    ensures plan { IfOk result (λ s. IfSome s.plan (λ trace. IsComplete ground.entry.instance.now trace.steps.items)) }
+    ensures plan { IfOk result (λ s. IfSome s.plan
+        (λ trace. IsComplete ground.entry.instance.now trace.steps.items)) }
 {
     let table = table_of(alloc, ground.instance, limit, watch)?;
     let length = longest(alloc, ground.instance, &table, most, limit, watch)?;
@@ -168,7 +171,8 @@ pub fn longest_with_plan<W: Watch>(
 ) -> Result<Shown, Memory>
     ensures shown { IfOk result (λ s. LosesAtLeast ground.entry.instance.now s.length) }
     ensures most { IfOk result (λ s. s.length ≤ most) }
-    ensures plan { IfOk result (λ s. IfSome s.plan (λ trace. IsComplete ground.entry.instance.now trace.steps.items)) }
+    ensures plan { IfOk result (λ s. IfSome s.plan
+        (λ trace. IsComplete ground.entry.instance.now trace.steps.items)) }
 {
     let _rules = ground.instance.items();
     courses_bound_losses();

@@ -101,7 +101,8 @@ impl Pool {
     pub fn offer(&mut self, row: usize, label: &Label) -> Result<(), Halt>
         requires { row < length self.old }
         ensures spreads { OnOk result (Spreads (row + 1) self.old self.new) }
-        ensures stands { OnOk result ((x y right up : ℕ) → Stands label.now x y right up → HeldTo (row_at self.new row) x y right up) }
+        ensures stands { OnOk result ((x y right up : ℕ) → Stands label.now x y right up
+            → HeldTo (row_at self.new row) x y right up) }
         ensures held { OnOk result ((x y : ℕ) → Fits label.now x y → HeldAt self.new row x y) }
     {
         if self.left == 0 {

@@ -38,8 +38,10 @@ fn offer_begin(
     most: u64,
 ) -> Result<(), Halt>
     ensures kept { OnOk result (Keeps begins.old.items begins.new.items) }
-    ensures own { OnOk result ((from plate : ℕ) → Fits side.now from plate → Held begins.new.items from plate) }
-    ensures next { OnOk result ((from plate : ℕ) → Fits side.now from plate → NextHeld instance.now far most begins.new.items from plate) }
+    ensures own { OnOk result ((from plate : ℕ) → Fits side.now from plate
+        → Held begins.new.items from plate) }
+    ensures next { OnOk result ((from plate : ℕ) → Fits side.now from plate
+        → NextHeld instance.now far most begins.new.items from plate) }
 {
     offer(begins, side)?;
     let params = instance.params();
@@ -75,8 +77,10 @@ fn begins_of(
     far: u64,
     most: u64,
 ) -> Result<(), Halt>
-    ensures own { OnOk result ((from plate : ℕ) → Held sides.now from plate → Held begins.new.items from plate) }
-    ensures next { OnOk result ((from plate : ℕ) → Held sides.now from plate → NextHeld instance.now far most begins.new.items from plate) }
+    ensures own { OnOk result ((from plate : ℕ) → Held sides.now from plate
+        → Held begins.new.items from plate) }
+    ensures next { OnOk result ((from plate : ℕ) → Held sides.now from plate
+        → NextHeld instance.now far most begins.new.items from plate) }
 {
     begins.clear();
     for side in sides {
@@ -120,7 +124,9 @@ fn handle_class(
     requires class { IsClass outset.now.instance.now outset.now.fronts class.now }
     ensures space { OnOk result (IsRoomy outset.now.fronts.rows.now space.new) }
     ensures spreads { OnOk result (Spreads outset.now.row sides.old sides.new) }
-    ensures goes_on { OnOk result (ClassGoesOn outset.now.instance.now outset.now.fronts.rows.now (to_go_at outset.now.fronts.levels.now) outset.now.most sides.new outset.now.row begins.now class.now.plate class.now.low class.now.limits.top class.now.room class.now.limits.most) }
+    ensures goes_on { OnOk result (ClassGoesOn outset.now.instance.now outset.now.fronts.rows.now
+        (to_go_at outset.now.fronts.levels.now) outset.now.most sides.new outset.now.row begins.now
+        class.now.plate class.now.low class.now.limits.top class.now.room class.now.limits.most) }
 {
     let bound = class.limits.bound;
     if bound < class.low {
@@ -157,7 +163,9 @@ fn handle_plate(
     requires plate { plate ≤ 1000 }
     ensures space { OnOk result (IsRoomy outset.now.fronts.rows.now space.new) }
     ensures spreads { OnOk result (Spreads outset.now.row sides.old sides.new) }
-    ensures goes_on { OnOk result (PlateGoesOn outset.now.instance.now outset.now.fronts.rows.now (to_go_at outset.now.fronts.levels.now) outset.now.most sides.new outset.now.row begins.now plate (outset.now.instance.now.params.max1 + 1)) }
+    ensures goes_on { OnOk result (PlateGoesOn outset.now.instance.now outset.now.fronts.rows.now
+        (to_go_at outset.now.fronts.levels.now) outset.now.most sides.new outset.now.row begins.now
+        plate (outset.now.instance.now.params.max1 + 1)) }
 {
     let instance = outset.instance;
     let params = instance.params();
@@ -208,7 +216,10 @@ fn handle_plates(
     requires sides { length sides.old ≡ length outset.now.fronts.rows.now }
     ensures space { OnOk result (IsRoomy outset.now.fronts.rows.now space.new) }
     ensures spreads { OnOk result (Spreads outset.now.row sides.old sides.new) }
-    ensures goes_on { OnOk result ((plate : ℕ) → plate < outset.now.instance.now.params.plates → PlateGoesOn outset.now.instance.now outset.now.fronts.rows.now (to_go_at outset.now.fronts.levels.now) outset.now.most sides.new outset.now.row begins.now plate (outset.now.instance.now.params.max1 + 1)) }
+    ensures goes_on { OnOk result ((plate : ℕ) → plate < outset.now.instance.now.params.plates
+        → PlateGoesOn outset.now.instance.now outset.now.fronts.rows.now
+        (to_go_at outset.now.fronts.levels.now) outset.now.most sides.new outset.now.row begins.now
+        plate (outset.now.instance.now.params.max1 + 1)) }
 {
     let plates = outset.instance.params().plates;
     if plates > MOST_PLATES {
@@ -231,7 +242,8 @@ fn handle_row(
     requires sides { length sides.old ≡ length outset.now.fronts.rows.now }
     ensures space { OnOk result (IsRoomy outset.now.fronts.rows.now space.new) }
     ensures spreads { OnOk result (Spreads outset.now.row sides.old sides.new) }
-    ensures goes_on { OnOk result (SidesGoOn outset.now.instance.now outset.now.fronts.rows.now (to_go_at outset.now.fronts.levels.now) outset.now.most sides.new outset.now.row) }
+    ensures goes_on { OnOk result (SidesGoOn outset.now.instance.now outset.now.fronts.rows.now
+        (to_go_at outset.now.fronts.levels.now) outset.now.most sides.new outset.now.row) }
 {
     let far = to_go(outset.fronts.levels, outset.row);
     begins_of(
@@ -248,7 +260,10 @@ fn handle_row(
 /// The lesser of a length and of where a plate can end at a side, with all plates before it in one line.
 pub fn end_by(instance: &Instance, side: &Label, least: u64) -> u64
     ensures least { result ≤ least }
-    ensures side { (right plate : ℕ) → Fits side.now right plate → plate < instance.now.params.plates → Gap instance.now.params.waste right (Width instance.now plate) → result ≤ Before instance.now plate + right }
+    ensures side { (right plate : ℕ) → Fits side.now right plate
+        → plate < instance.now.params.plates
+        → Gap instance.now.params.waste right (Width instance.now plate)
+        → result ≤ Before instance.now plate + right }
 {
     let params = instance.params();
     let plate = side.across.least;
@@ -270,7 +285,10 @@ pub fn end_by(instance: &Instance, side: &Label, least: u64) -> u64
 /// The least length at which a plate can end at one of the sides, or a length where that is less.
 fn least_end(instance: &Instance, sides: &[Label], most: u64) -> u64
     ensures most { result ≤ most }
-    ensures ends { (right plate : ℕ) → Held sides.now right plate → plate < instance.now.params.plates → Gap instance.now.params.waste right (Width instance.now plate) → result ≤ Before instance.now plate + right }
+    ensures ends { (right plate : ℕ) → Held sides.now right plate
+        → plate < instance.now.params.plates
+        → Gap instance.now.params.waste right (Width instance.now plate)
+        → result ≤ Before instance.now plate + right }
 {
     let mut least = most;
     for side in sides {
@@ -292,7 +310,9 @@ pub fn sides_within<W: Watch>(
     requires fronts { AreFronts instance.now fronts.now }
     ensures len { IfOk result (λ sides. length sides ≡ length fronts.now.rows.now) }
     ensures start { IfOk result (λ sides. HeldAt sides (length fronts.now.rows.now - 1) 0 0) }
-    ensures goes_on { IfOk result (λ sides. (n : ℕ) → 0 < n → n < length fronts.now.rows.now → SidesGoOn instance.now fronts.now.rows.now (to_go_at fronts.now.levels.now) most sides n) }
+    ensures goes_on { IfOk result (λ sides. (n : ℕ) → 0 < n → n < length fronts.now.rows.now
+        → SidesGoOn instance.now fronts.now.rows.now
+        (to_go_at fronts.now.levels.now) most sides n) }
 {
     let mut sides = Pool::new(alloc, fronts.rows.len(), limit)?;
     let mut space = new_space(alloc, fronts.rows, limit)?;

@@ -56,7 +56,8 @@ pub fn spread(
     requires pool { length pool.old ≡ length rows.now }
     requires down { LeadDown rows.now }
     ensures spreads { OnOk result (Spreads start pool.old pool.new) }
-    ensures goes_on { OnOk result ((n : ℕ) → n ≤ start → GoesOn along across pool.new n (moves_at rows.now n)) }
+    ensures goes_on { OnOk result ((n : ℕ) → n ≤ start
+        → GoesOn along across pool.new n (moves_at rows.now n)) }
 {
     for done in 0..start + 1 {
         let row = start - done;

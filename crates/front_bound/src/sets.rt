@@ -29,7 +29,8 @@ impl SizeSet {
 
     /// The sums of a size of each, or none where all are above `most`.
     pub fn plus(&self, other: &SizeSet, most: u32) -> Option<SizeSet>
-        ensures sums { IfSome result (λ s. (x y : ℕ) → Has self.now x → Has other.now y → Has s (x + y)) }
+        ensures sums { IfSome result (λ s. (x y : ℕ) → Has self.now x → Has other.now y
+            → Has s (x + y)) }
         ensures none { IfNone result ((x y : ℕ) → Has self.now x → Has other.now y → most < x + y) }
     {
         let least = u64::from(self.least) + u64::from(other.least);

@@ -25,7 +25,9 @@ fn offer_end(
 ) -> Result<(), Halt>
     requires { ending.now.row < length sides.old }
     ensures spreads { OnOk result (Spreads (ending.now.row + 1) sides.old sides.new) }
-    ensures held { OnOk result ((from width : ℕ) → Has begin.now.along from → Has strip.now.across width → EndsHeld ending.now.instance.now ending.now.far ending.now.most sides.new ending.now.row ending.now.plate from width) }
+    ensures held { OnOk result ((from width : ℕ) → Has begin.now.along from
+        → Has strip.now.across width → EndsHeld ending.now.instance.now ending.now.far
+        ending.now.most sides.new ending.now.row ending.now.plate from width) }
 {
     let instance = ending.instance;
     let plate = ending.plate;
@@ -58,7 +60,9 @@ fn offer_end_of(
 ) -> Result<(), Halt>
     requires { ending.now.row < length sides.old }
     ensures spreads { OnOk result (Spreads (ending.now.row + 1) sides.old sides.new) }
-    ensures held { OnOk result ((from width : ℕ) → Fits begin.now from ending.now.plate → Has strip.now.across width → EndsHeld ending.now.instance.now ending.now.far ending.now.most sides.new ending.now.row ending.now.plate from width) }
+    ensures held { OnOk result ((from width : ℕ) → Fits begin.now from ending.now.plate
+        → Has strip.now.across width → EndsHeld ending.now.instance.now ending.now.far
+        ending.now.most sides.new ending.now.row ending.now.plate from width) }
 {
     if !begin.across.has(ending.plate) {
         return Ok(());
@@ -76,7 +80,9 @@ fn offer_ends_of(
 ) -> Result<(), Halt>
     requires { ending.now.row < length sides.old }
     ensures spreads { OnOk result (Spreads (ending.now.row + 1) sides.old sides.new) }
-    ensures held { OnOk result ((from width : ℕ) → Held begins.now from ending.now.plate → Has strip.now.across width → EndsHeld ending.now.instance.now ending.now.far ending.now.most sides.new ending.now.row ending.now.plate from width) }
+    ensures held { OnOk result ((from width : ℕ) → Held begins.now from ending.now.plate
+        → Has strip.now.across width → EndsHeld ending.now.instance.now ending.now.far
+        ending.now.most sides.new ending.now.row ending.now.plate from width) }
 {
     for begin in begins {
         offer_end_of(ending, sides, begin, strip)?;
@@ -94,7 +100,9 @@ fn offer_ends_by(
 ) -> Result<(), Halt>
     requires { ending.now.row < length sides.old }
     ensures spreads { OnOk result (Spreads (ending.now.row + 1) sides.old sides.new) }
-    ensures held { OnOk result ((from width : ℕ) → Held begins.now from ending.now.plate → Fits strip.now height width → EndsHeld ending.now.instance.now ending.now.far ending.now.most sides.new ending.now.row ending.now.plate from width) }
+    ensures held { OnOk result ((from width : ℕ) → Held begins.now from ending.now.plate
+        → Fits strip.now height width → EndsHeld ending.now.instance.now ending.now.far
+        ending.now.most sides.new ending.now.row ending.now.plate from width) }
 {
     if !strip.along.has(height) {
         return Ok(());
@@ -113,7 +121,9 @@ fn offer_ends_at(
 ) -> Result<(), Halt>
     requires { ending.now.row < length sides.old }
     ensures spreads { OnOk result (Spreads (ending.now.row + 1) sides.old sides.new) }
-    ensures held { OnOk result ((from width : ℕ) → Held begins.now from ending.now.plate → Held strips.now height width → EndsHeld ending.now.instance.now ending.now.far ending.now.most sides.new ending.now.row ending.now.plate from width) }
+    ensures held { OnOk result ((from width : ℕ) → Held begins.now from ending.now.plate
+        → Held strips.now height width → EndsHeld ending.now.instance.now ending.now.far
+        ending.now.most sides.new ending.now.row ending.now.plate from width) }
 {
     for strip in strips {
         offer_ends_by(ending, sides, begins, strip, height)?;
@@ -133,8 +143,10 @@ pub fn offer_ends(
     requires pool { outset.now.row < length pool.now }
     requires plate { plate ≤ 1000 }
     ensures spreads { OnOk result (Spreads outset.now.row sides.old sides.new) }
-    ensures held { OnOk result ((m from width : ℕ) → m < outset.now.row → Held begins.now from plate → HeldAt pool.now m outset.now.instance.now.params.height width
-        → EndsHeld outset.now.instance.now (to_go_at outset.now.fronts.levels.now m) outset.now.most sides.new m plate from width) }
+    ensures held { OnOk result ((m from width : ℕ) → m < outset.now.row → Held begins.now from plate
+        → HeldAt pool.now m outset.now.instance.now.params.height width
+        → EndsHeld outset.now.instance.now
+        (to_go_at outset.now.fronts.levels.now m) outset.now.most sides.new m plate from width) }
 {
     let height = outset.instance.params().height;
     let low = pool.low();

@@ -103,7 +103,8 @@ fn push_end(ends: &mut Vec<End>, end: &End, shift: u32) -> Result<(), Halt>
 
 /// Appends those of the ends that the ones before them do not serve for.
 fn push_ends(stairs: &mut Vec<End>, ends: &[End], shift: u32) -> Result<(), Halt>
-    ensures kept { OnOk result ((a t : ℕ) → Ended stairs.old.items a t → Ended stairs.new.items a t) }
+    ensures kept { OnOk result ((a t : ℕ) → Ended stairs.old.items a t
+        → Ended stairs.new.items a t) }
     ensures new { OnOk result ((a t : ℕ) → Ended ends.now a t → Ended stairs.new.items a t) }
 {
     for end in ends {
@@ -115,7 +116,8 @@ fn push_ends(stairs: &mut Vec<End>, ends: &[End], shift: u32) -> Result<(), Halt
 /// Appends an end with more area before it, where that is not too much.
 fn append_behind(all: &mut Vec<End>, end: &End, area: u64, most: u64) -> Result<(), Halt>
     ensures kept { OnOk result ((a t : ℕ) → Ended all.old.items a t → Ended all.new.items a t) }
-    ensures new { OnOk result (end.now.area + area ≤ most → Ended all.new.items (end.now.area + area) end.now.to_go) }
+    ensures new { OnOk result (end.now.area + area ≤ most
+        → Ended all.new.items (end.now.area + area) end.now.to_go) }
 {
     let Some(sum) = u64::from(end.area).checked_add(area) else {
         return Ok(());
@@ -134,7 +136,8 @@ fn append_behind(all: &mut Vec<End>, end: &End, area: u64, most: u64) -> Result<
 /// Appends ends with more area before them, where that is not too much.
 fn append_all_behind(all: &mut Vec<End>, ends: &[End], area: u64, most: u64) -> Result<(), Halt>
     ensures kept { OnOk result ((a t : ℕ) → Ended all.old.items a t → Ended all.new.items a t) }
-    ensures new { OnOk result ((a t : ℕ) → Ended ends.now a t → a + area ≤ most → Ended all.new.items (a + area) t) }
+    ensures new { OnOk result ((a t : ℕ) → Ended ends.now a t → a + area ≤ most
+        → Ended all.new.items (a + area) t) }
 {
     for end in ends {
         append_behind(all, end, area, most)?;
@@ -173,7 +176,8 @@ fn gather_ends(
 ) -> Result<Vec<End>, Halt>
     requires row { row < length rows.now }
     requires levels { row ≤ length levels.now }
-    ensures { IfOk result (λ all. (to : ℕ) → Contains (links_at rows.now row) to → to < row → Gathered rows.now levels.now row most all.items to) }
+    ensures { IfOk result (λ all. (to : ℕ) → Contains (links_at rows.now row) to → to < row
+        → Gathered rows.now levels.now row most all.items to) }
 {
     let mut all = Vec::new(alloc);
     for to in links_of(rows, row) {
@@ -207,9 +211,11 @@ pub fn ends_behind(
     requires row { row < length rows.now }
     requires levels { row ≤ length levels.now }
     requires lattice { ∥ IsLattice instance.now rows.now ∥₁ }
-    requires ends { (n : ℕ) → n < row → EndsFrom instance.now rows.now most (to_go_at levels.now) n (ends_at levels.now n) }
+    requires ends { (n : ℕ) → n < row → EndsFrom instance.now rows.now most (to_go_at levels.now) n
+        (ends_at levels.now n) }
     ensures falls { IfOk result (λ stairs. Falls stairs.items) }
-    ensures ends { IfOk result (λ stairs. EndsBehind instance.now rows.now most (to_go_at levels.now) row stairs.items) }
+    ensures ends { IfOk result (λ stairs. EndsBehind instance.now rows.now most
+        (to_go_at levels.now) row stairs.items) }
 {
     let mut all = gather_ends(alloc, rows, levels, row, most)?;
     all.sort_unstable_by_key(|end| end.area);
@@ -221,7 +227,8 @@ pub fn ends_behind(
 pub fn with_itself(alloc: Global, behind: &[End], to_go: u64, most: u64) -> Result<Vec<End>, Halt>
     ensures falls { IfOk result (λ stairs. Falls stairs.items) }
     ensures own { IfOk result (λ stairs. Ended stairs.items 0 to_go) }
-    ensures ends { IfOk result (λ stairs. (a t : ℕ) → Ended behind.now a t → Ended stairs.items a t) }
+    ensures ends { IfOk result (λ stairs. (a t : ℕ) → Ended behind.now a t
+        → Ended stairs.items a t) }
 {
     let mut stairs = Vec::new(alloc);
     let own = End {

@@ -126,7 +126,8 @@ fn try_list(
     requires falls { (n : ℕ) → n ≤ row → Falls (ends_at levels.now n) }
     requires rises { Rises list.now }
     ensures spreads { OnOk result (Spreads row pool.old pool.new) }
-    ensures tried { OnOk result ((e : KeyedOf) → Contains list.now e → e.key ≤ slack → EntryTried levels.now limits.now pool.new row label.now e.place) }
+    ensures tried { OnOk result ((e : KeyedOf) → Contains list.now e → e.key ≤ slack
+        → EntryTried levels.now limits.now pool.new row label.now e.place) }
 {
     for at in 0..list.len() {
         if u64::from(key_at(list, at)) > slack {
@@ -152,7 +153,8 @@ fn extend(
     requires pool { row < length pool.old }
     requires searchable { Searchable rows.now levels.now limits.now start }
     ensures spreads { OnOk result (Spreads row pool.old pool.new) }
-    ensures extended { OnOk result (Extended rows.now levels.now limits.now pool.new row label.now) }
+    ensures extended { OnOk result (Extended rows.now levels.now limits.now
+        pool.new row label.now) }
 {
     if u64::from(label.across.least) > limits.most {
         return Ok(());
@@ -205,8 +207,10 @@ pub fn strips_from(
     requires pool { start < length pool.old }
     requires searchable { Searchable rows.now levels.now limits.now start }
     ensures len { OnOk result (length pool.new ≡ length pool.old) }
-    ensures begun { OnOk result ((x w : ℕ) → Has (record { least = 0; more = waste }) x → low ≤ w → HeldAt pool.new start x w) }
-    ensures extended { OnOk result ((n : ℕ) → n ≤ start → RowExtended rows.now levels.now limits.now pool.new n) }
+    ensures begun { OnOk result ((x w : ℕ) → Has (record { least = 0; more = waste }) x → low ≤ w
+        → HeldAt pool.new start x w) }
+    ensures extended { OnOk result ((n : ℕ) → n ≤ start
+        → RowExtended rows.now levels.now limits.now pool.new n) }
 {
     pool.clear();
     let none = Label {

@@ -60,7 +60,8 @@ impl Table {
 
 /// Appends a list.
 fn push_list(lists: &mut Vec<Vec<Keyed>>, list: Vec<Keyed>) -> Result<(), Halt>
-    ensures { OnOk result (map (λ v. v.items) lists.new.items ≡ map (λ v. v.items) lists.old.items ++ list.items ∷ []) }
+    ensures { OnOk result (map (λ v. v.items) lists.new.items
+        ≡ map (λ v. v.items) lists.old.items ++ list.items ∷ []) }
 {
     match lists.push(list) {
         Ok(()) => return Ok(()),
@@ -77,7 +78,8 @@ fn lists_for(
     tops: &[u32],
     bands: &[Move],
 ) -> Result<Vec<Vec<Keyed>>, Halt>
-    ensures { IfOk result (λ lists. HasLists rows.now row tops.now bands.now (map (λ v. v.items) lists.items) (length tops.now)) }
+    ensures { IfOk result (λ lists. HasLists rows.now row tops.now bands.now
+        (map (λ v. v.items) lists.items) (length tops.now)) }
 {
     let mut lists = Vec::new(alloc);
     for class in 0..tops.len() {
@@ -98,9 +100,11 @@ fn open_level(
     requires row { row ≡ length levels.now }
     requires rows { row < length grid.now.rows.now }
     requires pool { length pool.old ≡ length grid.now.rows.now }
-    requires built { Built grid.now.instance.now grid.now.rows.now grid.now.tops.now grid.now.cover levels.now }
+    requires built { Built grid.now.instance.now grid.now.rows.now grid.now.tops.now
+        grid.now.cover levels.now }
     ensures len { OnOk result (length pool.new ≡ length pool.old) }
-    ensures open { IfOk result (IsOpen grid.now.instance.now grid.now.rows.now grid.now.tops.now grid.now.cover (to_go_at levels.now) row) }
+    ensures open { IfOk result (IsOpen grid.now.instance.now grid.now.rows.now grid.now.tops.now
+        grid.now.cover (to_go_at levels.now) row) }
 {
     let instance = grid.instance;
     let rows = grid.rows;
@@ -150,7 +154,8 @@ fn base_of(rows: &[Row], levels: &[Level], row: usize) -> u64
 fn far_of(behind: &Behind<'_>, pool: &mut Pool, base: u64, hint: &mut usize) -> Result<u64, Halt>
     requires { behind.now.start < length pool.old }
     ensures len { OnOk result (length pool.new ≡ length pool.old) }
-    ensures least { IfOk result (LeavesLeast behind.now.instance.now behind.now.fronts.rows.now (to_go_at behind.now.fronts.levels.now) behind.now.start) }
+    ensures least { IfOk result (LeavesLeast behind.now.instance.now behind.now.fronts.rows.now
+        (to_go_at behind.now.fronts.levels.now) behind.now.start) }
 {
     if behind.start == 0 {
         return Ok(0);
@@ -169,10 +174,12 @@ fn add_level(
 ) -> Result<(), Halt>
     requires rows { length levels.old.items < length grid.now.rows.now }
     requires pool { length pool.old ≡ length grid.now.rows.now }
-    requires built { Built grid.now.instance.now grid.now.rows.now grid.now.tops.now grid.now.cover levels.old.items }
+    requires built { Built grid.now.instance.now grid.now.rows.now grid.now.tops.now grid.now.cover
+        levels.old.items }
     ensures len { OnOk result (length pool.new ≡ length pool.old) }
     ensures more { OnOk result (length levels.new.items ≡ length levels.old.items + 1) }
-    ensures built { OnOk result (Built grid.now.instance.now grid.now.rows.now grid.now.tops.now grid.now.cover levels.new.items) }
+    ensures built { OnOk result (Built grid.now.instance.now grid.now.rows.now grid.now.tops.now
+        grid.now.cover levels.new.items) }
 {
     let row = levels.len();
     let base = base_of(grid.rows, levels.as_slice(), row);
@@ -203,7 +210,8 @@ pub fn levels_of<W: Watch>(
     requires { length pool.old ≡ length grid.now.rows.now }
     ensures pool { OnOk result (length pool.new ≡ length pool.old) }
     ensures len { IfOk result (λ levels. length levels.items ≡ length grid.now.rows.now) }
-    ensures built { IfOk result (λ levels. Built grid.now.instance.now grid.now.rows.now grid.now.tops.now grid.now.cover levels.items) }
+    ensures built { IfOk result (λ levels. Built grid.now.instance.now grid.now.rows.now
+        grid.now.tops.now grid.now.cover levels.items) }
 {
     let mut levels = Vec::new(alloc);
     let mut hint = 0;

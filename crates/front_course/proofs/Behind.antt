@@ -2,10 +2,11 @@
 use Rattle.std.proofs.Common.{◌≡◌, ℕ, zero, suc, ◌+◌, ◌*◌, ◌-◌, ◌<◌, ◌≤◌, ◌⊎◌, inl, inr, List, ◌∷◌, length, IsTrue, true, refl, sym, ◌∙◌, subst, arith}
 use Rattle.glass_base.specs.declared.params.Params.{Params}
 use Rattle.glass_base.specs.Problem.{Problem}
+use Rattle.defect_map.specs.Queries.{HitsNone}
 use Rattle.plan_trace.specs.declared.level.Level.{Level}
 use Rattle.plan_trace.specs.declared.level.Level.TheVariants.{NewPlate, NewStrip, NewBand, NewCell, Over}
 use Rattle.plan_trace.specs.Marks.{Spot, levels, Cut}
-use Rattle.plan_trace.specs.TraceRules.{Gap, AloneFits, is_last_in_cell, HitsNone, bottom, TR8}
+use Rattle.plan_trace.specs.TraceRules.{Gap, AloneFits, is_last_in_cell, bottom, TR8}
 use Rattle.plan_trace.proofs.Ends.{Ends}
 use Rattle.plan_trace.proofs.Inside.{Fits, Adds}
 use Rattle.plan_trace.proofs.Known.{Known}

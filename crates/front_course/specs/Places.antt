@@ -2,7 +2,8 @@
 use Rattle.std.specs.Prelude.{ℕ, ◌+◌, ◌<◌, ◌≤◌, List, [], ◌∷◌}
 use Rattle.glass_base.specs.Plates.{Width}
 use Rattle.glass_base.specs.Problem.{Problem}
-use Rattle.plan_trace.specs.TraceRules.{Gap, HitsNone, CrossesNoneX}
+use Rattle.defect_map.specs.Queries.{HitsNone, CrossesNoneX}
+use Rattle.plan_trace.specs.TraceRules.{Gap}
 use Rattle.front_course.specs.Fronts.{Front, next}
 use Rattle.front_course.specs.Cells.{pick_width, pick_height, Cell, cell_width, after_cell, after_cells}
 use Rattle.front_course.specs.Cells.Cell.{alone, pair}

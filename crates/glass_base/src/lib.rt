@@ -2,6 +2,7 @@
 #![tactic(auto)]
 
 pub mod bad_text;
+pub mod digits;
 pub mod instance;
 pub mod item;
 pub mod laws;
@@ -14,6 +15,7 @@ pub mod sizes;
 mod stacks;
 
 pub use bad_text::BadText;
+pub use digits::are_digits;
 pub use instance::{BadInstance, Instance};
 pub use item::{Defect, Item};
 pub use memory::Memory;

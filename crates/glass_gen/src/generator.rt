@@ -52,7 +52,8 @@ fn draw_defect(state: &mut u32) -> Defect
 fn draw_items(alloc: Global, state: &mut u32, count: u32) -> Result<Run<Item>, Memory>
     requires { count ≤ 800 }
     ensures state { OnOk result (state.new ≡ state_after state.old (3 * count)) }
-    ensures items { IfOk result (λ items. items.items ≡ items_drawn state.old (1 + count / 20) count) }
+    ensures items { IfOk result (λ items. items.items
+        ≡ items_drawn state.old (1 + count / 20) count) }
 {
     let stacks = 1 + count / 20;
     let mut items = Run::new(alloc);

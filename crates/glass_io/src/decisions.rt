@@ -83,7 +83,8 @@ pub(crate) fn unread<T: Drop>(kind: ErrorKind, nothing: T) -> Result<T, Trouble>
 /// What a look at a name answers, where nothing may stand there.
 pub(crate) fn looked_up<T: Drop>(outcome: io::Result<T>, nothing: T) -> Result<T, Trouble>
     ensures seen { IfOk outcome (λ value. result ≡ Ok value) }
-    ensures unseen { IfErr outcome (λ error. StandsFor ErrorKind.NotFound nothing (error_kind error) result) }
+    ensures unseen { IfErr outcome (λ error. StandsFor ErrorKind.NotFound nothing
+        (error_kind error) result) }
 {
     match outcome {
         Ok(value) => Ok(value),
@@ -105,7 +106,8 @@ pub(crate) fn called<T>(outcome: io::Result<T>) -> Result<T, Trouble>
 /// The file that was to be made, or none where its name is taken.
 pub(crate) fn made<T: Drop>(outcome: io::Result<T>) -> Result<Option<T>, Trouble>
     ensures made { IfOk outcome (λ file. result ≡ Ok (Some file)) }
-    ensures unmade { IfErr outcome (λ error. StandsFor ErrorKind.AlreadyExists None (error_kind error) result) }
+    ensures unmade { IfErr outcome (λ error. StandsFor ErrorKind.AlreadyExists None
+        (error_kind error) result) }
 {
     match outcome {
         Ok(file) => Ok(Some(file)),
@@ -186,7 +188,8 @@ pub(crate) fn name_beside(
     target: &PathBuf,
     number: u32,
 ) -> Result<Option<PathBuf>, Trouble>
-    ensures { IfOk result (λ beside. option_map path_buf_bytes beside ≡ name_beside_of (path_buf_bytes target.now) number) }
+    ensures { IfOk result (λ beside. option_map path_buf_bytes beside
+        ≡ name_beside_of (path_buf_bytes target.now) number) }
 {
     match target.file_name() {
         None => Ok(None),

@@ -73,9 +73,12 @@ pub trait Files {
 
     /// Makes the name hold these bytes. A store that fails may leave a front of them.
     fn store(&mut self, name: &str, bytes: &[u8]) -> Result<(), Trouble>
-        ensures stored { OnOk result (Stored name.now bytes.now (shelf self.old).contents (shelf self.new).contents) }
-        ensures failed { IsErrOf result Failed → StoredPrefix name.now bytes.now (shelf self.old).contents (shelf self.new).contents }
-        ensures memory { IsErrOf result OutOfMemory → SameContents (shelf self.old).contents (shelf self.new).contents }
+        ensures stored { OnOk result (Stored name.now bytes.now (shelf self.old).contents
+            (shelf self.new).contents) }
+        ensures failed { IsErrOf result Failed → StoredPrefix name.now bytes.now
+            (shelf self.old).contents (shelf self.new).contents }
+        ensures memory { IsErrOf result OutOfMemory → SameContents (shelf self.old).contents
+            (shelf self.new).contents }
         ensures counts { CountsStore (shelf self.old) (shelf self.new) result }
         ensures keeps { reliable self.old → reliable self.new × (IsErrOf result Failed → ⊥) };
 }
@@ -93,9 +96,12 @@ pub trait Sink {
 
     /// Appends these bytes. A write that fails may append a front of them.
     fn write(&mut self, bytes: &[u8]) -> Result<(), Trouble>
-        ensures written { OnOk result (Appended bytes.now (paper self.old).printed (paper self.new).printed) }
-        ensures failed { IsErrOf result Failed → AppendedPrefix bytes.now (paper self.old).printed (paper self.new).printed }
-        ensures memory { IsErrOf result OutOfMemory → SameBytes (paper self.old).printed (paper self.new).printed }
+        ensures written { OnOk result (Appended bytes.now (paper self.old).printed
+            (paper self.new).printed) }
+        ensures failed { IsErrOf result Failed → AppendedPrefix bytes.now (paper self.old).printed
+            (paper self.new).printed }
+        ensures memory { IsErrOf result OutOfMemory → SameBytes (paper self.old).printed
+            (paper self.new).printed }
         ensures counts { CountsWrite (paper self.old) (paper self.new) result }
         ensures keeps { reliable self.old → reliable self.new × (IsErrOf result Failed → ⊥) };
 }

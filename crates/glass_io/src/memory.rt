@@ -43,7 +43,8 @@ fn put(
     name: &str,
     bytes: &[u8],
 ) -> Result<(), Trouble>
-    ensures stored { OnOk result (Holds name.now bytes.now (held_in files.old) (held_in files.new)) }
+    ensures stored { OnOk result (Holds name.now bytes.now (held_in files.old)
+        (held_in files.new)) }
     ensures memory { OnErr result (held_in files.new ≡ held_in files.old) }
     ensures only_memory { IfErr result (λ e. e ≡ OutOfMemory) }
 {
@@ -61,7 +62,8 @@ impl Files for MemFiles {
         ensures same { held_in self.new.files ≡ held_in self.old.files }
         ensures found { IfOk result (TellsFile (mem_shelf self.old).contents name.now limit) }
         ensures counts { CountsRead role (mem_shelf self.old) (mem_shelf self.new) result }
-        ensures keeps { self.old.fails.items ≡ [] → (self.new.fails.items ≡ []) × (IsErrOf result Failed → ⊥) }
+        ensures keeps { self.old.fails.items ≡ [] → (self.new.fails.items ≡ [])
+            × (IsErrOf result Failed → ⊥) }
         ensures called { Counted self.old.calls self.new.calls }
         ensures script { self.new.fails.items ≡ self.old.fails.items }
         ensures follows { IsErrOf result Failed ↔ Contains self.old.fails.items self.old.calls }
@@ -85,15 +87,21 @@ impl Files for MemFiles {
     }
 
     fn store(&mut self, name: &str, bytes: &[u8]) -> Result<(), Trouble>
-        ensures stored { OnOk result (Stored name.now bytes.now (mem_shelf self.old).contents (mem_shelf self.new).contents) }
-        ensures failed { IsErrOf result Failed → StoredPrefix name.now bytes.now (mem_shelf self.old).contents (mem_shelf self.new).contents }
-        ensures memory { IsErrOf result OutOfMemory → SameContents (mem_shelf self.old).contents (mem_shelf self.new).contents }
+        ensures stored { OnOk result (Stored name.now bytes.now (mem_shelf self.old).contents
+            (mem_shelf self.new).contents) }
+        ensures failed { IsErrOf result Failed → StoredPrefix name.now bytes.now
+            (mem_shelf self.old).contents (mem_shelf self.new).contents }
+        ensures memory { IsErrOf result OutOfMemory → SameContents (mem_shelf self.old).contents
+            (mem_shelf self.new).contents }
         ensures counts { CountsStore (mem_shelf self.old) (mem_shelf self.new) result }
-        ensures keeps { self.old.fails.items ≡ [] → (self.new.fails.items ≡ []) × (IsErrOf result Failed → ⊥) }
+        ensures keeps { self.old.fails.items ≡ [] → (self.new.fails.items ≡ [])
+            × (IsErrOf result Failed → ⊥) }
         ensures called { Counted self.old.calls self.new.calls }
         ensures script { self.new.fails.items ≡ self.old.fails.items }
         ensures follows { FollowsScript self.old.fails.items self.old.calls result }
-        ensures half { IsErrOf result Failed → Holds name.now (take (length bytes.now / 2) bytes.now) (held_in self.old.files) (held_in self.new.files) }
+        ensures half { IsErrOf result Failed → Holds name.now
+            (take (length bytes.now / 2) bytes.now) (held_in self.old.files)
+            (held_in self.new.files) }
     {
         let fails = names(&self.fails, self.calls);
         self.calls = one_more(self.calls);
@@ -126,15 +134,20 @@ impl Sink for MemSink {
     ghost reliable = { λ m. m.fails.items ≡ [] };
 
     fn write(&mut self, bytes: &[u8]) -> Result<(), Trouble>
-        ensures written { OnOk result (Appended bytes.now (mem_paper self.old).printed (mem_paper self.new).printed) }
-        ensures failed { IsErrOf result Failed → AppendedPrefix bytes.now (mem_paper self.old).printed (mem_paper self.new).printed }
-        ensures memory { IsErrOf result OutOfMemory → SameBytes (mem_paper self.old).printed (mem_paper self.new).printed }
+        ensures written { OnOk result (Appended bytes.now (mem_paper self.old).printed
+            (mem_paper self.new).printed) }
+        ensures failed { IsErrOf result Failed → AppendedPrefix bytes.now
+            (mem_paper self.old).printed (mem_paper self.new).printed }
+        ensures memory { IsErrOf result OutOfMemory → SameBytes (mem_paper self.old).printed
+            (mem_paper self.new).printed }
         ensures counts { CountsWrite (mem_paper self.old) (mem_paper self.new) result }
-        ensures keeps { self.old.fails.items ≡ [] → (self.new.fails.items ≡ []) × (IsErrOf result Failed → ⊥) }
+        ensures keeps { self.old.fails.items ≡ [] → (self.new.fails.items ≡ [])
+            × (IsErrOf result Failed → ⊥) }
         ensures called { Counted self.old.calls self.new.calls }
         ensures script { self.new.fails.items ≡ self.old.fails.items }
         ensures follows { FollowsScript self.old.fails.items self.old.calls result }
-        ensures half { IsErrOf result Failed → self.new.bytes.items ≡ self.old.bytes.items ++ take (length bytes.now / 2) bytes.now }
+        ensures half { IsErrOf result Failed → self.new.bytes.items
+            ≡ self.old.bytes.items ++ take (length bytes.now / 2) bytes.now }
     {
         let fails = names(&self.fails, self.calls);
         self.calls = one_more(self.calls);

@@ -58,7 +58,8 @@ impl<'a, R> StdFiles<'a, R> {
 
 /// The bytes of an open file, of which one more than the limit is read at the most.
 fn read_up_to<F: Read + Drop>(alloc: Global, file: F, limit: u64) -> io::Result<Vec<u8>>
-    ensures { IfOk result (λ bytes. IfSome (F.remaining file) (λ all. bytes.items ≡ take (min (limit + 1) (2 ^ 64 - 1)) all)) }
+    ensures { IfOk result (λ bytes. IfSome (F.remaining file) (λ all. bytes.items
+        ≡ take (min (limit + 1) (2 ^ 64 - 1)) all)) }
 {
     let mut bytes = Vec::new(alloc);
     file.take(limit.saturating_add(1)).read_to_end(&mut bytes)?;
@@ -81,8 +82,10 @@ fn answered<F: Read + Drop>(
     opened: io::Result<F>,
     limit: u64,
 ) -> Result<Fetched, Trouble>
-    ensures read { IfOk opened (λ file. IfSome (F.remaining file) (λ all. limit < 2 ^ 64 - 1 → IfOk result (IsFound (Some all) limit))) }
-    ensures unread { IfErr opened (λ error. StandsFor ErrorKind.NotFound Fetched.Absent (error_kind error) result) }
+    ensures read { IfOk opened (λ file. IfSome (F.remaining file) (λ all. limit < 2 ^ 64 - 1
+        → IfOk result (IsFound (Some all) limit))) }
+    ensures unread { IfErr opened (λ error. StandsFor ErrorKind.NotFound Fetched.Absent
+        (error_kind error) result) }
 {
     match opened {
         Ok(file) => {

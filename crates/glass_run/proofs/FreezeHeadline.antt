@@ -1,14 +1,14 @@
 -- What a user may conclude from how `freeze` ended.
-use Rattle.std.proofs.Common.{◌≡◌, ◌≢◌, ℕ, ◌+◌, ◌*◌, ◌≤◌, List, length, Bool, true, false, cond, arith, refl, sym, ap, subst, ◌∙◌, inl, inr, Option, Some}
+use Rattle.std.proofs.Common.{◌≡◌, ◌≢◌, ℕ, ◌+◌, ◌≤◌, List, length, Bool, true, false, cond, arith, refl, sym, ap, subst, ◌∙◌, inl, inr, Option, Some}
 use Rattle.std.specs.Prelude.{◌==◌, Ok, Err, Result, is_some, option_map}
-use Rattle.std.proofs.Math.Nat.{mul-le-mul_right}
-use Rattle.glass_base.specs.Problem.{Problem, IsProblem}
+use Rattle.glass_base.specs.Problem.{Problem}
 use Rattle.glass_base.specs.declared.role.Role.TheVariants as role
 use Rattle.glass_io.specs.Told.{Contents}
 use Rattle.cut_model.specs.Lawful.{IsLawful}
 use Rattle.cut_model.specs.Loss.{loss_of}
 use Rattle.cut_model.specs.Tree.{Forest, count as count_rows}
 use Rattle.plan_csv.specs.PlanTexts.{plan_said}
+use Rattle.plan_csv.specs.Solutions.{solution_text}
 use Rattle.plan_csv.specs.declared.bad_plan.BadPlan.{BadPlan}
 use Rattle.plan_csv.proofs.TreesInRange.{read_fits}
 use Rattle.plan_freeze.specs.Claims.{IsFrozen}
@@ -17,31 +17,33 @@ use Rattle.plan_freeze.specs.Rests.{frozen_loss}
 use Rattle.plan_freeze.proofs.Forests.{first_rows}
 use Rattle.plan_freeze.proofs.FrozenLaw.{rest_is_planned, rest_loses, whole_is_found}
 use Rattle.cert_log.specs.declared.certificate.Certificate.{Certificate}
+use Rattle.cert_log.specs.Texts.{cert_text}
 use Rattle.command_line.specs.Grammar.{Line, count_in, files_of}
 use Rattle.command_line.specs.declared.grammar.Count.TheVariants as count
 use Rattle.command_line.specs.declared.grammar.Verb.{Verb}
 use Rattle.command_line.specs.declared.grammar.Verb.TheVariants as verb
 use Rattle.run_frame.specs.Answers.{Answer}
 use Rattle.glass_run.specs.Commands.{Answers, AnswersInstance, cert_name, plan_name}
-use Rattle.glass_run.specs.FreezeHeadlines.{StoresFreeze, frozen_in, whole_of}
+use Rattle.glass_run.specs.FreezeHeadlines.{HandlesEachBoxBehind, StoresFreeze, StoresWhole, frozen_in, whole_of}
 use Rattle.run_search.specs.Freezes.{Freezes, FreezesSaid, FreezesWithin}
 use Rattle.run_search.specs.Freezes.FreezesPlan.{broken_plan, none_left, planned as planned_anew}
 use Rattle.glass_run.specs.Headlines.{Ended, FindsUnlawful, IsSearchEnd, SaidBy}
-use Rattle.run_search.specs.Plans.{ending, most_work}
+use Rattle.run_search.specs.Plans.{ending}
 use Rattle.run_checks.specs.Checks.{root_ranges}
+use Rattle.run_checks.specs.Said.{SayBoth}
 use Rattle.run_frame.specs.Runs.{Completes, Prints, RunsTo, Stands, World}
 use Rattle.run_frame.specs.Texts.{Texts, text_or_empty}
 use Rattle.run_frame.specs.declared.status.Status.{Status}
 use Rattle.run_frame.specs.declared.status.Status.TheVariants as status
 use Rattle.run_checks.proofs.RaisedBounds.{bounds_behind}
-use Rattle.run_search.proofs.FrozenTexts.{CanBeReadBehind, verified_behind}
+use Rattle.run_search.proofs.FrozenTexts.{right_behind, same_loss}
 use Rattle.run_frame.proofs.Stores.{unchanged}
 use Rattle.glass_run.proofs.Headlines.{Says, completed_says, rules_of}
 use Rattle.glass_run.proofs.SearchHeadline.{accepts, bound_exact, completes, left_stopped, stopped_left}
 use Rattle.run_frame.proofs.SmallTexts.{text_short}
 use Rattle.run_frame.proofs.Statuses.{IsRefused}
 use Rattle.run_plans.proofs.Statuses.{plan_refused}
-use Rattle.run_search.proofs.StoredTexts.{is_text, second_floor, second_version}
+use Rattle.run_search.proofs.StoredTexts.{second_floor}
 
 -- the status of an answer
 abbrev status_of : Answer → Status
@@ -61,29 +63,18 @@ optimal : (closed : Bool) (loss : Option ℕ) (n : ℕ) → loss ≡ Some n → 
 optimal true loss n is ends = ap (λ (o : Option ℕ). cond (is_some o) status.Optimal status.Infeasible) is
 optimal false loss n is ends = absurd (ends refl)
 
--- what was found can be read again
-can_be_read : (line : Line) (held : Contents) (texts : Texts) (b : Problem) (k budget : ℕ) (plan : Forest) (out cert : List ℕ) (answer : Answer) → SaidBy line held texts b → length b.items * budget ≤ most_work →
-    plan_said b (text_or_empty texts role.Plan) ≡ Ok plan → (f : Freezes b k budget plan out cert answer) → CanBeReadBehind b plan k f.rest f.tail f.certificate
-can_be_read line held texts b k budget plan out cert answer reads work said f =
-    let rules : IsProblem b = rules_of line.verb line texts b reads.instance_is in
+-- the texts of what was found say it
+texts_say : (line : Line) (held : Contents) (texts : Texts) (b : Problem) (k budget : ℕ) (plan : Forest) (out cert : List ℕ) (answer : Answer) → SaidBy line held texts b →
+    plan_said b (text_or_empty texts role.Plan) ≡ Ok plan → (f : Freezes b k budget plan out cert answer) →
+    SayBoth b (Some (solution_text b (joined (first_plates k plan) f.tail))) (cert_text f.certificate) (Some (joined (first_plates k plan) f.tail)) f.certificate
+texts_say line held texts b k budget plan out cert answer reads said f =
     let short = text_short held (files_of line) texts role.Plan reads.texts_are in
     let rows : count_rows plan ≤ length (text_or_empty texts role.Plan) = (read_fits b (text_or_empty texts role.Plan) plan said).2 in
-    let few : count_rows (joined (first_plates k plan) f.tail) ≤ 1000000000 = omega (arith, first_rows k plan f.tail, f.few, f.rest_is.rules.few_items, short, rows) in
-    let both = f.said few in
-    let most : 1 * budget ≤ length b.items * budget = mul-le-mul_right budget rules.some in
-    record {
-      frozen = record { problem = rules; lawful = f.lawful; fewer = f.fewer; rest_is = f.rest_is };
-      lawful = f.found.lawful;
-      loss_is = f.found.loss_is;
-      good = f.found.good;
-      said = both.plan_is;
-      text = is_text f.rest f.certificate f.rest_is.rules f.found.good (second_version f.certificate f.found.version) (omega (arith, f.found.in_budget, most, work)) both.reading.begins.head;
-      no_floor = second_floor f.certificate f.found.version;
-    }
+    f.said (omega (arith, first_rows k plan f.tail, f.few, f.rest_is.rules.few_items, short, rows))
 
 -- what was found is stored and printed
 stores_freeze : (line : Line) (held : Contents) (old new : World) (answer : Answer) (result : Status) → line.verb ≡ verb.Freeze → IsSearchEnd result → result ≡ answer.status → Says line held answer →
-    Stands answer.stores old.shelf.contents new.shelf.contents → Prints answer.lines old.paper new.paper → StoresFreeze line held old new result
+    Stands answer.stores old.shelf.contents new.shelf.contents → Prints answer.lines old.paper new.paper → StoresFreeze line held old new result × HandlesEachBoxBehind line held old new
 stores_freeze line held old new answer result of end is s stored prints =
     let k : ℕ = frozen_in line in
     let budget : ℕ = count_in line count.Budget in
@@ -102,7 +93,7 @@ stores_freeze line held old new answer result of end is s stored prints =
           let lawful : IsLawful b whole = (rest_is_planned b plan k f.rest frozen whole begins.0).1 (subst (IsLawful f.rest) (sym begins.1) f.found.lawful) in
           let loses : loss_of b whole ≡ more + loss_of f.rest f.tail = rest_loses b plan k f.rest frozen whole begins.0 lawful ∙ ap (λ (t : Forest). more + loss_of f.rest t) begins.1 in
           let ended : result ≡ ending c = is ∙ ap status_of f.answer_is in
-          record {
+          let stores : StoresWhole line held old new = record {
             texts = s.texts;
             b = b;
             plan = plan;
@@ -116,30 +107,41 @@ stores_freeze line held old new answer result of end is s stored prints =
             rest_is = f.rest_is;
             stored = subst (λ (a : Answer). Stands a.stores old.shelf.contents new.shelf.contents) f.answer_is stored;
             prints = subst (λ (a : Answer). Prints a.lines old.paper new.paper) f.answer_is prints;
-            begins = begins.0;
-            whole_lawful = lawful;
-            loss_is = ap (option_map (λ n. more + n)) f.found.loss_is ∙ ap Some (sym loses);
-            no_worse = omega (arith, loses, rest_loses b plan k f.rest frozen plan refl f.lawful, f.found.no_worse);
-            bounds = bounds_behind b plan k f.rest c.bound frozen f.found.bounds;
-            good = f.found.good;
-            verified = verified_behind b plan k f.rest f.tail c (can_be_read line held s.texts b k budget plan (plan_name line) (cert_name line) answer s.reads w.0 said.1 f);
-            to_beat = f.found.to_beat;
-            readable = f.found.readable;
-            searched = f.found.searched;
-            of_search = f.found.of_search;
-            no_greater = f.found.no_greater;
-            left_open = ((λ e. stopped_left c (sym ended ∙ e)), (λ some. ended ∙ left_stopped c some));
-            in_budget = f.found.in_budget;
-            spent = λ e. f.found.spent (stopped_left c (sym ended ∙ e));
-            exact = λ ne. (
-              ended ∙ optimal (c.left == 0) c.loss (loss_of f.rest f.tail) f.found.loss_is (λ e. ne (ended ∙ e)),
-              bound_exact f.rest (root_ranges f.rest) c.loss c f.found.good (λ some. ne (ended ∙ left_stopped c some)),
-            );
-          }
+          } in (
+            record {
+              found = stores;
+              begins = begins.0;
+              whole_lawful = lawful;
+              loss_is = ap (option_map (λ n. more + n)) f.found.loss_is ∙ ap Some (sym loses);
+              no_worse = omega (arith, loses, rest_loses b plan k f.rest frozen plan refl f.lawful, f.found.no_worse);
+              bounds = bounds_behind b plan k f.rest c.bound frozen f.found.bounds;
+              good = f.found.good;
+              right = right_behind b plan k f.rest f.tail c frozen f.found.lawful f.found.loss_is f.found.good
+                  (texts_say line held s.texts b k budget plan (plan_name line) (cert_name line) answer s.reads said.1 f);
+              same_loss = same_loss b plan k f.rest f.tail c frozen f.found.lawful;
+              no_floor = second_floor c f.found.version;
+              readable = f.found.readable;
+              left_open = ((λ e. stopped_left c (sym ended ∙ e)), (λ some. ended ∙ left_stopped c some));
+              in_budget = f.found.in_budget;
+              spent = λ e. f.found.spent (stopped_left c (sym ended ∙ e));
+              exact = λ ne. (
+                ended ∙ optimal (c.left == 0) c.loss (loss_of f.rest f.tail) f.found.loss_is (λ e. ne (ended ∙ e)),
+                bound_exact f.rest (root_ranges f.rest) c.loss c f.found.good (λ some. ne (ended ∙ left_stopped c some)),
+              );
+            },
+            record {
+              found = stores;
+              to_beat = f.found.to_beat;
+              of_search = f.found.of_search;
+              searched = f.found.searched;
+              no_greater = f.found.no_greater;
+            },
+          )
       | inr refused ↦ absurd (subst IsSearchEnd (is ∙ ap status_of refused.1) end)
     ]
 
-pub freeze_ended : (words : List (List ℕ)) (line : Line) (held : Contents) (old new : World) (result : Status) → IsSearchEnd result → Ended words verb.Freeze line held old new result → StoresFreeze line held old new result
+pub freeze_ended : (words : List (List ℕ)) (line : Line) (held : Contents) (old new : World) (result : Status) → IsSearchEnd result → Ended words verb.Freeze line held old new result →
+    StoresFreeze line held old new result × HandlesEachBoxBehind line held old new
 freeze_ended words line held old new result end e =
     let c = completes line old new result end (subst (λ (o : Option Line). RunsTo Answers o old new result) e.line_is e.runs) in
     stores_freeze line held old new c.answer result e.verb_is end c.status_is (completed_says line held old new result e.told (accepts result end) c) c.stored c.prints

@@ -17,7 +17,7 @@ use Rattle.run_frame.specs.Answers.{Answer}
 use Rattle.run_checks.specs.Checks.{IsAccepted, NotAccepted, loss_in, root_ranges}
 use Rattle.run_checks.specs.Checks.NotAccepted.{bad_cert, bad_plan, bad_tree, broken_plan}
 use Rattle.glass_run.specs.Commands.{Answers, AnswersInstance, cert_name, plan_name}
-use Rattle.glass_run.specs.Headlines.{Ended, IsSearchEnd, StoresResumed}
+use Rattle.glass_run.specs.Headlines.{Ended, HandlesOpenBoxes, IsSearchEnd, StoresJoined, StoresResumed}
 use Rattle.run_search.specs.Plans.{ending, planned}
 use Rattle.run_search.specs.Resumptions.{GoesOn, GoesOnWithin, Resumes, too_long_to_read}
 use Rattle.run_frame.specs.Runs.{Prints, RunsTo, Stands, World}
@@ -27,8 +27,7 @@ use Rattle.glass_run.proofs.Headlines.{Says, completed_says, rules_of}
 use Rattle.glass_run.proofs.SearchHeadline.{accepts, bound_exact, completes, left_stopped, stopped_left}
 use Rattle.run_plans.proofs.Statuses.{plan_refused}
 use Rattle.run_checks.proofs.Statuses.{cert_refused}
-use Rattle.run_checks.proofs.RightTexts.{right_passes}
-use Rattle.run_search.proofs.StoredTexts.{verified_or}
+use Rattle.run_search.proofs.StoredTexts.{is_accepted}
 
 -- an answer to what is not accepted has none of the statuses of a search
 never_ended : (b : Problem) (plan_text : Option (List ℕ)) (text : List ℕ) (answer : Answer) → IsSearchEnd answer.status → NotAccepted b plan_text text answer → ⊥
@@ -52,12 +51,13 @@ is_stored b budget plan c out new answer end g =
 
 stores_more : (line : Line) (held : Contents) (old new : World) (answer : Answer) (result : Status) (s : Says line held answer) (plan : Option Forest) (c : Certificate) →
     IsAccepted s.b (text_for s.texts role.Plan) (text_or_empty s.texts role.Cert) plan c → GoesOn s.b (count_in line count.Budget) plan c (plan_name line) (cert_name line) answer → IsSearchEnd answer.status → result ≡ answer.status →
-    Stands answer.stores old.shelf.contents new.shelf.contents → Prints answer.lines old.paper new.paper → StoresResumed line held old new result
+    Stands answer.stores old.shelf.contents new.shelf.contents → Prints answer.lines old.paper new.paper → StoresResumed line held old new result × HandlesOpenBoxes line held old new
 stores_more line held old new answer result s plan c right g end is stored prints =
     let j = g.certificate in
     let kept = is_stored s.b (count_in line count.Budget) plan c (plan_name line) (cert_name line) answer end g in
     let ended : result ≡ ending j = is ∙ ap (λ (a : Answer). a.status) kept.1 in
-    record {
+    let made = g.resumed.made in
+    let stores : StoresJoined line held old new = record {
       texts = s.texts;
       b = s.b;
       certificate = c;
@@ -71,20 +71,24 @@ stores_more line held old new answer result s plan c right g end is stored print
       };
       joined = j;
       plan = g.best;
-      resumed = g.resumed;
       stored = subst (λ (a : Answer). Stands a.stores old.shelf.contents new.shelf.contents) kept.1 stored;
       prints = subst (λ (a : Answer). Prints a.lines old.paper new.paper) kept.1 prints;
-      accepted = right_passes s.b (root_ranges s.b) j.loss j g.resumed.good;
-      verified = verified_or s.b g.best j g.resumed.said g.resumed.plan_is g.resumed.good kept.0;
-      readable = kept.0;
-      ends = ended;
-      left_open = ((λ e. stopped_left j (sym ended ∙ e)), (λ some. ended ∙ left_stopped j some));
-      spent = λ e. g.resumed.spent (stopped_left j (sym ended ∙ e));
-      exact = λ ne. bound_exact s.b (root_ranges s.b) j.loss j g.resumed.good (λ some. ne (ended ∙ left_stopped j some));
-    }
+    } in (
+      record {
+        found = stores;
+        resumed = made;
+        accepted = is_accepted s.b g.best j made.said made.plan_is made.good;
+        readable = kept.0;
+        ends = ended;
+        left_open = ((λ e. stopped_left j (sym ended ∙ e)), (λ some. ended ∙ left_stopped j some));
+        spent = λ e. made.spent (stopped_left j (sym ended ∙ e));
+        exact = λ ne. bound_exact s.b (root_ranges s.b) j.loss j made.good (λ some. ne (ended ∙ left_stopped j some));
+      },
+      record { found = stores; resumed = g.resumed },
+    )
 
 stores_resumed : (line : Line) (held : Contents) (old new : World) (answer : Answer) (result : Status) → line.verb ≡ verb.Resume → IsSearchEnd result → result ≡ answer.status → Says line held answer →
-    Stands answer.stores old.shelf.contents new.shelf.contents → Prints answer.lines old.paper new.paper → StoresResumed line held old new result
+    Stands answer.stores old.shelf.contents new.shelf.contents → Prints answer.lines old.paper new.paper → StoresResumed line held old new result × HandlesOpenBoxes line held old new
 stores_resumed line held old new answer result of end is s stored prints =
     let budget = count_in line count.Budget in
     let resumes : Resumes s.b (text_for s.texts role.Plan) (text_or_empty s.texts role.Cert) budget (plan_name line) (cert_name line) answer = subst (λ (v : Verb). AnswersInstance v line s.texts s.b answer) of s.answers in
@@ -98,7 +102,8 @@ stores_resumed line held old new answer result of end is s stored prints =
       | inr other ↦ absurd (never_ended s.b (text_for s.texts role.Plan) (text_or_empty s.texts role.Cert) answer (subst IsSearchEnd is end) other)
     ]
 
-pub resumption_ended : (words : List (List ℕ)) (line : Line) (held : Contents) (old new : World) (result : Status) → IsSearchEnd result → Ended words verb.Resume line held old new result → StoresResumed line held old new result
+pub resumption_ended : (words : List (List ℕ)) (line : Line) (held : Contents) (old new : World) (result : Status) → IsSearchEnd result → Ended words verb.Resume line held old new result →
+    StoresResumed line held old new result × HandlesOpenBoxes line held old new
 resumption_ended words line held old new result end e =
     let c = completes line old new result end (subst (λ (o : Option Line). RunsTo Answers o old new result) e.line_is e.runs) in
     stores_resumed line held old new c.answer result e.verb_is end c.status_is (completed_says line held old new result e.told (accepts result end) c) c.stored c.prints

@@ -7,17 +7,16 @@ use Rattle.plan_box.specs.Frames.{frame_of}
 use Rattle.plan_box.specs.Halves.{IsDepth}
 use Rattle.plan_box.specs.Ranges.{Ranges}
 use Rattle.cert_log.specs.declared.certificate.Certificate.{Certificate}
-use Rattle.cert_log.specs.Good.{IsGood, least_of, open_bounds}
+use Rattle.cert_log.specs.Good.{IsGood, least_of, visit_bounds}
+use Rattle.cert_log.specs.Visits.{visits}
 use Rattle.cert_log.proofs.GoodNodes.{good_counts, no_larger_than_full}
 use Rattle.run_frame.specs.Answers.{Answer}
 use Rattle.glass_run.specs.Commands.{Answers, AnswersInstance, cert_name, plan_name}
 use Rattle.command_line.specs.Grammar.{Line, count_in, flag_in}
-use Rattle.glass_run.specs.Headlines.{Ended, IsSearch, IsSearchEnd, StoresSearch}
+use Rattle.glass_run.specs.Headlines.{Ended, HandlesEachBox, IsSearch, IsSearchEnd, StoresFound, StoresSearch}
 use Rattle.run_search.specs.Plans.{PlansWithin, ending, handled, planned}
 use Rattle.run_checks.specs.Checks.{root_ranges}
 use Rattle.run_frame.specs.Texts.{Texts}
-use Rattle.cert_check.specs.declared.verdict.Verdict.{Verdict}
-use Rattle.cert_check.specs.Faults.{Answers as CheckAnswers}
 use Rattle.run_frame.specs.Runs.{Completes, LineRun, Prints, RunsTo, Stands, World}
 use Rattle.command_line.specs.declared.grammar.Count.TheVariants as count
 use Rattle.command_line.specs.declared.grammar.Flag.TheVariants as flag
@@ -26,8 +25,7 @@ use Rattle.command_line.specs.declared.grammar.Verb.TheVariants as verb
 use Rattle.run_frame.specs.declared.status.Status.{Status}
 use Rattle.run_frame.specs.declared.status.Status.TheVariants as status
 use Rattle.glass_run.proofs.Headlines.{Says, completed_says}
-use Rattle.run_checks.proofs.RightTexts.{right_passes}
-use Rattle.run_search.proofs.StoredTexts.{verified_or}
+use Rattle.run_search.proofs.StoredTexts.{is_accepted}
 use Rattle.run_frame.proofs.Statuses.{IsRefused}
 
 -- a run that ended as a search did what its answer says
@@ -89,7 +87,8 @@ no_bounds (x ∷ xs) e = absurd (omega (arith, e))
 -- where no box is left open, the bound is the loss
 pub bound_exact : (b : Problem) (rs : List Ranges) (loss : Option ℕ) (c : Certificate) → IsGood b rs loss c → (0 < c.left → ⊥) → c.bound ≡ c.loss
 bound_exact b rs loss c good none =
-    let empty = no_bounds (open_bounds b c.floor rs good.tree) (sym good.left_is ∙ nothing c.left none) in
+    let bounds = visit_bounds b c.floor (visits rs good.tree) in
+    let empty = no_bounds bounds (sym good.left_is ∙ nothing c.left none) in
     good.bound_is ∙ ap (λ (xs : List ℕ). least_of loss xs) empty ∙ sym good.loss_is
   where
     nothing : (n : ℕ) → (0 < n → ⊥) → n ≡ 0
@@ -123,15 +122,8 @@ plans_by verb.Sheet is line texts b answer h = absurd is
 plans_by verb.Replay is line texts b answer h = absurd is
 plans_by verb.Picture is line texts b answer h = absurd is
 
--- where there is no floor, it accepts it
-accepts_good : (b : Problem) (rs : List Ranges) (loss : Option ℕ) (c : Certificate) → IsGood b rs loss c → c.floor ≡ 0 → (verdict : Verdict) → CheckAnswers b rs loss c verdict → verdict ≡ Verdict.Accept c.bound c.left
-accepts_good b rs loss c good none verdict h = elim (right_passes b rs loss c good verdict h) [
-  | inl is ↦ is
-  | inr missed ↦ absurd (omega (arith, none, missed.1))
-]
-
 stores_search : (line : Line) (held : Contents) (old new : World) (answer : Answer) (result : Status) (search : Verb) → IsSearch search → line.verb ≡ search → IsSearchEnd result → result ≡ answer.status → Says line held answer →
-    Stands answer.stores old.shelf.contents new.shelf.contents → Prints answer.lines old.paper new.paper → StoresSearch line held old new result
+    Stands answer.stores old.shelf.contents new.shelf.contents → Prints answer.lines old.paper new.paper → StoresSearch line held old new result × HandlesEachBox line held old new
 stores_search line held old new answer result search searches of end is s stored prints =
     let budget = count_in line count.Budget in
     let plans : PlansWithin s.b budget (flag_in line flag.Watch) (flag_in line flag.Fronts) (plan_name line) (cert_name line) answer = plans_by search searches line s.texts s.b answer (subst (λ (v : Verb). AnswersInstance v line s.texts s.b answer) of s.answers) in
@@ -140,7 +132,7 @@ stores_search line held old new answer result search searches of end is s stored
           let found = p.1.found in
           let c = p.1.certificate in
           let ended : result ≡ ending c = is ∙ ap (λ (a : Answer). a.status) p.1.answer_is in
-          record {
+          let stores : StoresFound line held old new = record {
             texts = s.texts;
             b = s.b;
             plan = p.1.plan;
@@ -149,40 +141,37 @@ stores_search line held old new answer result search searches of end is s stored
             reads = s.reads;
             stored = subst (λ (a : Answer). Stands a.stores old.shelf.contents new.shelf.contents) p.1.answer_is stored;
             prints = subst (λ (a : Answer). Prints a.lines old.paper new.paper) p.1.answer_is prints;
-            improvements = p.1.improvements;
-            good = found.good;
-            accepted = right_passes s.b (root_ranges s.b) c.loss c found.good;
-            verified = verified_or s.b p.1.plan c found.said found.plan_is found.good found.readable.cert_short;
-            unasked = λ off.
-                let none = p.1.unasked off in (
-                  none,
-                  record {
-                    checked = accepts_good s.b (root_ranges s.b) c.loss c found.good none;
-                    verified = λ answer h. elim (verified_or s.b p.1.plan c found.said found.plan_is found.good found.readable.cert_short answer h) [
-                      | inl is ↦ is
-                      | inr missed ↦ absurd (omega (arith, none, missed.1))
-                    ];
-                  },
-                );
-            readable = found.readable;
-            plan_is = found.plan_is;
-            to_beat = found.to_beat;
-            searched = found.searched;
-            of_search = found.of_search;
-            no_greater = found.no_greater;
-            bounds = found.bounds;
-            ends = ended;
-            left_open = ((λ e. stopped_left c (sym ended ∙ e)), (λ some. ended ∙ left_stopped c some));
-            in_budget = found.in_budget;
-            spent = λ e. found.spent (stopped_left c (sym ended ∙ e));
-            exact = λ ne. bound_exact s.b (root_ranges s.b) c.loss c found.good (λ some. ne (ended ∙ left_stopped c some));
-            enough = λ depth depth_is enough e. no_open s.b c budget depth found.good found.spent depth_is enough (stopped_left c (sym ended ∙ e));
-            no_worse = found.no_worse;
-          }
+          } in (
+            record {
+              found = stores;
+              plan_is = found.plan_is;
+              bounds = found.bounds;
+              good = found.good;
+              right = is_accepted s.b p.1.plan c found.said found.plan_is found.good;
+              unasked = p.1.unasked;
+              readable = found.readable;
+              ends = ended;
+              left_open = ((λ e. stopped_left c (sym ended ∙ e)), (λ some. ended ∙ left_stopped c some));
+              in_budget = found.in_budget;
+              spent = λ e. found.spent (stopped_left c (sym ended ∙ e));
+              exact = λ ne. bound_exact s.b (root_ranges s.b) c.loss c found.good (λ some. ne (ended ∙ left_stopped c some));
+              enough = λ depth depth_is enough e. no_open s.b c budget depth found.good found.spent depth_is enough (stopped_left c (sym ended ∙ e));
+              no_worse = found.no_worse;
+            },
+            record {
+              found = stores;
+              to_beat = found.to_beat;
+              of_search = found.of_search;
+              searched = found.searched;
+              no_greater = found.no_greater;
+              improvements = p.1.improvements;
+            },
+          )
       | inr refused ↦ absurd (subst IsSearchEnd (is ∙ ap (λ (a : Answer). a.status) refused.1) end)
     ]
 
-pub search_ended : (words : List (List ℕ)) (line : Line) (held : Contents) (old new : World) (result : Status) (search : Verb) → IsSearch search → IsSearchEnd result → Ended words search line held old new result → StoresSearch line held old new result
+pub search_ended : (words : List (List ℕ)) (line : Line) (held : Contents) (old new : World) (result : Status) (search : Verb) → IsSearch search → IsSearchEnd result → Ended words search line held old new result →
+    StoresSearch line held old new result × HandlesEachBox line held old new
 search_ended words line held old new result search searches end e =
     let c = completes line old new result end (subst (λ (o : Option Line). RunsTo Answers o old new result) e.line_is e.runs) in
     stores_search line held old new c.answer result search searches e.verb_is end c.status_is (completed_says line held old new result e.told (accepts result end) c) c.stored c.prints

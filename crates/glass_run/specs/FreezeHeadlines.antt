@@ -22,14 +22,12 @@ use Rattle.plan_csv.specs.Solutions.{solution_text}
 use Rattle.cert_check.specs.declared.verdict.Why.{Why}
 use Rattle.cert_check.specs.Faults.{IsFirstFault, SaysWrong}
 use Rattle.glass_io.specs.Told.{SameContents}
-use Rattle.run_frame.specs.Answers.{Answer}
-use Rattle.run_checks.specs.Checks.{accepted as accepted_answer, bound_line, refused_line, root_ranges}
+use Rattle.run_checks.specs.Checks.{bound_line, refused_line, root_ranges}
 use Rattle.glass_run.specs.Commands.{cert_name, plan_name}
-use Rattle.run_search.specs.Freezes.{frozen_planned}
-use Rattle.run_checks.specs.FrozenChecks.{IsAcceptedBehind, VerifiesBehind, loss_behind, raised}
+use Rattle.run_checks.specs.FrozenChecks.{IsAcceptedBehind, loss_behind, raised}
 use Rattle.glass_run.specs.Headlines.{Accepts, FindsWrong, SaidBy}
 use Rattle.run_checks.specs.Said.{SayBoth}
-use Rattle.run_search.specs.Plans.{IsOfSearch, handled, search_summary}
+use Rattle.run_search.specs.Plans.{IsOfSearch, both_stores, handled, search_summary}
 use Rattle.run_frame.specs.Runs.{Prints, Stands, World}
 use Rattle.run_frame.specs.Texts.{Texts, limit_of, text_or_empty}
 use Rattle.run_frame.specs.declared.status.Status.{Status}
@@ -43,8 +41,9 @@ frozen_in line = lead_in line lead.Frozen
 abbrev pub whole_of : Line → Forest → Forest → Forest
 whole_of line plan tail = joined (first_plates (frozen_in line) plan) tail
 
--- the plan that PLAN says is lawful, and what a search found that plans anew what stands behind its first plates is stored and printed
-pub record StoresFreeze (line : Line) (held : Contents) (old new : World) (result : Status) : Type 0 where
+-- the plan that PLAN says is lawful and has more than these first plates; a search planned anew what stands behind them, and what it found is stored
+-- and printed: OUT holds the text of the whole plan, CERT that of the certificate, and the six lines on them are printed
+pub record StoresWhole (line : Line) (held : Contents) (old new : World) : Type 0 where
   pub texts : Texts
   pub b : Problem
   pub plan : Forest
@@ -56,9 +55,13 @@ pub record StoresFreeze (line : Line) (held : Contents) (old new : World) (resul
   pub lawful : IsLawful b plan
   pub fewer : frozen_in line < neighbour_count plan
   pub rest_is : IsRest b plan (frozen_in line) rest
-  -- OUT holds the text of the whole plan, CERT that of the certificate, and the six lines on them are printed
-  pub stored : Stands (frozen_planned b (plan_name line) (cert_name line) (frozen_loss b plan (frozen_in line)) certificate (whole_of line plan tail)).stores old.shelf.contents new.shelf.contents
+  pub stored : Stands (both_stores b (plan_name line) (cert_name line) certificate (Some (whole_of line plan tail))) old.shelf.contents new.shelf.contents
   pub prints : Prints (search_summary (raised (frozen_loss b plan (frozen_in line)) certificate) (Some (neighbour_count (whole_of line plan tail)))) old.paper new.paper
+
+-- and it is right
+pub record StoresFreeze (line : Line) (held : Contents) (old new : World) (result : Status) : Type 0 where
+  pub found : StoresWhole line held old new
+  pub open found use *
   -- the whole plan begins with the first plates, is lawful, has the printed loss, and loses no more than the plan that PLAN says
   pub begins : BeginsWith (frozen_in line) plan (whole_of line plan tail)
   pub whole_lawful : IsLawful b (whole_of line plan tail)
@@ -66,25 +69,33 @@ pub record StoresFreeze (line : Line) (held : Contents) (old new : World) (resul
   pub no_worse : loss_of b (whole_of line plan tail) ≤ loss_of b plan
   -- every lawful plan that begins with these plates loses at least the printed bound
   pub bounds : (other : Forest) → BeginsWith (frozen_in line) plan other → IsLawful b other → Reaches (option_map (λ n. frozen_loss b plan (frozen_in line) + n) certificate.bound) (loss_of b other)
-  -- the certificate is right for the box of all plans of the instance that is left; no box was split that is refuted, or whose bound reaches
-  -- what the plan that PLAN says loses behind the first plates
+  -- the certificate is right for the box of all plans of the instance that is left
   pub good : IsGood rest (root_ranges rest) certificate.loss certificate
-  -- `verify` of the two stored texts accepts them where as many plates are said to be cut already, with the printed bound and this number of open boxes
-  pub verified : (answer : Answer) → VerifiesBehind b (frozen_in line) (solution_text b (whole_of line plan tail)) (cert_text certificate) answer →
-      answer ≡ accepted_answer (raised (frozen_loss b plan (frozen_in line)) certificate)
+  -- the texts say it and the whole plan, behind whose first plates the same instance is left, and which lose the same: so `verify`, where as many plates
+  -- are said to be cut already, accepts them with the printed bound and this number of open boxes (`run_checks::laws`)
+  pub right : IsAcceptedBehind b (frozen_in line) (solution_text b (whole_of line plan tail)) (cert_text certificate) (whole_of line plan tail) rest certificate
+  pub same_loss : frozen_loss b (whole_of line plan tail) (frozen_in line) ≡ frozen_loss b plan (frozen_in line)
+  pub no_floor : certificate.floor ≡ 0
   -- the text of CERT is no longer than one that is read
   pub readable : length (cert_text certificate) ≤ limit_of role.Cert
-  pub to_beat : ℕ
-  pub searched : IsSearched rest to_beat (root_ranges rest) certificate
-  -- each box was handled once or is left open: the certificate is that of a lawful history of a search of all plans of that instance
-  pub of_search : IsOfSearch rest to_beat (count_in line count.Budget) certificate
-  pub no_greater : to_beat ≤ loss_of rest (later_plates (frozen_in line) plan)
   -- `stopped` is printed exactly where a box is left open, and then as many boxes were closed or split as the budget says; else `optimal`, and
   -- the bound is the loss
   pub left_open : result ≡ status.Stopped ↔ (0 < certificate.left)
   pub in_budget : handled certificate ≤ count_in line count.Budget
   pub spent : result ≡ status.Stopped → handled certificate ≡ count_in line count.Budget
   pub exact : result ≢ status.Stopped → (result ≡ status.Optimal) × (certificate.bound ≡ certificate.loss)
+
+-- and each box was handled once or is left open
+pub record HandlesEachBoxBehind (line : Line) (held : Contents) (old new : World) : Type 0 where
+  pub found : StoresWhole line held old new
+  pub open found use *
+  -- the certificate is that of a lawful history of a search of all plans of the instance that is left
+  pub to_beat : ℕ
+  pub of_search : IsOfSearch rest to_beat (count_in line count.Budget) certificate
+  -- no box was split that is refuted, or whose bound reaches what was to be beaten, which is no more than the plan that PLAN says loses behind the first
+  -- plates
+  pub searched : IsSearched rest to_beat (root_ranges rest) certificate
+  pub no_greater : to_beat ≤ loss_of rest (later_plates (frozen_in line) plan)
 
 -- the plan that PLAN says is lawful and has more than these first plates, and CERT says a certificate that is right for the instance that is left
 -- behind them, and for what the plan loses there; so every lawful plan that begins with these plates loses at least its bound and what they lose,

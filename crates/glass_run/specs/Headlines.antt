@@ -1,5 +1,5 @@
 -- What a user may conclude from how a run ended.
-use Rattle.std.specs.Prelude.{◌≡◌, ◌≢◌, ◌↔◌, ◌⊎◌, ◌+◌, ◌-◌, ◌^◌, ◌<◌, ◌≤◌, ℕ, List, length, Option, Some, None, Ok, option_map, codes, false}
+use Rattle.std.specs.Prelude.{◌≡◌, ◌≢◌, ◌↔◌, ◌+◌, ◌-◌, ◌^◌, ◌<◌, ◌≤◌, ℕ, List, length, Option, Some, Ok, option_map, codes, false}
 use Rattle.glass_base.specs.Problem.{Problem}
 use Rattle.glass_base.specs.declared.role.Role.TheVariants as role
 use Rattle.glass_io.specs.Told.{Contents, SameContents, Stored}
@@ -14,22 +14,19 @@ use Rattle.cert_log.specs.Good.{IsGood, Reaches}
 use Rattle.cert_log.specs.Lawful.{no_loss}
 use Rattle.cert_log.specs.Splits.{IsSearched}
 use Rattle.cert_log.specs.Texts.{cert_text}
-use Rattle.cert_check.specs.declared.verdict.Verdict.{Verdict}
 use Rattle.cert_check.specs.declared.verdict.Why.{Why}
-use Rattle.cert_check.specs.Faults.{Answers as CheckAnswers, IsFirstFault, SaysWrong}
+use Rattle.cert_check.specs.Faults.{IsFirstFault, SaysWrong}
 use Rattle.plan_draft.specs.Drafts.{HasNoDraft, IsDraftPlan}
 use Rattle.plan_csv.specs.PlanTexts.{plan_said}
 use Rattle.plan_csv.specs.Solutions.{solution_text}
-use Rattle.run_frame.specs.Answers.{Answer}
-use Rattle.run_checks.specs.Checks.{IsConverted, IsLawfulToo, NotShown, Verifies, accepted as accepted_answer, bound_line, loss_in, refused_line, root_ranges}
+use Rattle.run_checks.specs.Checks.{IsAccepted, IsConverted, IsLawfulToo, bound_line, loss_in, refused_line, root_ranges}
 use Rattle.glass_run.specs.Commands.{Answers, HasInstance, cert_name, plan_name}
 use Rattle.run_plans.specs.Drafts.{no_draft_line, summary}
 use Rattle.command_line.specs.Grammar.{Line, count_in, files_of, flag_in, line_of}
 use Rattle.run_plans.specs.Judgements.{IsFirstBroken, lawful_line, unlawful_line}
-use Rattle.run_search.specs.Plans.{AreReadable, HasLoss, IsOfSearch, ending, handled, planned, search_lines, search_summary, AreTold}
-use Rattle.run_search.specs.Resumptions.{IsResumed}
+use Rattle.run_search.specs.Plans.{AreReadable, AreTold, HasLoss, IsOfSearch, both_stores, ending, handled, search_lines, search_summary}
+use Rattle.run_search.specs.Resumptions.{IsResumed, ResumesEachBox}
 use Rattle.run_frame.specs.Runs.{Prints, RunsTo, Stands, World}
-use Rattle.run_checks.specs.RightTexts.{MissesFloor}
 use Rattle.run_checks.specs.Said.{SayBoth}
 use Rattle.run_frame.specs.Texts.{Texts, limit_of, text_for, text_or_empty, texts_of}
 use Rattle.command_line.specs.declared.grammar.Count.TheVariants as count
@@ -125,45 +122,33 @@ IsSearchEnd status.Stopped = Unit {0}
 IsSearchEnd status.Infeasible = Unit {0}
 IsSearchEnd _ = ⊥
 
--- a check of the certificate accepts it, and so does `verify` of the two texts, if there is a plan, and else of the certificate alone
-pub record IsAcceptedAgain (b : Problem) (plan : Option Forest) (certificate : Certificate) : Type 0 where
-  pub checked : (verdict : Verdict) → CheckAnswers b (root_ranges b) certificate.loss certificate verdict → verdict ≡ Verdict.Accept certificate.bound certificate.left
-  pub verified : (answer : Answer) → Verifies b (option_map (solution_text b) plan) (cert_text certificate) answer → answer ≡ accepted_answer certificate
-
--- what a search found is stored and printed
-pub record StoresSearch (line : Line) (held : Contents) (old new : World) (result : Status) : Type 0 where
+-- what a search found is stored and printed: OUT holds the text of the plan, if there is one, CERT that of the certificate; the six lines on them are
+-- printed, and with `--watch` the improvements
+pub record StoresFound (line : Line) (held : Contents) (old new : World) : Type 0 where
   pub texts : Texts
   pub b : Problem
   pub plan : Option Forest
   pub certificate : Certificate
   pub told : Option (List ℕ)
   pub reads : SaidBy line held texts b
-  -- OUT holds the text of the plan, if there is one; CERT that of the certificate, which is right for the box of all plans; the six
-  -- lines on them are printed, and with `--watch` the improvements
-  pub stored : Stands (planned b (plan_name line) (cert_name line) certificate plan told).stores old.shelf.contents new.shelf.contents
+  pub stored : Stands (both_stores b (plan_name line) (cert_name line) certificate plan) old.shelf.contents new.shelf.contents
   pub prints : Prints (search_lines certificate (option_map neighbour_count plan) told) old.paper new.paper
-  pub good : IsGood b (root_ranges b) certificate.loss certificate
-  -- a check of it accepts it, and `verify` of the two texts, if there is a plan, and else of the certificate alone, accepts them, and prints this bound and
-  -- this number of open boxes; with `--fronts` they may not show its floor again: never where that is 0, as without `--fronts`
-  pub accepted : (verdict : Verdict) → CheckAnswers b (root_ranges b) certificate.loss certificate verdict → (verdict ≡ Verdict.Accept certificate.bound certificate.left) ⊎ MissesFloor certificate verdict
-  pub verified : (answer : Answer) → Verifies b (option_map (solution_text b) plan) (cert_text certificate) answer → (answer ≡ accepted_answer certificate) ⊎ NotShown certificate answer
-  pub unasked : flag_in line flag.Fronts ≡ false → (certificate.floor ≡ 0) × IsAcceptedAgain b plan certificate
-  -- both texts are no longer than those that are read
-  pub readable : AreReadable (option_map (solution_text b) plan) (cert_text certificate)
+
+-- and it is right
+pub record StoresSearch (line : Line) (held : Contents) (old new : World) (result : Status) : Type 0 where
+  pub found : StoresFound line held old new
+  pub open found use *
   -- a printed plan is lawful and has the printed loss
   pub plan_is : HasLoss b certificate.loss plan
-  -- no box was split that is refuted, or whose bound reaches the loss that was to be beaten: that of the plan from which the search went on,
-  -- which is no greater than the draft's, where there is a draft
-  pub to_beat : ℕ
-  pub searched : IsSearched b to_beat (root_ranges b) certificate
-  -- each box was handled once or is left open: the certificate is that of a lawful history of a search of all plans
-  pub of_search : IsOfSearch b to_beat (count_in line count.Budget) certificate
-  pub no_greater : (draft : Forest) → IsDraftPlan b draft → (to_beat ≤ loss_of b draft) × (to_beat < no_loss)
-  -- each printed improvement is the loss of a lawful plan and less than those before it; the first one is the loss that was to be beaten, where
-  -- there was one, and the last one is the printed loss
-  pub improvements : AreTold b to_beat certificate.loss (flag_in line flag.Watch) told
   -- every lawful plan loses at least the printed bound; where none is printed, there is no lawful plan
   pub bounds : (other : Forest) → IsLawful b other → Reaches certificate.bound (loss_of b other)
+  -- the certificate is right for the box of all plans and for the printed loss; the texts say it and the plan, so that `verify` accepts them with this
+  -- bound and this number of open boxes (`run_checks::laws`), or does not show the floor: never where that is 0, as without `--fronts`
+  pub good : IsGood b (root_ranges b) certificate.loss certificate
+  pub right : IsAccepted b (option_map (solution_text b) plan) (cert_text certificate) plan certificate
+  pub unasked : flag_in line flag.Fronts ≡ false → certificate.floor ≡ 0
+  -- both texts are no longer than those that are read
+  pub readable : AreReadable (option_map (solution_text b) plan) (cert_text certificate)
   -- the status says whether a box is left open, and else whether there is a plan
   pub ends : result ≡ ending certificate
   -- `stopped` is printed exactly where a box is left open, and then as many boxes were closed or split as the budget says; else the
@@ -176,6 +161,21 @@ pub record StoresSearch (line : Line) (held : Contents) (old new : World) (resul
   pub enough : (depth : ℕ) → IsDepth (frame_of b) depth → 2 ^ (depth + 1) - 1 ≤ count_in line count.Budget → result ≢ status.Stopped
   -- never worse than the draft
   pub no_worse : (draft : Forest) → IsDraftPlan b draft → Reaches certificate.loss (loss_of b draft)
+
+-- and each box was handled once or is left open
+pub record HandlesEachBox (line : Line) (held : Contents) (old new : World) : Type 0 where
+  pub found : StoresFound line held old new
+  pub open found use *
+  -- the certificate is that of a lawful history of a search of all plans
+  pub to_beat : ℕ
+  pub of_search : IsOfSearch b to_beat (count_in line count.Budget) certificate
+  -- no box was split that is refuted, or whose bound reaches the loss that was to be beaten: that of the plan from which the search went on,
+  -- which is no greater than the draft's, where there is a draft
+  pub searched : IsSearched b to_beat (root_ranges b) certificate
+  pub no_greater : (draft : Forest) → IsDraftPlan b draft → (to_beat ≤ loss_of b draft) × (to_beat < no_loss)
+  -- each printed improvement is the loss of a lawful plan and less than those before it; the first one is the loss that was to be beaten, where
+  -- there was one, and the last one is the printed loss
+  pub improvements : AreTold b to_beat certificate.loss (flag_in line flag.Watch) told
 
 -- the plan that PLAN says is lawful, if there is one, and CERT says a certificate that is right for the box of all plans and for this plan's
 -- loss; so every lawful plan loses at least its bound, and where it has none, there is no lawful plan
@@ -208,23 +208,27 @@ pub record StoresConverted (line : Line) (held : Contents) (old new : World) : T
   pub stored : Stored (cert_name line) (cert_text converted) old.shelf.contents new.shelf.contents
   pub prints : Prints (bound_line (codes "converted") converted) old.paper new.paper
 
--- it is so, and a search of the boxes that CERT leaves open went on; what it made of both is stored and printed
-pub record StoresResumed (line : Line) (held : Contents) (old new : World) (result : Status) : Type 0 where
+-- it is so, and a search of the boxes that CERT leaves open went on; what it made of both, a joined certificate and the best plan, is stored and
+-- printed: OUT holds the text of the plan, if there is one, NEW that of the certificate; the six lines on them are printed
+pub record StoresJoined (line : Line) (held : Contents) (old new : World) : Type 0 where
   pub texts : Texts
   pub b : Problem
   pub certificate : Certificate
   pub right : FindsRight line held texts b certificate
-  -- a joined certificate and the best plan, which loses no more than that of PLAN
   pub joined : Certificate
   pub plan : Option Forest
-  pub resumed : IsResumed b (count_in line count.Budget) right.plan certificate joined plan
-  -- OUT holds the text of the plan, if there is one; NEW that of the certificate; the six lines on them are printed
-  pub stored : Stands (planned b (plan_name line) (cert_name line) joined plan None).stores old.shelf.contents new.shelf.contents
+  pub stored : Stands (both_stores b (plan_name line) (cert_name line) joined plan) old.shelf.contents new.shelf.contents
   pub prints : Prints (search_summary joined (option_map neighbour_count plan)) old.paper new.paper
-  -- a check of it accepts it, and `verify` of the two texts, or of the certificate alone, accepts them with this bound and this number of open boxes;
-  -- or they do not show the floor of CERT again: never where that is 0, as before version 3
-  pub accepted : (verdict : Verdict) → CheckAnswers b (root_ranges b) joined.loss joined verdict → (verdict ≡ Verdict.Accept joined.bound joined.left) ⊎ MissesFloor joined verdict
-  pub verified : (answer : Answer) → Verifies b (option_map (solution_text b) plan) (cert_text joined) answer → (answer ≡ accepted_answer joined) ⊎ NotShown joined answer
+
+-- and it is right
+pub record StoresResumed (line : Line) (held : Contents) (old new : World) (result : Status) : Type 0 where
+  pub found : StoresJoined line held old new
+  pub open found use *
+  -- the plan loses no more than that of PLAN
+  pub resumed : IsResumed b (count_in line count.Budget) right.plan certificate joined plan
+  -- the texts say the certificate and the plan, so that `verify` accepts them with this bound and this number of open boxes (`run_checks::laws`), or
+  -- does not show the floor of CERT again: never where that is 0, as before version 3
+  pub accepted : IsAccepted b (option_map (solution_text b) plan) (cert_text joined) plan joined
   -- the text of NEW is no longer than one that is read
   pub readable : length (cert_text joined) ≤ limit_of role.Cert
   -- the status says whether a box is left open, and else whether there is a plan
@@ -233,6 +237,12 @@ pub record StoresResumed (line : Line) (held : Contents) (old new : World) (resu
   pub left_open : result ≡ status.Stopped ↔ (0 < joined.left)
   pub spent : result ≡ status.Stopped → handled joined ≡ handled certificate + count_in line count.Budget
   pub exact : result ≢ status.Stopped → joined.bound ≡ joined.loss
+
+-- and each box that CERT leaves open, and each of its parts, was handled once or is left open
+pub record HandlesOpenBoxes (line : Line) (held : Contents) (old new : World) : Type 0 where
+  pub found : StoresJoined line held old new
+  pub open found use *
+  pub resumed : ResumesEachBox b (count_in line count.Budget) right.plan certificate joined plan
 
 -- the plan that PLAN says is lawful, if there is one, and the certificate that CERT says is not right for the box of all plans and for this
 -- plan's loss, or its floor is not shown; the first check that it fails is printed

@@ -44,7 +44,9 @@ fn reply_at_once(
 ) -> Result<Reply, Memory>
     requires at_once { Searches (line_in line.now).verb → ⊥ }
     requires known { IsCommand (line_in line.now).verb }
-    ensures { let said = line_in line.now in IfOk result (λ r. AnswersInstance said.verb said (texts_in texts.now) instance.now (answer_in (stored_as said) r)) }
+    ensures { let said = line_in line.now in IfOk result
+        (λ r. AnswersInstance said.verb said (texts_in texts.now) instance.now
+        (answer_in (stored_as said) r)) }
 {
     match line.verb {
         Verb::Draft => draft_instance(alloc, instance),
@@ -91,7 +93,9 @@ fn flaws(verb: Verb, texts: &[Text]) -> Option<&[u8]>
 
 /// The instance that the numbers of a line give.
 fn drawn_instance(alloc: Global, line: &CommandLine<'_>) -> Result<Instance, Memory>
-    ensures { let said = line_in line.now in IfOk result (λ instance. IsDrawn instance (lead_in said Lead.Start) (lead_in said Lead.Items) (lead_in said Lead.Defects)) }
+    ensures { let said = line_in line.now in IfOk result
+        (λ instance. IsDrawn instance (lead_in said Lead.Start) (lead_in said Lead.Items)
+        (lead_in said Lead.Defects)) }
 {
     let start = line.lead(Lead::Start);
     let items = line.lead(Lead::Items);
@@ -101,7 +105,9 @@ fn drawn_instance(alloc: Global, line: &CommandLine<'_>) -> Result<Instance, Mem
 
 /// The instance of a line: the one that its texts say, or the one that its numbers give.
 fn instance_for(alloc: Global, line: &CommandLine<'_>, texts: &[Text]) -> Result<Instance, Stop>
-    ensures { let said = line_in line.now in MatchResult result (HasInstance said.verb said (texts_in texts.now)) (OnTold (HasNoInstance said.verb (texts_in texts.now))) }
+    ensures { let said = line_in line.now in MatchResult result
+        (HasInstance said.verb said (texts_in texts.now))
+        (OnTold (HasNoInstance said.verb (texts_in texts.now))) }
 {
     match line.verb {
         Verb::Gen => Ok(drawn_instance(alloc, line)?),
@@ -125,7 +131,8 @@ pub(crate) fn asked_of_texts(
     texts: Run<Text>,
 ) -> Result<Asked, Memory>
     requires { IsCommand (line_in line.now).verb }
-    ensures asked { let said = line_in line.now in IfOk result (IsAsked said (texts_in texts.items)) }
+    ensures asked { let said = line_in line.now in
+        IfOk result (IsAsked said (texts_in texts.items)) }
     ensures searches { IfOk result (MaySearch (line_in line.now)) }
 {
     let instance = match instance_for(alloc, line, texts.as_slice()) {

@@ -32,8 +32,12 @@ pub fn exit_code<R: Threads + Wait + Sync, F: Files, S: Sink, G: Gate + Sync>(
     out: &mut S,
     gate: &G,
 ) -> u8
-    ensures given { IfOk words (λ given. Exits Answers (line_of (map string_bytes given.items)) (world (F.shelf files.old) (S.paper out.old)) (world (F.shelf files.new) (S.paper out.new)) result) }
-    ensures wrong { IfErr words (λ _. Exits Answers (line_of []) (world (F.shelf files.old) (S.paper out.old)) (world (F.shelf files.new) (S.paper out.new)) result) }
+    ensures given { IfOk words (λ given. Exits Answers (line_of (map string_bytes given.items))
+        (world (F.shelf files.old) (S.paper out.old))
+        (world (F.shelf files.new) (S.paper out.new)) result) }
+    ensures wrong { IfErr words (λ _. Exits Answers (line_of [])
+        (world (F.shelf files.old) (S.paper out.old))
+        (world (F.shelf files.new) (S.paper out.new)) result) }
 {
     let status = match words_taken(&words) {
         Some(words) => glass(rt, alloc, words, files, out, gate),
@@ -56,7 +60,8 @@ fn budget(words: &io::Result<Vec<String>>) -> u32 {
 pub fn run_program<
     R: Env + Print + Eprint + Clock + rt::Files + AllocGlobal + Threads + Wait + Sync,
 >(rt: &R, terminal: bool) -> u8
-    ensures { (words : List (List ℕ)) × (old : World) × (new : World) × Exits Answers (line_of words) old new result }
+    ensures { (words : List (List ℕ)) × (old : World) × (new : World)
+        × Exits Answers (line_of words) old new result }
 {
     let alloc = rt.alloc();
     let mut files = StdFiles::new(rt, alloc);

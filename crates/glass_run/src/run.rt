@@ -36,7 +36,9 @@ fn reply_by_search<R: Threads + Wait + Sync, G: Gate + Sync>(
     gate: &G,
 ) -> Result<Reply, Memory>
     requires { Searches (line_in line.now).verb }
-    ensures { let said = line_in line.now in IfOk result (λ r. AnswersInstance said.verb said (texts_in texts.now) instance.now (answer_in (stored_as said) r)) }
+    ensures { let said = line_in line.now in IfOk result
+        (λ r. AnswersInstance said.verb said (texts_in texts.now) instance.now
+        (answer_in (stored_as said) r)) }
 {
     let (workers, budget) = (line.count(Count::Workers), line.count(Count::Budget));
     let workforce = Workforce {
@@ -82,9 +84,12 @@ fn asked_of_files<F: Files>(
 ) -> Result<Asked, NoReply>
     requires { IsCommand (line_in line.now).verb }
     ensures same { SameContents (F.shelf files.old).contents (F.shelf files.new).contents }
-    ensures asked { IfOk result (λ asked. IfSome (F.shelf files.old).contents (λ contents. IsAskedOf contents (line_in line.now) asked)) }
+    ensures asked { IfOk result (λ asked. IfSome (F.shelf files.old).contents
+        (λ contents. IsAskedOf contents (line_in line.now) asked)) }
     ensures searches { IfOk result (MaySearch (line_in line.now)) }
-    ensures reached { IfErr result (OnFault (λ of. IfSome (F.shelf files.old).contents (λ contents. Reaches contents of (files_of (line_in line.now))))) }
+    ensures reached { IfErr result (OnFault (λ of.
+        IfSome (F.shelf files.old).contents
+        (λ contents. Reaches contents of (files_of (line_in line.now))))) }
     ensures faults { CountsFetches (F.shelf files.old) (F.shelf files.new) result }
     ensures keeps { F.reliable files.old → F.reliable files.new × IfErr result (OnFault (λ _. ⊥)) }
 {
@@ -103,7 +108,8 @@ fn reply_to_asked<R: Threads + Wait + Sync, G: Gate + Sync>(
     gate: &G,
 ) -> Result<Reply, Memory>
     requires { MaySearch (line_in line.now) asked }
-    ensures { let said = line_in line.now in IfOk result (λ r. (contents : Contents) → IsAskedOf contents said asked → Answers contents said (answer_in (stored_as said) r)) }
+    ensures { let said = line_in line.now in IfOk result (λ r. (contents : Contents)
+        → IsAskedOf contents said asked → Answers contents said (answer_in (stored_as said) r)) }
 {
     match asked {
         Asked::Reply(reply) => Ok(reply),
@@ -123,8 +129,12 @@ fn reply_of<R: Threads + Wait + Sync, F: Files, G: Gate + Sync>(
 ) -> Result<Reply, NoReply>
     requires { IsCommand (line_in line.now).verb }
     ensures same { SameContents (F.shelf files.old).contents (F.shelf files.new).contents }
-    ensures reply { IfOk result (λ r. IfSome (F.shelf files.old).contents (λ contents. Answers contents (line_in line.now) (answer_in (stored_as (line_in line.now)) r))) }
-    ensures reached { IfErr result (OnFault (λ of. IfSome (F.shelf files.old).contents (λ contents. Reaches contents of (files_of (line_in line.now))))) }
+    ensures reply { IfOk result (λ r. IfSome (F.shelf files.old).contents
+        (λ contents. Answers contents (line_in line.now)
+        (answer_in (stored_as (line_in line.now)) r))) }
+    ensures reached { IfErr result (OnFault (λ of.
+        IfSome (F.shelf files.old).contents
+        (λ contents. Reaches contents of (files_of (line_in line.now))))) }
     ensures faults { CountsFetches (F.shelf files.old) (F.shelf files.new) result }
     ensures keeps { F.reliable files.old → F.reliable files.new × IfErr result (OnFault (λ _. ⊥)) }
 {
@@ -142,8 +152,11 @@ fn run_line<R: Threads + Wait + Sync, F: Files, S: Sink, G: Gate + Sync>(
     gate: &G,
 ) -> Status
     requires command { IfSome line (λ line. IsCommand (line_in line).verb) }
-    ensures runs { RunsTo Answers (option_map line_in line.entry) (world (F.shelf files.old) (S.paper out.old)) (world (F.shelf files.new) (S.paper out.new)) result }
-    ensures no_fault { F.reliable files.old → S.reliable out.old → (result ≢ Status.ReadFault) × (result ≢ Status.WriteFault) }
+    ensures runs { RunsTo Answers (option_map line_in line.entry)
+        (world (F.shelf files.old) (S.paper out.old))
+        (world (F.shelf files.new) (S.paper out.new)) result }
+    ensures no_fault { F.reliable files.old → S.reliable out.old → (result ≢ Status.ReadFault)
+        × (result ≢ Status.WriteFault) }
 {
     match line {
         None => print(out, USAGE_LINE, Status::Usage),
@@ -179,10 +192,13 @@ pub fn glass<R: Threads + Wait + Sync, F: Files, S: Sink, G: Gate + Sync>(
     gate: &G,
 ) -> Status
     // what is stored, printed and counted, by the status
-    ensures runs { RunsTo Answers (line_of (map string_bytes words.now)) (world (F.shelf files.old) (S.paper out.old)) (world (F.shelf files.new) (S.paper out.new)) result }
+    ensures runs { RunsTo Answers (line_of (map string_bytes words.now))
+        (world (F.shelf files.old) (S.paper out.old))
+        (world (F.shelf files.new) (S.paper out.new)) result }
 
     // where nothing fails there is no fault
-    ensures no_fault { F.reliable files.old → S.reliable out.old → (result ≢ Status.ReadFault) × (result ≢ Status.WriteFault) }
+    ensures no_fault { F.reliable files.old → S.reliable out.old → (result ≢ Status.ReadFault)
+        × (result ≢ Status.WriteFault) }
 {
     run_line(rt, alloc, line_named(words), files, out, gate)
 }

@@ -1,6 +1,7 @@
 //! What the program tells on standard error: the commands, where words are none, and how far a long search is.
 
 use box_workers::{Gate, PatientGate};
+use cert_log::NO_LOSS;
 use std::io::Eprint;
 use std::sync::atomic::{AtomicU64, Ordering};
 use std::time::{Clock, Instant};
@@ -68,7 +69,7 @@ impl<'a, R: Clock> TellingGate<'a, R> {
             begun,
             budget,
             boxes: AtomicU64::new(0),
-            loss: AtomicU64::new(u64::MAX),
+            loss: AtomicU64::new(NO_LOSS),
             due: AtomicU64::new(SECONDS_BETWEEN_LINES),
         }
     }
@@ -79,7 +80,7 @@ impl<'a, R: Clock + Eprint> TellingGate<'a, R> {
     fn tell(&self, boxes: u64) {
         let budget = self.budget;
         let _told = match self.loss.load(Ordering::Relaxed) {
-            u64::MAX => eprintln!(self.rt; "{boxes} of {budget} boxes, no plan yet"),
+            NO_LOSS => eprintln!(self.rt; "{boxes} of {budget} boxes, no plan yet"),
             loss => eprintln!(self.rt; "{boxes} of {budget} boxes, best loss {loss}"),
         };
     }

@@ -4,4 +4,4 @@ pub mod Conserved
 pub mod Plates
 pub mod Served
 pub mod Balance
-mod TraceEnds
+pub mod TraceEnds

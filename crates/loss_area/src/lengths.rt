@@ -1,24 +1,40 @@
 //! How much glass a trace takes.
 
-ghost use Rattle.std.specs.Prelude.{◌≡◌, ◌≤◌, ◌==◌, count_by, length as length_of_list};
-ghost use Rattle.cut_model.specs.Steps.{KeepsKinds, last_right as last_right_of, length_of};
+ghost use Rattle.std.specs.Prelude.{◌≡◌, ◌≤◌, length as length_of_list};
+ghost use Rattle.cut_model.specs.Steps.{KeepsKinds, last_right as last_right_of, length_of, plates_begun as plates_begun_of};
 
 use cut_model::{Step, Trace};
 use glass_base::Instance;
 
 /// The number of plates that these steps begin.
+#[tactic(auto, using(crate::proofs::TraceEnds::begun_count))]
 fn plates_begun(steps: &[Step]) -> usize
-    ensures { result ≡ count_by (λ step. step.kind == 0) steps.now }
+    ensures { result ≡ plates_begun_of steps.now }
 {
     steps.iter().filter(|step| step.kind == 0).count()
 }
 
-/// The right side of the last step's strip.
+/// The right side of the last step's strip, in mm.
 fn last_right(steps: &[Step]) -> u32
-    requires { 1 ≤ length_of_list steps.now }
     ensures { result ≡ last_right_of steps.now }
 {
-    steps[steps.len() - 1].b
+    match steps.split_last() {
+        Some((last, _before)) => last.b,
+        None => 0,
+    }
+}
+
+/// How far steps reach, in mm: the widths of the plates before the last one that they begin, and the right side of their last
+/// strip. It takes no memory.
+///
+/// The steps need not keep any rule, nor be for this instance's items; there are widths of a thousand plates.
+pub fn reach(instance: &Instance, steps: &[Step]) -> u64
+    requires { plates_begun_of steps.now ≤ 1001 }
+    ensures value { result ≡ length_of instance.now steps.now }
+    ensures small { result ≤ 5000000000 }
+{
+    let plates = plates_begun(steps) as u32;
+    instance.before(plates.saturating_sub(1)) + u64::from(last_right(steps))
 }
 
 /// The length of a trace, in mm: the widths of the plates before its last one, and the right side of its last strip. It takes no
@@ -30,7 +46,5 @@ pub fn length(instance: &Instance, trace: &Trace) -> u64
     requires kinds { KeepsKinds instance.now.params trace.now.steps.items }
     ensures { result ≡ length_of instance.now trace.now.steps.items }
 {
-    let steps = trace.steps.as_slice();
-    let plates = plates_begun(steps) as u32;
-    instance.before(plates - 1) + u64::from(last_right(steps))
+    reach(instance, trace.steps.as_slice())
 }

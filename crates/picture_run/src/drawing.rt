@@ -30,7 +30,8 @@ fn verdict_line(alloc: Global, verdict: &Verdict) -> Result<String, Memory>
 /// The reply that stores the picture of a plan, and tells its loss or its first breach.
 fn draw_plan(alloc: Global, instance: &Instance, plan: &Plan) -> Result<Reply, Memory>
     requires { Fits (tree plan.now) }
-    ensures { IfOk result (λ r. (name : Product → List ℕ) → Draws instance.now (name Product.Picture) (tree plan.now) (answer_in name r)) }
+    ensures { IfOk result (λ r. (name : Product → List ℕ)
+        → Draws instance.now (name Product.Picture) (tree plan.now) (answer_in name r)) }
 {
     let verdict = verdict_on(alloc, instance, plan)?;
     let lines = verdict_line(alloc, &verdict)?;
@@ -44,7 +45,8 @@ fn draw_plan(alloc: Global, instance: &Instance, plan: &Plan) -> Result<Reply, M
 
 /// The reply to the text of a plan of this instance: its picture is stored, whether it is lawful or not.
 pub(crate) fn draw_text(alloc: Global, instance: &Instance, bytes: &[u8]) -> Result<Reply, Memory>
-    ensures { IfOk result (λ r. (name : Product → List ℕ) → DrawsText instance.now (name Product.Picture) bytes.now (answer_in name r)) }
+    ensures { IfOk result (λ r. (name : Product → List ℕ)
+        → DrawsText instance.now (name Product.Picture) bytes.now (answer_in name r)) }
 {
     match read_plan(alloc, instance, bytes) {
         Ok(plan) => draw_plan(alloc, instance, &plan),

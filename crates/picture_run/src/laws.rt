@@ -11,5 +11,6 @@ ghost use Rattle.picture_run.specs.PictureHeadlines.{PictureEnded, StoresPicture
 /// as before: each row of the plan has exactly one rectangle in it, in the row's place and of its size. What is printed is the plan's loss
 /// where it is lawful, and else its first breach.
 pub fn done_pictures_are_true()
-    ensures { (words : List (List ℕ)) → (line : Line) → (held : Contents) → (old new : World) → PictureEnded words line held old new status.Done → StoresPicture line held old new }
+    ensures { (words : List (List ℕ)) → (line : Line) → (held : Contents) → (old new : World)
+        → PictureEnded words line held old new status.Done → StoresPicture line held old new }
 {}

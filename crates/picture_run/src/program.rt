@@ -24,8 +24,13 @@ pub fn exit_code<F: Files, S: Sink>(
     files: &mut F,
     out: &mut S,
 ) -> u8
-    ensures given { IfOk words (λ given. Exits Answers (picture_line_of (map string_bytes given.items)) (world (F.shelf files.old) (S.paper out.old)) (world (F.shelf files.new) (S.paper out.new)) result) }
-    ensures wrong { IfErr words (λ _. Exits Answers (picture_line_of []) (world (F.shelf files.old) (S.paper out.old)) (world (F.shelf files.new) (S.paper out.new)) result) }
+    ensures given { IfOk words (λ given. Exits Answers
+        (picture_line_of (map string_bytes given.items))
+        (world (F.shelf files.old) (S.paper out.old))
+        (world (F.shelf files.new) (S.paper out.new)) result) }
+    ensures wrong { IfErr words (λ _. Exits Answers (picture_line_of [])
+        (world (F.shelf files.old) (S.paper out.old))
+        (world (F.shelf files.new) (S.paper out.new)) result) }
 {
     let ended = match words_taken(&words) {
         Some(words) => glass_picture(alloc, words, files, out),
@@ -40,7 +45,8 @@ const USAGE: &str = "usage: glass-picture BATCH DEFECTS PLAN OUT [--params=FILE]
 /// Runs the words of the program that draws over the files of the system and standard output, and gives the code that the program ends with.
 /// Where the words are none it tells on standard error which it takes.
 pub fn run_picture<R: Env + Print + Eprint + rt::Files + AllocGlobal>(rt: &R) -> u8
-    ensures { (words : List (List ℕ)) × (old : World) × (new : World) × Exits Answers (picture_line_of words) old new result }
+    ensures { (words : List (List ℕ)) × (old : World) × (new : World)
+        × Exits Answers (picture_line_of words) old new result }
 {
     let alloc = rt.alloc();
     let mut files = StdFiles::new(rt, alloc);

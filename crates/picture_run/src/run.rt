@@ -24,7 +24,8 @@ use std::alloc::Global;
 
 /// The reply to the texts of the files: to the plan of the instance that they say, or to the first text that is refused.
 fn reply_to_texts(alloc: Global, texts: &[Text]) -> Result<Reply, Memory>
-    ensures { IfOk result (λ r. (name : Product → List ℕ) → DrawsTexts (name Product.Picture) (texts_in texts.now) (answer_in name r)) }
+    ensures { IfOk result (λ r. (name : Product → List ℕ)
+        → DrawsTexts (name Product.Picture) (texts_in texts.now) (answer_in name r)) }
 {
     match instance_of(alloc, texts, text_of_role(texts, Role::Defects)) {
         Ok(instance) => draw_text(alloc, &instance, text_or_empty(texts, Role::Plan)),
@@ -39,8 +40,12 @@ fn reply_of<F: Files>(
     line: &CommandLine<'_>,
 ) -> Result<Reply, NoReply>
     ensures same { SameContents (F.shelf files.old).contents (F.shelf files.new).contents }
-    ensures reply { IfOk result (λ r. IfSome (F.shelf files.old).contents (λ contents. Answers contents (line_in line.now) (answer_in (stored_as (line_in line.now)) r))) }
-    ensures reached { IfErr result (OnFault (λ of. IfSome (F.shelf files.old).contents (λ contents. Reaches contents of (files_of (line_in line.now))))) }
+    ensures reply { IfOk result (λ r. IfSome (F.shelf files.old).contents
+        (λ contents. Answers contents (line_in line.now)
+        (answer_in (stored_as (line_in line.now)) r))) }
+    ensures reached { IfErr result (OnFault (λ of.
+        IfSome (F.shelf files.old).contents
+        (λ contents. Reaches contents of (files_of (line_in line.now))))) }
     ensures faults { CountsFetches (F.shelf files.old) (F.shelf files.new) result }
     ensures keeps { F.reliable files.old → F.reliable files.new × IfErr result (OnFault (λ _. ⊥)) }
 {
@@ -60,8 +65,11 @@ fn run_line<F: Files, S: Sink>(
     files: &mut F,
     out: &mut S,
 ) -> Status
-    ensures runs { RunsTo Answers (option_map line_in line.entry) (world (F.shelf files.old) (S.paper out.old)) (world (F.shelf files.new) (S.paper out.new)) result }
-    ensures no_fault { F.reliable files.old → S.reliable out.old → (result ≢ Status.ReadFault) × (result ≢ Status.WriteFault) }
+    ensures runs { RunsTo Answers (option_map line_in line.entry)
+        (world (F.shelf files.old) (S.paper out.old))
+        (world (F.shelf files.new) (S.paper out.new)) result }
+    ensures no_fault { F.reliable files.old → S.reliable out.old → (result ≢ Status.ReadFault)
+        × (result ≢ Status.WriteFault) }
 {
     match line {
         None => print(out, USAGE_LINE, Status::Usage),
@@ -87,10 +95,13 @@ pub fn glass_picture<F: Files, S: Sink>(
     out: &mut S,
 ) -> Status
     // what is stored, printed and counted, by the status
-    ensures runs { RunsTo Answers (picture_line_of (map string_bytes words.now)) (world (F.shelf files.old) (S.paper out.old)) (world (F.shelf files.new) (S.paper out.new)) result }
+    ensures runs { RunsTo Answers (picture_line_of (map string_bytes words.now))
+        (world (F.shelf files.old) (S.paper out.old))
+        (world (F.shelf files.new) (S.paper out.new)) result }
 
     // where nothing fails there is no fault
-    ensures no_fault { F.reliable files.old → S.reliable out.old → (result ≢ Status.ReadFault) × (result ≢ Status.WriteFault) }
+    ensures no_fault { F.reliable files.old → S.reliable out.old → (result ≢ Status.ReadFault)
+        × (result ≢ Status.WriteFault) }
 {
     run_line(alloc, picture_line(words), files, out)
 }

@@ -22,14 +22,18 @@ use glass_run::laws::{
 /// Where `plan` or `gen` ends with `optimal`, `stopped` or `infeasible`: a printed plan is lawful and has the printed loss, and OUT holds its text;
 /// every lawful plan loses at least the printed bound. `optimal`: none loses less than the printed plan; `infeasible`: there is none.
 pub fn plans_are_lawful_and_bounded()
-    ensures { (words : List (List ℕ)) → (line : Line) → (held : Contents) → (old new : World) → (result : Status) → (search : Verb) → IsSearch search → IsSearchEnd result → Ended words search line held old new result → FindsPlan line held old new result }
+    ensures { (words : List (List ℕ)) → (line : Line) → (held : Contents) → (old new : World)
+        → (result : Status) → (search : Verb) → IsSearch search → IsSearchEnd result
+        → Ended words search line held old new result → FindsPlan line held old new result }
 {
     searches_are_right();
 }
 
 /// The same where `resume` ends; and the printed plan loses no more than that of PLAN, which is lawful, if there is one.
 pub fn resumed_plans_are_lawful_and_bounded()
-    ensures { (words : List (List ℕ)) → (line : Line) → (held : Contents) → (old new : World) → (result : Status) → IsSearchEnd result → Ended words verb.Resume line held old new result → ResumesPlan line held old new result }
+    ensures { (words : List (List ℕ)) → (line : Line) → (held : Contents) → (old new : World)
+        → (result : Status) → IsSearchEnd result → Ended words verb.Resume line held old new result
+        → ResumesPlan line held old new result }
 {
     resumptions_are_right();
 }
@@ -38,7 +42,9 @@ pub fn resumed_plans_are_lawful_and_bounded()
 /// printed loss and loses no more; every lawful plan that begins with these plates loses at least the printed bound. `optimal`: none of them loses
 /// less.
 pub fn frozen_plans_are_lawful_and_bounded()
-    ensures { (words : List (List ℕ)) → (line : Line) → (held : Contents) → (old new : World) → (result : Status) → IsSearchEnd result → Ended words verb.Freeze line held old new result → FindsPlanBehind line held old new result }
+    ensures { (words : List (List ℕ)) → (line : Line) → (held : Contents) → (old new : World)
+        → (result : Status) → IsSearchEnd result → Ended words verb.Freeze line held old new result
+        → FindsPlanBehind line held old new result }
 {
     searches_behind_first_plates_are_right();
 }
@@ -46,7 +52,9 @@ pub fn frozen_plans_are_lawful_and_bounded()
 /// Where `verify` without `--frozen` is done: the plan that PLAN says is lawful, if PLAN is no dash, and every lawful plan loses at least the printed
 /// bound.
 pub fn accepted_plans_are_lawful_and_bounded()
-    ensures { (words : List (List ℕ)) → (line : Line) → (held : Contents) → (old new : World) → count_in line count.Frozen ≡ 0 → Ended words verb.Verify line held old new status.Done → AcceptsPlan line held old new }
+    ensures { (words : List (List ℕ)) → (line : Line) → (held : Contents) → (old new : World)
+        → count_in line count.Frozen ≡ 0 → Ended words verb.Verify line held old new status.Done
+        → AcceptsPlan line held old new }
 {
     done_checks_are_right();
 }
@@ -54,7 +62,10 @@ pub fn accepted_plans_are_lawful_and_bounded()
 /// Where `verify --frozen=K` is done: the plan that PLAN says is lawful, and every lawful plan that begins with its first K plates loses at least the
 /// printed bound.
 pub fn accepted_plans_behind_first_plates_are_lawful_and_bounded()
-    ensures { (words : List (List ℕ)) → (line : Line) → (held : Contents) → (old new : World) → (k : ℕ) → count_in line count.Frozen ≡ suc k → Ended words verb.Verify line held old new status.Done → AcceptsPlanBehind (suc k) line held old new }
+    ensures { (words : List (List ℕ)) → (line : Line) → (held : Contents) → (old new : World)
+        → (k : ℕ) → count_in line count.Frozen ≡ suc k
+        → Ended words verb.Verify line held old new status.Done
+        → AcceptsPlanBehind (suc k) line held old new }
 {
     done_checks_are_right();
 }

@@ -9,10 +9,11 @@ use Rattle.glass_base.specs.Defects.{hits, crosses_x, crosses_y}
 use Rattle.glass_base.specs.Plates.{Width}
 use Rattle.glass_base.specs.Problem.{Problem}
 use Rattle.cut_model.specs.declared.steps.Step.{Step}
+use Rattle.defect_map.specs.Queries.{CrossesNoneX, CrossesNoneY}
 use Rattle.plan_trace.specs.declared.level.Level.{Level}
 use Rattle.plan_trace.specs.declared.level.Level.TheVariants.{NewPlate, NewStrip, NewBand, NewCell, Over}
 use Rattle.plan_trace.specs.Marks.{Cut, no_cut, Spot, spot, spots, levels}
-use Rattle.plan_trace.specs.TraceRules.{Gap, CrossesNoneX, CrossesNoneY, TR4, TR5, TR6, TR7, TR9, Inherits, StripFits, BandFits, CellFits, AloneFits, LiftLine, bottom, Rules, EachStep, Meets, is_last_strip, is_last_band, is_last_cell, is_last_in_cell}
+use Rattle.plan_trace.specs.TraceRules.{Gap, TR4, TR5, TR6, TR7, TR9, Inherits, StripFits, BandFits, CellFits, AloneFits, LiftLine, bottom, Rules, EachStep, Meets, is_last_strip, is_last_band, is_last_cell, is_last_in_cell}
 use Rattle.plan_box.proofs.Refute.{clash}
 
 abbrev pub Dec : Type 0 → Type 0

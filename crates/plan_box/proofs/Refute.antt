@@ -8,11 +8,11 @@ use Rattle.glass_base.specs.declared.item.Item.{Item}
 use Rattle.glass_base.specs.Defects.{hits, crosses_x, crosses_y}
 use Rattle.glass_base.specs.Plates.{Width}
 use Rattle.glass_base.specs.Problem.{Problem}
-use Rattle.defect_map.specs.Queries.{hits_all, crosses_x_all, crosses_y_all}
+use Rattle.defect_map.specs.Queries.{hits_all, crosses_x_all, crosses_y_all, HitsNone, CrossesNoneX, CrossesNoneY}
 use Rattle.plan_trace.specs.declared.level.Level.{Level}
 use Rattle.plan_trace.specs.declared.level.Level.TheVariants.{NewPlate, NewStrip, NewBand, NewCell, Over}
 use Rattle.plan_trace.specs.Marks.{Spot, spot, levels, Cut}
-use Rattle.plan_trace.specs.TraceRules.{Rules, EachStep, Gap, is_last_strip, is_last_band, is_last_cell, is_last_in_cell, HitsNone, CrossesNoneX, CrossesNoneY, LiftLine, bottom, AloneFits}
+use Rattle.plan_trace.specs.TraceRules.{Rules, EachStep, Gap, is_last_strip, is_last_band, is_last_cell, is_last_in_cell, LiftLine, bottom, AloneFits}
 use Rattle.plan_trace.proofs.Inside.{Sound}
 use Rattle.plan_box.specs.Leasts.{Known, Fixed, fixed, Holds, HoldAll}
 use Rattle.plan_box.specs.Reasons.{fixed_levels, SomeFixed, HitsAll, CrossesXAll, CrossesYAll, StepR1, Tight, StripR2, BandR2, CellR2, TopR2, StepR2, ItemR3, StepR3, StepR4, LiftR4, StepR5, OverR6, StepR6}

@@ -69,7 +69,8 @@ fn copied(stored: &[Packed], frame: Frame, step: u32, memory: Blank) -> Run<Pack
     requires room { length (decided_of (map unpacked stored.now)) < memory }
     ensures stored { AreStored frame result.items }
     ensures longer { step < length result.items }
-    ensures ranges { all_ranges frame (map unpacked result.items) ≡ all_ranges frame (map unpacked stored.now) }
+    ensures ranges { all_ranges frame (map unpacked result.items)
+        ≡ all_ranges frame (map unpacked stored.now) }
 {
     let mut ranges = memory.list();
     ranges.put_all(stored);
@@ -89,7 +90,8 @@ fn reaching(stored: Run<Packed>, frame: Frame, step: u32, memory: Blank) -> (Run
     requires room { length (decided_of (map unpacked stored.items)) < memory }
     ensures stored { AreStored frame result.0.items }
     ensures longer { step < length result.0.items }
-    ensures ranges { all_ranges frame (map unpacked result.0.items) ≡ all_ranges frame (map unpacked stored.items) }
+    ensures ranges { all_ranges frame (map unpacked result.0.items)
+        ≡ all_ranges frame (map unpacked stored.items) }
 {
     if (step as usize) < stored.len() {
         return (stored, memory);
@@ -109,10 +111,14 @@ fn narrowed(
     requires stored { AreStored frame stored.items }
     requires inside { step < length stored.items }
     requires order { range.0 ≤ range.1 }
-    requires from { (span_of var (slice_index_or (all_ranges frame (map unpacked stored.items)) step (full_ranges frame))).low ≤ range.0 }
-    requires within { range.1 ≤ (span_of var (slice_index_or (all_ranges frame (map unpacked stored.items)) step (full_ranges frame))).high }
+    requires from { (span_of var (slice_index_or (all_ranges frame (map unpacked stored.items)) step
+        (full_ranges frame))).low ≤ range.0 }
+    requires within { range.1 ≤ (span_of var (slice_index_or
+        (all_ranges frame (map unpacked stored.items)) step (full_ranges frame))).high }
     ensures stored { AreStored frame result.items }
-    ensures ranges { all_ranges frame (map unpacked result.items) ≡ half_at (λ _. record { low = range.0; high = range.1 }) (all_ranges frame (map unpacked stored.items)) step var }
+    ensures ranges { all_ranges frame (map unpacked result.items)
+        ≡ half_at (λ _. record { low = range.0; high = range.1 })
+        (all_ranges frame (map unpacked stored.items)) step var }
 {
     let mut ranges = stored;
     let old = ranges.as_slice()[step as usize];
@@ -180,8 +186,10 @@ impl PlanBox {
 
     /// The least and the greatest number of a variable at a step; full behind the last step.
     pub fn range(&self, step: u32, var: Var) -> (u32, u32)
-        ensures low { result.0 ≡ (span_of var (slice_index_or self.now.ranges step (full_ranges self.now.frame))).low }
-        ensures high { result.1 ≡ (span_of var (slice_index_or self.now.ranges step (full_ranges self.now.frame))).high }
+        ensures low { result.0 ≡ (span_of var (slice_index_or self.now.ranges step
+            (full_ranges self.now.frame))).low }
+        ensures high { result.1 ≡ (span_of var (slice_index_or self.now.ranges step
+            (full_ranges self.now.frame))).high }
     {
         match self.stored.get(step as usize) {
             Some(packed) => packed.range(var),
@@ -297,10 +305,13 @@ impl PlanBox {
         requires reached { step ≤ length (decided_of self.now.ranges) }
         requires inside { step < self.now.frame.items }
         requires order { range.0 ≤ range.1 }
-        requires from { (span_of var (slice_index_or self.now.ranges step (full_ranges self.now.frame))).low ≤ range.0 }
-        requires within { range.1 ≤ (span_of var (slice_index_or self.now.ranges step (full_ranges self.now.frame))).high }
+        requires from { (span_of var (slice_index_or self.now.ranges step
+            (full_ranges self.now.frame))).low ≤ range.0 }
+        requires within { range.1 ≤ (span_of var (slice_index_or self.now.ranges step
+            (full_ranges self.now.frame))).high }
         requires room { length (decided_of self.now.ranges) < memory }
-        ensures { result ≡ child_of (λ _. record { low = range.0; high = range.1 }) self.now step var id }
+        ensures { result ≡ child_of (λ _. record { low = range.0; high = range.1 })
+            self.now step var id }
     {
         let reached = copied(self.stored.as_slice(), self.frame, step, memory);
         PlanBox {
@@ -323,10 +334,13 @@ impl PlanBox {
         requires reached { step ≤ length (decided_of self.ranges) }
         requires inside { step < self.frame.items }
         requires order { range.0 ≤ range.1 }
-        requires from { (span_of var (slice_index_or self.ranges step (full_ranges self.frame))).low ≤ range.0 }
-        requires within { range.1 ≤ (span_of var (slice_index_or self.ranges step (full_ranges self.frame))).high }
+        requires from { (span_of var (slice_index_or self.ranges step
+            (full_ranges self.frame))).low ≤ range.0 }
+        requires within { range.1 ≤ (span_of var (slice_index_or self.ranges step
+            (full_ranges self.frame))).high }
         requires room { length (decided_of self.ranges) < memory }
-        ensures { result.0 ≡ child_of (λ _. record { low = range.0; high = range.1 }) self step var id }
+        ensures { result.0 ≡ child_of (λ _. record { low = range.0; high = range.1 })
+            self step var id }
     {
         let frame = self.frame;
         let (reached, left) = reaching(self.stored, frame, step, memory);
@@ -343,8 +357,10 @@ impl PlanBox {
         requires { IsTrue (is_free self.now.ranges step var) }
         ensures reached { step ≤ length (decided_of self.now.ranges) }
         ensures inside { step < self.now.frame.items }
-        ensures low { result.0 ≡ (span_of var (slice_index_or self.now.ranges step (full_ranges self.now.frame))).low }
-        ensures high { result.1 ≡ (span_of var (slice_index_or self.now.ranges step (full_ranges self.now.frame))).high }
+        ensures low { result.0 ≡ (span_of var (slice_index_or self.now.ranges step
+            (full_ranges self.now.frame))).low }
+        ensures high { result.1 ≡ (span_of var (slice_index_or self.now.ranges step
+            (full_ranges self.now.frame))).high }
         ensures wide { result.0 < result.1 }
     {
         let _ = &self.stored;
@@ -363,7 +379,8 @@ impl PlanBox {
     ) -> (PlanBox, PlanBox, Blank)
         requires instance { self.frame ≡ frame_of _instance.now }
         requires free { IsTrue (is_free self.ranges step var) }
-        requires room { (length (decided_of self.ranges) < memory.0) × (length (decided_of self.ranges) < memory.1) }
+        requires room { (length (decided_of self.ranges) < memory.0)
+            × (length (decided_of self.ranges) < memory.1) }
         ensures lower { result.0 ≡ child_of lower_half self step var ids.0 }
         ensures upper { result.1 ≡ child_of upper_half self step var ids.1 }
     {

@@ -70,7 +70,8 @@ impl Packed {
     pub fn with(self, var: Var, low: u32, high: u32) -> Packed
         requires order { low ≤ high }
         requires limit { high ≤ limit_of var }
-        ensures { unpacked result ≡ with_span var (record { low = low; high = high }) (unpacked self) }
+        ensures { unpacked result ≡ with_span var (record { low = low; high = high })
+            (unpacked self) }
     {
         let ends = (low as u16, high as u16);
         match var {
@@ -95,7 +96,8 @@ impl Packed {
     fn with_turn(self, low: u32, high: u32) -> Packed
         requires order { low ≤ high }
         requires limit { high ≤ 1 }
-        ensures { unpacked result ≡ with_span Var.Turn (record { low = low; high = high }) (unpacked self) }
+        ensures { unpacked result ≡ with_span Var.Turn (record { low = low; high = high })
+            (unpacked self) }
     {
         let lift = u32::from(self.turn_lift) % 4;
         Packed {
@@ -107,7 +109,8 @@ impl Packed {
     fn with_lift(self, low: u32, high: u32) -> Packed
         requires order { low ≤ high }
         requires limit { high ≤ 1 }
-        ensures { unpacked result ≡ with_span Var.Lift (record { low = low; high = high }) (unpacked self) }
+        ensures { unpacked result ≡ with_span Var.Lift (record { low = low; high = high })
+            (unpacked self) }
     {
         let turn = u32::from(self.turn_lift) / 4;
         Packed {

@@ -140,7 +140,8 @@ fn piece_refusal(row: u64, filled: u32, e: &Row, r: &Row) -> Option<BadPlan>
 /// Why a piece is refused that names this number as its parent.
 fn child_refusal(row: u64, nodes: &Nodes, r: &Row, parent: u64) -> Option<BadPlan>
     requires { AreNodes nodes.now }
-    ensures { result ≡ child_refusal_of row nodes.now.rows.items r.now (row_with parent nodes.now.rows.items) }
+    ensures { result ≡ child_refusal_of row nodes.now.rows.items r.now
+        (row_with parent nodes.now.rows.items) }
 {
     match nodes.named.get(&parent) {
         None => Some(BadPlan::Parent(row)),
@@ -151,7 +152,8 @@ fn child_refusal(row: u64, nodes: &Nodes, r: &Row, parent: u64) -> Option<BadPla
 /// Why a row is refused, by its level and its parent.
 fn place_refusal(instance: &Instance, row: u64, nodes: &Nodes, r: &Row) -> Option<BadPlan>
     requires { AreNodes nodes.now }
-    ensures { result ≡ place_refusal_of instance.now row nodes.now.rows.items r.now r.now.cut r.now.parent }
+    ensures { result ≡ place_refusal_of instance.now row nodes.now.rows.items r.now
+        r.now.cut r.now.parent }
 {
     match r.cut {
         0 => match r.parent {

@@ -78,7 +78,8 @@ fn cell_of(nodes: &Nodes, row: &Row) -> Piece3
     requires nodes { AreNodes nodes.now }
     requires cells { HaveTwo nodes.now.rows.items }
     requires piece { IsPiece nodes.now.rows.items 3 row.now }
-    ensures { IsGrown (below 1 nodes.now.rows.items) row.now result.width (sort3 result.body) (inner3 result.body) }
+    ensures { IsGrown (below 1 nodes.now.rows.items) row.now result.width (sort3 result.body)
+        (inner3 result.body) }
 {
     Piece3 {
         width: row.width,
@@ -121,7 +122,8 @@ fn band_of(alloc: Global, nodes: &Nodes, row: &Row) -> Result<Piece2, Memory>
     requires nodes { AreNodes nodes.now }
     requires cells { HaveTwo nodes.now.rows.items }
     requires piece { IsPiece nodes.now.rows.items 2 row.now }
-    ensures { IfOk result (λ p. IsGrown (below 2 nodes.now.rows.items) row.now p.height (sort2 p.body) (inner2 p.body)) }
+    ensures { IfOk result (λ p. IsGrown (below 2 nodes.now.rows.items) row.now p.height
+        (sort2 p.body) (inner2 p.body)) }
 {
     let body = band_body(alloc, nodes, row)?;
     Ok(Piece2 {
@@ -165,7 +167,8 @@ fn strip_of(alloc: Global, nodes: &Nodes, row: &Row) -> Result<Piece1, Memory>
     requires nodes { AreNodes nodes.now }
     requires cells { HaveTwo nodes.now.rows.items }
     requires piece { IsPiece nodes.now.rows.items 1 row.now }
-    ensures { IfOk result (λ p. IsGrown (below 3 nodes.now.rows.items) row.now p.width (sort1 p.body) (inner1 p.body)) }
+    ensures { IfOk result (λ p. IsGrown (below 3 nodes.now.rows.items) row.now p.width
+        (sort1 p.body) (inner1 p.body)) }
 {
     let body = strip_body(alloc, nodes, row)?;
     Ok(Piece1 {
@@ -193,7 +196,8 @@ fn plate_of(alloc: Global, nodes: &Nodes, row: &Row) -> Result<Plate, Memory>
     requires nodes { AreNodes nodes.now }
     requires cells { HaveTwo nodes.now.rows.items }
     requires root { IsRoot nodes.now.rows.items row.now }
-    ensures { IfOk result (λ p. IsGrown (below 4 nodes.now.rows.items) row.now 0 Sort.Branch (strips_tree p.pieces.items)) }
+    ensures { IfOk result (λ p. IsGrown (below 4 nodes.now.rows.items) row.now 0 Sort.Branch
+        (strips_tree p.pieces.items)) }
 {
     let pieces = strips_of(alloc, nodes, children_of(nodes, row))?;
     Ok(Plate { pieces })

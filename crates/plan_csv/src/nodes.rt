@@ -55,7 +55,8 @@ fn add(node: &mut Node, row: &Row) -> Result<(), Memory>
 /// Adds a child to the node of this number, which is kept and has room for it.
 fn add_child(named: &mut BTreeMap<u64, Node>, parent: u64, row: &Row) -> Result<(), Memory>
     requires { HasSpace row.now (get nat_cmp named.old parent) }
-    ensures { OnOk result (HasNewChild row.now parent (get nat_cmp named.old) (get nat_cmp named.new)) }
+    ensures { OnOk result (HasNewChild row.now parent (get nat_cmp named.old)
+        (get nat_cmp named.new)) }
 {
     match named.get_mut(&parent) {
         Some(node) => add(node, row),

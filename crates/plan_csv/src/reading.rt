@@ -29,7 +29,9 @@ fn read_row(
     fields: &ByteRecord,
 ) -> Result<(), BadPlan>
     requires { AreNodes nodes.old }
-    ensures { MatchResult result (λ _. HasRead (rows_with instance.now row nodes.old.rows.items (fields_of fields.now)) nodes.new) (λ e. Refused e (rows_with instance.now row nodes.old.rows.items (fields_of fields.now))) }
+    ensures { MatchResult result (λ _. HasRead
+        (rows_with instance.now row nodes.old.rows.items (fields_of fields.now)) nodes.new)
+        (λ e. Refused e (rows_with instance.now row nodes.old.rows.items (fields_of fields.now))) }
 {
     let r = row_of(row, fields)?;
     match refusal(instance, row, nodes, &r) {
@@ -44,7 +46,8 @@ fn read_row(
 /// Reads all rows of a table. The first one is the header.
 fn nodes_in(alloc: Global, instance: &Instance, rows: &mut Rows<'_>) -> Result<Nodes, BadPlan>
     requires few { length rows.old < 2 ^ 63 }
-    ensures { MatchResult result (HasRead (rows_behind instance.now 2 [] (drop 1 rows.old))) (λ e. Refused e (rows_behind instance.now 2 [] (drop 1 rows.old))) }
+    ensures { MatchResult result (HasRead (rows_behind instance.now 2 [] (drop 1 rows.old)))
+        (λ e. Refused e (rows_behind instance.now 2 [] (drop 1 rows.old))) }
 {
     let mut nodes = Nodes::new(alloc);
     let mut row = 1u64;
@@ -58,7 +61,9 @@ fn nodes_in(alloc: Global, instance: &Instance, rows: &mut Rows<'_>) -> Result<N
 
 /// Reads all rows of a text.
 fn read_rows(alloc: Global, instance: &Instance, bytes: &[u8]) -> Result<Nodes, BadPlan>
-    ensures { MatchResult result (HasRead (rows_behind instance.now 2 [] (drop 1 (table_rows bytes.now)))) (λ e. Refused e (rows_behind instance.now 2 [] (drop 1 (table_rows bytes.now)))) }
+    ensures { MatchResult result (HasRead (rows_behind instance.now 2 []
+        (drop 1 (table_rows bytes.now))))
+        (λ e. Refused e (rows_behind instance.now 2 [] (drop 1 (table_rows bytes.now)))) }
 {
     let mut rows = Rows::new(alloc, bytes);
     nodes_in(alloc, instance, &mut rows)
@@ -78,7 +83,8 @@ fn child_count(nodes: &Nodes, row: &Row) -> usize
 /// Whether a row is no piece of a 3-cut that is cut, or has two children.
 fn has_two(nodes: &Nodes, row: &Row) -> bool
     requires { AreNodes nodes.now }
-    ensures { result ≡ (not ((row.now.cut == 3) && names_branch row.now.kind) || (length (rows_in row.now.node nodes.now.rows.items) == 2)) }
+    ensures { result ≡ (not ((row.now.cut == 3) && names_branch row.now.kind) ||
+        (length (rows_in row.now.node nodes.now.rows.items) == 2)) }
 {
     !(row.cut == 3 && is_branch(row.kind)) || child_count(nodes, row) == 2
 }
@@ -98,7 +104,8 @@ fn refused_cell(nodes: &Nodes) -> Option<BadPlan>
 
 /// Reads the rows of a plan.
 fn read_nodes(alloc: Global, instance: &Instance, bytes: &[u8]) -> Result<Nodes, BadPlan>
-    ensures said { MatchResult result (HasRead (rows_said instance.now bytes.now)) (λ e. Refused e (rows_said instance.now bytes.now)) }
+    ensures said { MatchResult result (HasRead (rows_said instance.now bytes.now))
+        (λ e. Refused e (rows_said instance.now bytes.now)) }
     ensures cells { IfOk result (λ nodes. HaveTwo nodes.rows.items) }
 {
     let nodes = read_rows(alloc, instance, bytes)?;

@@ -4,8 +4,9 @@ use Rattle.std.proofs.lemmas.Bool.{cases_lt}
 use Rattle.glass_base.specs.declared.item.Item.{Item}
 use Rattle.glass_base.specs.Plates.{Width}
 use Rattle.glass_base.specs.Problem.{Problem}
+use Rattle.defect_map.specs.Queries.{CrossesNoneX}
 use Rattle.plan_trace.specs.Marks.{item_width}
-use Rattle.plan_trace.specs.TraceRules.{CrossesNoneX, Gap}
+use Rattle.plan_trace.specs.TraceRules.{Gap}
 use Rattle.plan_draft.specs.declared.place.Place.{Place}
 use Rattle.plan_draft.specs.inner.Least.{IsSkip}
 use Rattle.plan_draft.specs.inner.Places.{HasNoPlace, IsBestBefore, IsFirstOf, IsLeft, IsPlace, IsUpright, StandsAt, end_of, lesser}

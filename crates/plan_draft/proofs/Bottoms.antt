@@ -2,7 +2,8 @@
 use Rattle.std.proofs.Common.{◌≡◌, ℕ, ◌+◌, ◌<◌, ◌≤◌, ◌⊎◌, inl, inr, Option, Some, None, MatchOption, refl, arith}
 use Rattle.std.proofs.lemmas.Bool.{cases_lt}
 use Rattle.glass_base.specs.Problem.{Problem}
-use Rattle.plan_trace.specs.TraceRules.{CrossesNoneY, Gap, HitsNone}
+use Rattle.defect_map.specs.Queries.{CrossesNoneY, HitsNone}
+use Rattle.plan_trace.specs.TraceRules.{Gap}
 use Rattle.plan_draft.specs.inner.Least.{HasNone, HasNoneUpTo, IsSkip}
 use Rattle.plan_draft.specs.inner.Places.{HasBand, IsBottomOf, IsTopOf}
 

@@ -3,10 +3,11 @@ use Rattle.std.proofs.Common.{◌≡◌, ◌↔◌, ℕ, zero, suc, ◌+◌, ◌
 use Rattle.glass_base.specs.declared.item.Item.{Item}
 use Rattle.glass_base.specs.Problem.{Problem, item_at}
 use Rattle.cut_model.specs.declared.steps.Step.{Step}
+use Rattle.defect_map.specs.Queries.{CrossesNoneY, HitsNone}
 use Rattle.plan_trace.specs.declared.level.Level.{Level}
 use Rattle.plan_trace.specs.declared.level.Level.TheVariants.{NewPlate, NewStrip, NewBand, NewCell, Over}
 use Rattle.plan_trace.specs.Marks.{Cut, Draw, begins, cell_width, draw_of, drawn, item_height, item_width, no_cut}
-use Rattle.plan_trace.specs.TraceRules.{AloneFits, CrossesNoneY, EachStep, HitsNone, LiftLine, Meets, Rules, StripFits, TR1, TR2, bottom}
+use Rattle.plan_trace.specs.TraceRules.{AloneFits, EachStep, LiftLine, Meets, Rules, StripFits, TR1, TR2, bottom}
 use Rattle.plan_trace.specs.inner.Laid.{draws_before, draws_of}
 use Rattle.plan_draft.specs.Drafts.{MayFollow, StandsAlone}
 use Rattle.plan_draft.specs.inner.Lasts.{last_cut}
@@ -181,7 +182,7 @@ begins_one [] x before = refl
 begins_one (s ∷ ss) x before = begins_one ss (draw_of s) (x ∷ before)
 
 -- no plate too many is begun
-few_plates : (b : Problem) (before : List Draw) (m : Level) (t : Cut) (ss : List Step) → t.plates ≤ b.params.plates → EachStep (Rules b) m t (behind b before t.place ss) → (last_cut b before t ss).plates ≤ b.params.plates
+pub few_plates : (b : Problem) (before : List Draw) (m : Level) (t : Cut) (ss : List Step) → t.plates ≤ b.params.plates → EachStep (Rules b) m t (behind b before t.place ss) → (last_cut b before t ss).plates ≤ b.params.plates
 few_plates b before m t [] few h = few
 few_plates b before m t (s ∷ ss) few h = few_plates b (draw_of s ∷ before) _ _ ss h.0.tr1.1 h.1
 

@@ -4,9 +4,10 @@ use Rattle.std.proofs.lemmas.Bool.{cases_lt}
 use Rattle.glass_base.specs.declared.item.Item.{Item}
 use Rattle.glass_base.specs.Plates.{Width}
 use Rattle.glass_base.specs.Problem.{Problem}
+use Rattle.defect_map.specs.Queries.{CrossesNoneX, CrossesNoneY, HitsNone}
 use Rattle.plan_trace.specs.declared.level.Level.{Level}
 use Rattle.plan_trace.specs.Marks.{Cut, item_height, item_width}
-use Rattle.plan_trace.specs.TraceRules.{AloneFits, BandFits, CellFits, CrossesNoneX, CrossesNoneY, HitsNone, StripFits}
+use Rattle.plan_trace.specs.TraceRules.{AloneFits, BandFits, CellFits, StripFits}
 use Rattle.plan_draft.specs.declared.place.Place.{Place}
 use Rattle.plan_draft.specs.inner.Places.{IsPlace}
 

@@ -9,7 +9,7 @@ use Rattle.std.proofs.lemmas.List.Sums.{fails_before_first}
 use Rattle.glass_base.specs.declared.item.Defect.{Defect}
 use Rattle.glass_base.specs.Defects.{crosses_x, crosses_y, hits}
 use Rattle.glass_base.specs.Items.{IsDefectInRange}
-use Rattle.plan_trace.specs.TraceRules.{CrossesNoneX, CrossesNoneY, HitsNone}
+use Rattle.defect_map.specs.Queries.{CrossesNoneX, CrossesNoneY, HitsNone}
 use Rattle.plan_draft.specs.inner.Least.{IsSkip}
 
 more_x : (plate x m y0 y1 : ℕ) (d : Defect) → crosses_x plate x y0 y1 d ≡ true → x ≤ m → m < d.x1 → crosses_x plate m y0 y1 d ≡ true

@@ -3,8 +3,9 @@ use Rattle.std.proofs.Common.{◌≡◌, ℕ, zero, suc, ◌+◌, ◌≤◌, ◌
 use Rattle.std.proofs.lemmas.Bool.{cases_Bool, cases_lt}
 use Rattle.glass_base.specs.declared.item.Item.{Item}
 use Rattle.glass_base.specs.Problem.{Problem}
+use Rattle.defect_map.specs.Queries.{CrossesNoneX, CrossesNoneY}
 use Rattle.plan_trace.specs.Marks.{item_height, item_width}
-use Rattle.plan_trace.specs.TraceRules.{CrossesNoneX, CrossesNoneY, Gap}
+use Rattle.plan_trace.specs.TraceRules.{Gap}
 use Rattle.plan_draft.specs.declared.place.Place.{Place}
 use Rattle.plan_draft.specs.Drafts.{NotAfter}
 use Rattle.plan_draft.specs.inner.Least.{HasNone, IsLeast}

@@ -1,18 +1,19 @@
 -- One more step of a draft.
-use Rattle.std.proofs.Common.{◌≡◌, ◌↔◌, ℕ, suc, ◌<◌, ◌==◌, inl, inr, List, [], ◌∷◌, ◌++◌, cond, Some, refl, sym, ap, ◌∙◌, subst, arith}
+use Rattle.std.proofs.Common.{◌≡◌, ◌↔◌, ℕ, suc, ◌+◌, ◌<◌, ◌^◌, ◌==◌, List, [], ◌∷◌, ◌++◌, cond, Some, refl, sym, ap, ◌∙◌, subst, arith}
 use Rattle.glass_base.specs.declared.item.Item.{Item}
 use Rattle.glass_base.specs.Problem.{Problem, item_at}
 use Rattle.cut_model.specs.declared.steps.Step.{Step}
 use Rattle.cut_model.specs.Steps.{plates_after}
+use Rattle.plan_trace.specs.declared.level.Level.TheVariants.{NewPlate}
 use Rattle.plan_trace.specs.Marks.{Cut, Draw, cut, draw_of, drawn, no_cut, place_of}
 use Rattle.plan_trace.specs.TraceRules.{Meets}
 use Rattle.plan_trace.specs.inner.Laid.{draws_before, draws_of}
 use Rattle.plan_draft.specs.Drafts.{HasNoNext, MayFollow}
 use Rattle.plan_draft.specs.inner.Drafting.{IsOneMore, IsUnderWay}
 use Rattle.plan_draft.specs.inner.Lasts.{last_cut}
-use Rattle.plan_draft.specs.inner.Steps.{HasNoStep, IsFirstStep, IsPlaced, MayStand}
+use Rattle.plan_draft.specs.inner.Steps.{HasNoStep, IsFirstStep, MayStand}
 use Rattle.plan_draft.proofs.Appending.{next_cut}
-use Rattle.plan_draft.proofs.Following.{follows_placed}
+use Rattle.plan_draft.proofs.Following.{few_plates, follows_placed}
 
 -- behind one more step the last one is this
 last_more : (b : Problem) (before : List Draw) (t : Cut) (ss : List Step) (s : Step) → last_cut b before t (ss ++ s ∷ []) ≡ next_cut b before t ss s
@@ -56,10 +57,6 @@ one_more b steps more plates right stack then item s way due first more_is then_
       };
     }
 
--- a first step that begins a plate begins one that there is
-pub few_before : (b : Problem) (plates right stack : ℕ) (item : Item) (s : Step) → IsFirstStep b plates right stack item s → s.kind ≡ 0 → plates < 1000
-few_before b plates right stack item s first kind = by first.may.placed
-  where
-    by : IsPlaced b plates right item s → plates < 1000
-    by (inl p) = absurd (omega (arith, p.0, kind))
-    by (inr p) = omega (arith, p.1, b.params.accepted.few_plates)
+-- so few plates are begun that one more can be counted
+pub few_begun : (b : Problem) (steps : List Step) (plates right : ℕ) → IsUnderWay b steps plates right → plates + 1 < 2 ^ 32
+few_begun b steps plates right way = omega (arith, way.plates_are, few_plates b [] NewPlate no_cut steps (omega arith) way.meets, b.params.accepted.few_plates)

@@ -5,7 +5,7 @@ use Rattle.std.proofs.lemmas.Bool.Decides.{nat_tests}
 use Rattle.glass_base.specs.declared.item.Defect.{Defect}
 use Rattle.glass_base.specs.Defects.{crosses_x, crosses_y}
 use Rattle.glass_base.specs.Problem.{Problem}
-use Rattle.plan_trace.specs.TraceRules.{CrossesNoneX, CrossesNoneY}
+use Rattle.defect_map.specs.Queries.{CrossesNoneX, CrossesNoneY}
 use Rattle.plan_draft.specs.inner.Least.{HasNone, IsLeast}
 use Rattle.plan_draft.specs.inner.Places.{IsBeside, IsOver, IsTop, IsTopOf}
 

@@ -4,14 +4,16 @@ ghost use Rattle.std.specs.Prelude.{◌≡◌, ◌↔◌, ◌+◌, ◌<◌, ◌�
 ghost use Rattle.plan_draft.specs.inner.Least.{HasNone, IsLeast, IsSkip};
 ghost use Rattle.plan_draft.specs.inner.Places.{HasBand, IsBeside, IsBottomOf, IsLeastBand, IsOver, IsTop, IsTopOf};
 
-use crate::lines::{blocked_item, blocked_level, is_clear_x, is_clear_y, level_from};
+use crate::lines::{blocked_item, blocked_level, level_from};
 use crate::place::{Band, Sides};
 use crate::site::Site;
 
 /// The least upper side of a band from `least` on, in a strip from `left` to `right`.
 fn top_from(site: Site, left: u32, right: u32, least: u32) -> Option<u32>
     requires { left < right }
-    ensures { let b = site.entry.ground.instance.now in MatchOption result (HasNone (IsTop b site.entry.plate left right) least) (IsLeast (IsTop b site.entry.plate left right) least) }
+    ensures { let b = site.entry.ground.instance.now in
+        MatchOption result (HasNone (IsTop b site.entry.plate left right) least)
+        (IsLeast (IsTop b site.entry.plate left right) least) }
 {
     let params = site.ground.instance.params();
     let top = level_from(site, least, left, right);
@@ -33,16 +35,17 @@ fn is_top(site: Site, left: u32, right: u32, top: u32) -> bool
     let params = site.ground.instance.params();
     top == params.height
         || u64::from(top) + u64::from(params.waste) <= u64::from(params.height)
-            && is_clear_y(site, top, left, right)
+            && site.ground.is_clear_y(site.plate, top, left, right)
 }
 
 /// Whether the line beside an item at `left`, from c to d, runs through no defect, where the strip goes on behind the item.
 fn is_beside(site: Site, left: u32, right: u32, item: Sides, c: u32, d: u32) -> bool
     requires left { left ≤ 40000 }
     requires band { c < d }
-    ensures { IsTrue result ↔ IsBeside site.entry.ground.instance.now site.entry.plate left right item.w c d }
+    ensures { IsTrue result ↔ IsBeside site.entry.ground.instance.now site.entry.plate left
+        right item.w c d }
 {
-    left + item.w == right || is_clear_x(site, left + item.w, c, d)
+    left + item.w == right || site.ground.is_clear_x(site.plate, left + item.w, c, d)
 }
 
 /// Whether a band from c on that the item fills may stand, in a strip from `left` to `right`.
@@ -50,7 +53,8 @@ fn fills(site: Site, left: u32, right: u32, item: Sides, c: u32) -> bool
     requires strip { left < right }
     requires left { left ≤ 40000 }
     requires low { c ≤ 40000 }
-    ensures { IsTrue result ↔ IsTopOf site.entry.ground.instance.now site.entry.plate left right item.w item.h c (c + item.h) }
+    ensures { IsTrue result ↔ IsTopOf site.entry.ground.instance.now site.entry.plate left right
+        item.w item.h c (c + item.h) }
 {
     let top = c + item.h;
     site.ground.instance.params().min2 <= item.h
@@ -63,10 +67,16 @@ fn top_over(site: Site, left: u32, right: u32, item: Sides, c: u32) -> Option<u3
     requires strip { left < right }
     requires left { left ≤ 40000 }
     requires low { c ≤ 40000 }
-    ensures { let b = site.entry.ground.instance.now in MatchOption result (HasNone (IsOver b site.entry.plate left right item.w item.h c) 0) (IsLeast (IsOver b site.entry.plate left right item.w item.h c) 0) }
+    ensures { let b = site.entry.ground.instance.now in
+        MatchOption result (HasNone (IsOver b site.entry.plate left right item.w item.h c) 0)
+        (IsLeast (IsOver b site.entry.plate left right item.w item.h c) 0) }
 {
     let params = site.ground.instance.params();
-    if item.w < params.waste || !is_clear_y(site, c + item.h, left, left + item.w) {
+    if item.w < params.waste
+        || !site
+            .ground
+            .is_clear_y(site.plate, c + item.h, left, left + item.w)
+    {
         return None;
     }
     let least = c + params.min2.max(item.h + params.waste);
@@ -87,7 +97,9 @@ fn top_of(site: Site, left: u32, right: u32, item: Sides, c: u32) -> Option<u32>
     requires strip { left < right }
     requires left { left ≤ 40000 }
     requires low { c ≤ 40000 }
-    ensures { let b = site.entry.ground.instance.now in MatchOption result (HasNone (IsTopOf b site.entry.plate left right item.w item.h c) 0) (IsLeast (IsTopOf b site.entry.plate left right item.w item.h c) 0) }
+    ensures { let b = site.entry.ground.instance.now in
+        MatchOption result (HasNone (IsTopOf b site.entry.plate left right item.w item.h c) 0)
+        (IsLeast (IsTopOf b site.entry.plate left right item.w item.h c) 0) }
 {
     if fills(site, left, right, item, c) {
         Some(c + item.h)
@@ -101,7 +113,9 @@ fn blocked_bottom(site: Site, left: u32, right: u32, item: Sides, c: u32) -> Opt
     requires strip { left < right }
     requires left { left ≤ 40000 }
     requires low { c ≤ 40000 }
-    ensures { let b = site.entry.ground.instance.now in MatchOption result (IsBottomOf b site.entry.plate left right item.w item.h c) (IsSkip (IsBottomOf b site.entry.plate left right item.w item.h) c) }
+    ensures { let b = site.entry.ground.instance.now in
+        MatchOption result (IsBottomOf b site.entry.plate left right item.w item.h c)
+        (IsSkip (IsBottomOf b site.entry.plate left right item.w item.h) c) }
 {
     if c == 0 {
         return blocked_item(site, left, 0, item);
@@ -120,7 +134,9 @@ fn blocked_bottom(site: Site, left: u32, right: u32, item: Sides, c: u32) -> Opt
 pub fn band_from(site: Site, left: u32, right: u32, item: Sides) -> Option<Band>
     requires strip { left < right }
     requires left { left ≤ 40000 }
-    ensures { let b = site.entry.ground.instance.now in MatchOption result (HasNone (HasBand b site.entry.plate left right item.w item.h) 0) (IsLeastBand b site.entry.plate left right item.w item.h 0) }
+    ensures { let b = site.entry.ground.instance.now in
+        MatchOption result (HasNone (HasBand b site.entry.plate left right item.w item.h) 0)
+        (IsLeastBand b site.entry.plate left right item.w item.h 0) }
 {
     let height = site.ground.instance.params().height;
     let mut c = 0;

@@ -3,7 +3,6 @@
 ghost use Rattle.std.specs.Prelude.{◌≡◌, ◌≤◌, ◌<◌, [], Some, length, IfOk, MatchOption, MatchResult, replicate};
 ghost use Rattle.glass_base.specs.Items.{HasSides, IsItemInRange};
 ghost use Rattle.glass_base.specs.Problem.{IsProblem, item_at, stack_at};
-ghost use Rattle.cut_model.specs.Steps.{plates_after};
 ghost use Rattle.plan_trace.specs.Marks.{drawn};
 ghost use Rattle.plan_trace.specs.Claims.{IsComplete};
 ghost use Rattle.plan_trace.specs.inner.Laid.{draws_of};
@@ -14,6 +13,7 @@ use crate::stepping::next_step;
 use cut_model::{Step, Trace};
 use defect_map::{DefectMap, Ground};
 use glass_base::{Instance, Item, Memory, Run, append};
+use plan_trace::laid::plates_behind;
 use std::alloc::Global;
 
 /// The steps so far, the plates that they begin, and the right side of their last strip.
@@ -24,14 +24,6 @@ struct Drafting {
     right: u32,
 }
 
-/// The plates begun after a step of this kind.
-fn plates_behind(kind: u32, before: u32) -> u32
-    requires { kind ≡ 0 → before < 1000 }
-    ensures { result ≡ plates_after kind before }
-{
-    if kind == 0 { before + 1 } else { before }
-}
-
 /// Takes the least step of an item from this stack, or gives the item's number where it has none.
 fn draft_item(
     drafting: &mut Drafting,
@@ -39,11 +31,17 @@ fn draft_item(
     stack: u32,
     item: &Item,
 ) -> Result<Option<u32>, Memory>
-    requires under_way { IsUnderWay ground.instance.now drafting.old.steps.items drafting.old.plates drafting.old.right }
+    requires under_way { IsUnderWay ground.instance.now drafting.old.steps.items drafting.old.plates
+        drafting.old.right }
     requires range { IsItemInRange item.now }
     requires sides { HasSides item.now }
-    requires due { item_at ground.instance.now stack (drawn (draws_of drafting.old.steps.items) stack) ≡ Some item.now }
-    ensures { let b = ground.entry.instance.now in IfOk result (λ stopped. MatchOption stopped (IsOneMore b drafting.old.steps.items stack drafting.new.steps.items drafting.new.plates drafting.new.right) (λ number. HasNoNext b drafting.old.steps.items stack × (number ≡ item.now.id))) }
+    requires due { item_at ground.instance.now stack
+        (drawn (draws_of drafting.old.steps.items) stack) ≡ Some item.now }
+    ensures { let b = ground.entry.instance.now in
+        IfOk result (λ stopped. MatchOption stopped
+        (IsOneMore b drafting.old.steps.items stack drafting.new.steps.items drafting.new.plates
+        drafting.new.right) (λ number. HasNoNext b drafting.old.steps.items stack
+        × (number ≡ item.now.id))) }
 {
     match next_step(ground, drafting.plates, drafting.right, stack, item) {
         None => Ok(Some(item.id)),
@@ -63,9 +61,14 @@ fn draft_stack(
     stack: u32,
 ) -> Result<Option<u32>, Memory>
     requires stack { stack < length ground.instance.now.stacks }
-    requires under_way { IsUnderWay ground.instance.now drafting.old.steps.items drafting.old.plates drafting.old.right }
+    requires under_way { IsUnderWay ground.instance.now drafting.old.steps.items drafting.old.plates
+        drafting.old.right }
     requires fresh { drawn (draws_of drafting.old.steps.items) stack ≡ 0 }
-    ensures { let b = ground.entry.instance.now in let stacks = replicate (length (stack_at b stack)) stack in IfOk result (λ stopped. MatchOption stopped (AreMore b drafting.old.steps.items stacks drafting.new.steps.items drafting.new.plates drafting.new.right) (StopsIn b drafting.old.steps.items stacks)) }
+    ensures { let b = ground.entry.instance.now in
+        let stacks = replicate (length (stack_at b stack)) stack in
+        IfOk result (λ stopped. MatchOption stopped
+        (AreMore b drafting.old.steps.items stacks drafting.new.steps.items drafting.new.plates
+        drafting.new.right) (StopsIn b drafting.old.steps.items stacks)) }
 {
     for position in ground.instance.stack(stack) {
         let item = ground.instance.items()[*position as usize];
@@ -88,8 +91,10 @@ pub fn draft(
     map: &DefectMap,
 ) -> Result<Result<Trace, u32>, Memory>
     requires { map.now ≡ instance.now.defects }
-    ensures drafted { IfOk result (λ drafted. MatchResult drafted (λ trace. IsDraft instance.now trace.steps.items) (HasNoDraft instance.now)) }
-    ensures complete { IfOk result (λ drafted. IfOk drafted (λ trace. IsComplete instance.now trace.steps.items)) }
+    ensures drafted { IfOk result (λ drafted. MatchResult drafted
+        (λ trace. IsDraft instance.now trace.steps.items) (HasNoDraft instance.now)) }
+    ensures complete { IfOk result (λ drafted. IfOk drafted
+        (λ trace. IsComplete instance.now trace.steps.items)) }
 {
     let ground = Ground { instance, map };
     let mut drafting = Drafting {

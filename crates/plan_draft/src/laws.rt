@@ -10,14 +10,18 @@ ghost use Rattle.plan_trace.specs.Claims.{IsComplete};
 
 /// There is one draft at the most, and none where an item has no step.
 pub fn drafts_are_one()
-    ensures one { (b : Problem) → (steps others : List Step) → IsDraft b steps → IsDraft b others → steps ≡ others }
-    ensures none { (b : Problem) → (steps : List Step) → (number : ℕ) → IsDraft b steps → HasNoDraft b number → ⊥ }
-    ensures first { (b : Problem) → (number other : ℕ) → HasNoDraft b number → HasNoDraft b other → number ≡ other }
+    ensures one { (b : Problem) → (steps others : List Step) → IsDraft b steps → IsDraft b others
+        → steps ≡ others }
+    ensures none { (b : Problem) → (steps : List Step) → (number : ℕ) → IsDraft b steps
+        → HasNoDraft b number → ⊥ }
+    ensures first { (b : Problem) → (number other : ℕ) → HasNoDraft b number → HasNoDraft b other
+        → number ≡ other }
 {}
 
 /// A draft has a step for each item and meets the rules of a trace, whatever defects the plates have.
 pub fn drafts_are_complete()
-    ensures { (b : Problem) → (steps : List Step) → IsProblem b → IsDraft b steps → IsComplete b steps }
+    ensures { (b : Problem) → (steps : List Step) → IsProblem b → IsDraft b steps
+        → IsComplete b steps }
 {}
 
 /// The plan of a draft obeys the ten rules of a lawful plan.

@@ -14,7 +14,9 @@ use glass_base::Item;
 
 /// The right side of a defect through which the left side of a strip at `left` would run, if there is one.
 fn blocked_line(site: Site, left: u32) -> Option<u32>
-    ensures { let b = site.entry.ground.instance.now in MatchOption result (IsUpright b site.entry.plate 0 left) (IsSkip (IsUpright b site.entry.plate 0) left) }
+    ensures { let b = site.entry.ground.instance.now in
+        MatchOption result (IsUpright b site.entry.plate 0 left)
+        (IsSkip (IsUpright b site.entry.plate 0) left) }
 {
     if left == 0 {
         None
@@ -27,7 +29,9 @@ fn blocked_line(site: Site, left: u32) -> Option<u32>
 fn blocked_left(site: Site, from: u32, left: u32) -> Option<u32>
     requires from { from ≤ left }
     requires left { left ≤ 20000 }
-    ensures { let b = site.entry.ground.instance.now in MatchOption result (IsLeft b site.entry.plate from left) (IsSkip (IsLeft b site.entry.plate from) left) }
+    ensures { let b = site.entry.ground.instance.now in
+        MatchOption result (IsLeft b site.entry.plate from left)
+        (IsSkip (IsLeft b site.entry.plate from) left) }
 {
     if left == from {
         return blocked_line(site, left);
@@ -53,7 +57,9 @@ fn far_end(site: Site, best: Option<Place>) -> u32
 pub fn first_place(site: Site, from: u32, item: &Item) -> Option<Place>
     requires range { IsItemInRange item.now }
     requires sides { HasSides item.now }
-    ensures { let b = site.entry.ground.instance.now in MatchOption result (HasNoPlace (IsPlace b site.entry.plate from item.now)) (IsFirstOf (IsPlace b site.entry.plate from item.now)) }
+    ensures { let b = site.entry.ground.instance.now in
+        MatchOption result (HasNoPlace (IsPlace b site.entry.plate from item.now))
+        (IsFirstOf (IsPlace b site.entry.plate from item.now)) }
 {
     if from > site.ground.instance.width(site.plate) {
         return None;

@@ -1,7 +1,7 @@
 //! Lines that run through no defect.
 
-ghost use Rattle.std.specs.Prelude.{◌≡◌, ◌↔◌, ◌+◌, ◌<◌, ◌≤◌, ℕ, IsTrue, MatchOption};
-ghost use Rattle.plan_trace.specs.TraceRules.{CrossesNoneX, CrossesNoneY, HitsNone};
+ghost use Rattle.std.specs.Prelude.{◌≡◌, ◌+◌, ◌<◌, ◌≤◌, ℕ, MatchOption};
+ghost use Rattle.defect_map.specs.Queries.{CrossesNoneX, CrossesNoneY, HitsNone};
 ghost use Rattle.plan_draft.specs.inner.Least.{IsLeast, IsSkip};
 
 use crate::place::Sides;
@@ -9,7 +9,9 @@ use crate::site::Site;
 
 /// The right side of a defect through which the upright line at x runs, if there is one. All lines from x to there run through it.
 pub fn blocked_upright(site: Site, x: u32) -> Option<u32>
-    ensures { let b = site.entry.ground.instance.now in MatchOption result (CrossesNoneX b.defects site.entry.plate x 0 b.params.height) (IsSkip (λ m. CrossesNoneX b.defects site.entry.plate m 0 b.params.height) x) }
+    ensures { let b = site.entry.ground.instance.now in
+        MatchOption result (CrossesNoneX b.defects site.entry.plate x 0 b.params.height)
+        (IsSkip (λ m. CrossesNoneX b.defects site.entry.plate m 0 b.params.height) x) }
 {
     let height = site.ground.instance.params().height;
     match site.ground.map.first_crossing_x(site.plate, x, 0, height) {
@@ -20,7 +22,8 @@ pub fn blocked_upright(site: Site, x: u32) -> Option<u32>
 
 /// The least x from this one on at which an upright line over the whole plate runs through no defect.
 pub fn upright_from(site: Site, x: u32) -> u32
-    ensures { let b = site.entry.ground.instance.now in IsLeast (λ m. CrossesNoneX b.defects site.entry.plate m 0 b.params.height) x result }
+    ensures { let b = site.entry.ground.instance.now in
+        IsLeast (λ m. CrossesNoneX b.defects site.entry.plate m 0 b.params.height) x result }
 {
     let mut x = x;
     while let Some(next) = blocked_upright(site, x) {
@@ -33,7 +36,9 @@ pub fn upright_from(site: Site, x: u32) -> u32
 /// through it.
 pub fn blocked_level(site: Site, y: u32, x0: u32, x1: u32) -> Option<u32>
     requires { x0 < x1 }
-    ensures { let b = site.entry.ground.instance.now in MatchOption result (CrossesNoneY b.defects site.entry.plate y x0 x1) (IsSkip (λ m. CrossesNoneY b.defects site.entry.plate m x0 x1) y) }
+    ensures { let b = site.entry.ground.instance.now in
+        MatchOption result (CrossesNoneY b.defects site.entry.plate y x0 x1)
+        (IsSkip (λ m. CrossesNoneY b.defects site.entry.plate m x0 x1) y) }
 {
     match site.ground.map.first_crossing_y(site.plate, y, x0, x1) {
         None => None,
@@ -44,7 +49,8 @@ pub fn blocked_level(site: Site, y: u32, x0: u32, x1: u32) -> Option<u32>
 /// The least y from this one on at which a level line from x0 to x1 runs through no defect.
 pub fn level_from(site: Site, y: u32, x0: u32, x1: u32) -> u32
     requires { x0 < x1 }
-    ensures { let b = site.entry.ground.instance.now in IsLeast (λ m. CrossesNoneY b.defects site.entry.plate m x0 x1) y result }
+    ensures { let b = site.entry.ground.instance.now in
+        IsLeast (λ m. CrossesNoneY b.defects site.entry.plate m x0 x1) y result }
 {
     let mut y = y;
     while let Some(next) = blocked_level(site, y, x0, x1) {
@@ -57,7 +63,9 @@ pub fn level_from(site: Site, y: u32, x0: u32, x1: u32) -> u32
 pub fn blocked_item(site: Site, x: u32, y: u32, item: Sides) -> Option<u32>
     requires right { x ≤ 40000 }
     requires upper { y ≤ 40000 }
-    ensures { let b = site.entry.ground.instance.now in MatchOption result (HitsNone b.defects site.entry.plate x y (x + item.w) (y + item.h)) (IsSkip (λ m. HitsNone b.defects site.entry.plate x m (x + item.w) (m + item.h)) y) }
+    ensures { let b = site.entry.ground.instance.now in
+        MatchOption result (HitsNone b.defects site.entry.plate x y (x + item.w) (y + item.h))
+        (IsSkip (λ m. HitsNone b.defects site.entry.plate x m (x + item.w) (m + item.h)) y) }
 {
     match site
         .ground
@@ -67,20 +75,4 @@ pub fn blocked_item(site: Site, x: u32, y: u32, item: Sides) -> Option<u32>
         None => None,
         Some(at) => Some(site.ground.instance.defects()[at].y1),
     }
-}
-
-/// Whether an upright line at x from y0 to y1 runs through no defect.
-pub fn is_clear_x(site: Site, x: u32, y0: u32, y1: u32) -> bool
-    requires { y0 < y1 }
-    ensures { IsTrue result ↔ CrossesNoneX site.entry.ground.instance.now.defects site.entry.plate x y0 y1 }
-{
-    !site.ground.map.crosses_x(site.plate, x, y0, y1)
-}
-
-/// Whether a level line at y from x0 to x1 runs through no defect.
-pub fn is_clear_y(site: Site, y: u32, x0: u32, x1: u32) -> bool
-    requires { x0 < x1 }
-    ensures { IsTrue result ↔ CrossesNoneY site.entry.ground.instance.now.defects site.entry.plate y x0 x1 }
-{
-    !site.ground.map.crosses_y(site.plate, y, x0, x1)
 }

@@ -7,7 +7,6 @@ ghost use Rattle.plan_trace.specs.TraceRules.{Gap};
 ghost use Rattle.plan_draft.specs.inner.Places.{HasNoPlace, IsFirstOf, IsRight, StandsAt, StandsBeside, StandsSo, StandsTo};
 
 use crate::bands::band_from;
-use crate::lines::is_clear_x;
 use crate::place::{Place, Sides, first_of};
 use crate::site::Site;
 use crate::strips::right_from;
@@ -17,9 +16,12 @@ use glass_base::Item;
 fn place_to(site: Site, left: u32, right: u32, item: Sides, turn: u32) -> Option<Place>
     requires left { left ≤ 20000 }
     requires wide { left + site.ground.instance.now.params.min1 ≤ right }
-    requires right { IsRight site.ground.instance.now site.plate (left + site.ground.instance.now.params.max1) right }
+    requires right { IsRight site.ground.instance.now site.plate
+        (left + site.ground.instance.now.params.max1) right }
     requires behind { Gap site.ground.instance.now.params.waste (left + item.w) right }
-    ensures { let b = site.entry.ground.instance.now in MatchOption result (HasNoPlace (StandsTo b site.entry.plate left turn item.w item.h right)) (IsFirstOf (StandsTo b site.entry.plate left turn item.w item.h right)) }
+    ensures { let b = site.entry.ground.instance.now in
+        MatchOption result (HasNoPlace (StandsTo b site.entry.plate left turn item.w item.h right))
+        (IsFirstOf (StandsTo b site.entry.plate left turn item.w item.h right)) }
 {
     match band_from(site, left, right, item) {
         None => None,
@@ -42,13 +44,16 @@ fn is_right(site: Site, most: u32, right: u32) -> bool
     right <= most
         && (right == width
             || u64::from(right) + u64::from(params.waste) <= u64::from(width)
-                && is_clear_x(site, right, 0, params.height))
+                && site.ground.is_clear_x(site.plate, right, 0, params.height))
 }
 
 /// The first place of an item at the left side of a strip that is as wide as the item.
 fn place_alone(site: Site, left: u32, item: Sides, turn: u32) -> Option<Place>
     requires left { left ≤ 20000 }
-    ensures { let b = site.entry.ground.instance.now in MatchOption result (HasNoPlace (StandsTo b site.entry.plate left turn item.w item.h (left + item.w))) (IsFirstOf (StandsTo b site.entry.plate left turn item.w item.h (left + item.w))) }
+    ensures { let b = site.entry.ground.instance.now in
+        MatchOption result (HasNoPlace (StandsTo b site.entry.plate left turn item.w item.h
+        (left + item.w))) (IsFirstOf (StandsTo b site.entry.plate left turn item.w item.h
+        (left + item.w))) }
 {
     let params = site.ground.instance.params();
     let right = left + item.w;
@@ -61,7 +66,9 @@ fn place_alone(site: Site, left: u32, item: Sides, turn: u32) -> Option<Place>
 /// The first place of an item at the left side of a strip in which a waste stands beside it.
 fn place_beside(site: Site, left: u32, item: Sides, turn: u32) -> Option<Place>
     requires left { left ≤ 20000 }
-    ensures { let b = site.entry.ground.instance.now in MatchOption result (HasNoPlace (StandsBeside b site.entry.plate left turn item.w item.h)) (IsFirstOf (StandsBeside b site.entry.plate left turn item.w item.h)) }
+    ensures { let b = site.entry.ground.instance.now in
+        MatchOption result (HasNoPlace (StandsBeside b site.entry.plate left turn item.w item.h))
+        (IsFirstOf (StandsBeside b site.entry.plate left turn item.w item.h)) }
 {
     let params = site.ground.instance.params();
     let least = left + params.min1.max(item.w + params.waste);
@@ -74,7 +81,9 @@ fn place_beside(site: Site, left: u32, item: Sides, turn: u32) -> Option<Place>
 /// The first place of an item of these sides at the left side of a strip.
 fn place_in_turn(site: Site, left: u32, item: Sides, turn: u32) -> Option<Place>
     requires left { left ≤ 20000 }
-    ensures { let b = site.entry.ground.instance.now in MatchOption result (HasNoPlace (StandsSo b site.entry.plate left turn item.w item.h)) (IsFirstOf (StandsSo b site.entry.plate left turn item.w item.h)) }
+    ensures { let b = site.entry.ground.instance.now in
+        MatchOption result (HasNoPlace (StandsSo b site.entry.plate left turn item.w item.h))
+        (IsFirstOf (StandsSo b site.entry.plate left turn item.w item.h)) }
 {
     match place_alone(site, left, item, turn) {
         Some(place) => Some(place),
@@ -87,7 +96,9 @@ pub fn place_at(site: Site, left: u32, item: &Item) -> Option<Place>
     requires left { left ≤ 20000 }
     requires range { IsItemInRange item.now }
     requires sides { HasSides item.now }
-    ensures { let b = site.entry.ground.instance.now in MatchOption result (HasNoPlace (StandsAt b site.entry.plate left item.now)) (IsFirstOf (StandsAt b site.entry.plate left item.now)) }
+    ensures { let b = site.entry.ground.instance.now in
+        MatchOption result (HasNoPlace (StandsAt b site.entry.plate left item.now))
+        (IsFirstOf (StandsAt b site.entry.plate left item.now)) }
 {
     let unturned = Sides {
         w: item.length,

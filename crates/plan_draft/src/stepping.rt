@@ -14,7 +14,18 @@ use glass_base::{Instance, Item};
 
 /// The step of an item that stands alone at this place.
 fn step_at(stack: u32, kind: u32, place: Place) -> Step
-    ensures { result ≡ record { stack = stack; turn = place.turn; kind = kind; lift = 0; a = place.a; b = place.b; c = place.c; d = place.d; e = place.a } }
+    ensures { result ≡ record {
+      stack = stack;
+      turn = place.turn;
+      kind = kind;
+      lift = 0;
+      a =
+          place.a;
+      b = place.b;
+      c = place.c;
+      d = place.d;
+      e = place.a;
+    } }
 {
     Step {
         stack,
@@ -33,7 +44,9 @@ fn step_at(stack: u32, kind: u32, place: Place) -> Step
 fn place_on(ground: Ground<'_>, plate: u32, from: u32, item: &Item) -> Option<Place>
     requires range { IsItemInRange item.now }
     requires sides { HasSides item.now }
-    ensures { let b = ground.entry.instance.now in MatchOption result (HasNoPlace (IsPlace b plate from item.now)) (IsFirstOf (IsPlace b plate from item.now)) }
+    ensures { let b = ground.entry.instance.now in
+        MatchOption result (HasNoPlace (IsPlace b plate from item.now))
+        (IsFirstOf (IsPlace b plate from item.now)) }
 {
     let site = Site { ground, plate };
     first_place(site, from, item)
@@ -43,7 +56,9 @@ fn place_on(ground: Ground<'_>, plate: u32, from: u32, item: &Item) -> Option<Pl
 fn place_in_use(ground: Ground<'_>, plates: u32, right: u32, item: &Item) -> Option<Place>
     requires range { IsItemInRange item.now }
     requires sides { HasSides item.now }
-    ensures { let b = ground.entry.instance.now in MatchOption result (1 ≤ plates → HasNoPlace (IsPlace b (plates - 1) right item.now)) (λ p. (1 ≤ plates) × IsFirstOf (IsPlace b (plates - 1) right item.now) p) }
+    ensures { let b = ground.entry.instance.now in
+        MatchOption result (1 ≤ plates → HasNoPlace (IsPlace b (plates - 1) right item.now))
+        (λ p. (1 ≤ plates) × IsFirstOf (IsPlace b (plates - 1) right item.now) p) }
 {
     if plates == 0 {
         return None;
@@ -55,7 +70,10 @@ fn place_in_use(ground: Ground<'_>, plates: u32, right: u32, item: &Item) -> Opt
 fn place_on_next(ground: Ground<'_>, plates: u32, item: &Item) -> Option<Place>
     requires range { IsItemInRange item.now }
     requires sides { HasSides item.now }
-    ensures { let b = ground.entry.instance.now in MatchOption result (plates < b.params.plates → HasNoPlace (IsPlace b plates 0 item.now)) (λ p. (plates < b.params.plates) × IsFirstOf (IsPlace b plates 0 item.now) p) }
+    ensures { let b = ground.entry.instance.now in
+        MatchOption result (plates < b.params.plates
+        → HasNoPlace (IsPlace b plates 0 item.now)) (λ p. (plates < b.params.plates)
+        × IsFirstOf (IsPlace b plates 0 item.now) p) }
 {
     if plates >= ground.instance.params().plates {
         return None;
@@ -73,7 +91,9 @@ pub fn next_step(
 ) -> Option<Step>
     requires range { IsItemInRange item.now }
     requires sides { HasSides item.now }
-    ensures { let b = ground.entry.instance.now in MatchOption result (HasNoStep b plates right stack item.now) (IsFirstStep b plates right stack item.now) }
+    ensures { let b = ground.entry.instance.now in
+        MatchOption result (HasNoStep b plates right stack item.now)
+        (IsFirstStep b plates right stack item.now) }
 {
     match place_in_use(ground, plates, right, item) {
         Some(place) => Some(step_at(stack, 1, place)),

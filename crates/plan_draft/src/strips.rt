@@ -10,7 +10,9 @@ use crate::site::Site;
 /// The least right side of a strip from `least` on and up to `most`.
 pub fn right_from(site: Site, least: u32, most: u32) -> Option<u32>
     requires { most < 2 ^ 20 }
-    ensures { let b = site.entry.ground.instance.now in MatchOption result (HasNone (IsRight b site.entry.plate most) least) (IsLeast (IsRight b site.entry.plate most) least) }
+    ensures { let b = site.entry.ground.instance.now in
+        MatchOption result (HasNone (IsRight b site.entry.plate most) least)
+        (IsLeast (IsRight b site.entry.plate most) least) }
 {
     let width = site.ground.instance.width(site.plate);
     let right = upright_from(site, least);

@@ -1,5 +1,5 @@
 -- What is left behind the first plates of a plan is one instance, whatever stands behind these plates.
-use Rattle.std.proofs.Common.{◌≡◌, ℕ, ◌+◌, ◌<◌, ◌≤◌, inl, inr, List, [], ◌∷◌, length, Bool, true, false, nat_lt, refl, sym, ap, subst, ◌∙◌, arith, All, AllPairs, Contains}
+use Rattle.std.proofs.Common.{◌≡◌, ℕ, ◌+◌, ◌-◌, ◌*◌, ◌<◌, ◌≤◌, inl, inr, List, [], ◌∷◌, length, Bool, true, false, nat_lt, refl, sym, ap, subst, ◌∙◌, arith, All, AllPairs, Contains}
 use Rattle.std.specs.Prelude.{slice_index_or}
 use Rattle.std.specs.List.{AllZip}
 use Rattle.std.proofs.Props.{props}
@@ -9,7 +9,8 @@ use Rattle.std.proofs.lemmas.List.Elements.{All-append, All-cons, All-contains, 
 use Rattle.glass_base.proofs.Pairs.{contained_cases, contained_first, contained_later, pairs_head, pairs_tail}
 use Rattle.glass_base.specs.BadParams.{HasSizes}
 use Rattle.glass_base.specs.Params.{Accepted}
-use Rattle.glass_base.specs.Plates.{Width}
+use Rattle.glass_base.specs.Items.{area_of}
+use Rattle.glass_base.specs.Plates.{Before, Width}
 use Rattle.glass_base.specs.Problem.{Problem}
 use Rattle.glass_base.specs.Stacks.{AreStacks, IsStack, stack_numbers}
 use Rattle.glass_base.specs.Widths.{AreWidths}
@@ -23,15 +24,15 @@ use Rattle.cut_model.specs.Order.{cut_order}
 use Rattle.cut_model.specs.Sized.{sized}
 use Rattle.cut_model.specs.Tree.{Forest, nothing, piece, children_in, count, is_nothing, neighbour_count}
 use Rattle.cut_model.proofs.Places.{plate_at}
-use Rattle.plan_freeze.specs.Claims.{RestIsOne}
+use Rattle.plan_freeze.specs.Claims.{RestIsOne, RestIsSame}
 use Rattle.plan_freeze.specs.Frozen.{first_plates, joined, later_plates}
-use Rattle.plan_freeze.specs.Rests.{IsRest, items_besides, numbers_frozen}
+use Rattle.plan_freeze.specs.Rests.{IsRest, items_among, items_besides, numbers_frozen}
 use Rattle.plan_freeze.proofs.Beginning.{on_one}
-use Rattle.plan_freeze.proofs.Forests.{first_count, joined_nothing, parted}
+use Rattle.plan_freeze.proofs.Forests.{first_count, joined_nothing, parted, some_behind}
 use Rattle.plan_freeze.proofs.FrozenLaw.{behind_first}
 use Rattle.plan_freeze.proofs.Lists.{filter_all}
 use Rattle.plan_freeze.proofs.SomeLeft.{first_kept}
-use Rattle.plan_freeze.proofs.Wholes.{first_items}
+use Rattle.plan_freeze.proofs.Wholes.{first_items, first_rows}
 
 -- all pieces of a plan are on its plates
 all_before : (b : Problem) (plate : ℕ) (first : Bool) (node : ℕ) (plan : Forest) (end : ℕ) → plate + neighbour_count plan ≤ end →
@@ -201,3 +202,29 @@ rest_is_one b plan other k rest left frozen begins is =
     (same_widths left rest params is.rules.widths frozen.rest_is.rules.widths (λ plate. is.widths_are plate ∙ sym (frozen.rest_is.widths_are plate)))
     (same_stacks rest.items left.stacks rest.stacks frozen.rest_is.rules.some
     (subst (λ (l : List Item). AreStacks l left.stacks) items is.rules.stacks) frozen.rest_is.rules.stacks)
+
+-- the items on first plates, where another plate stands behind them
+numbers_first : (b : Problem) (first later : Forest) → 1 ≤ neighbour_count later → numbers_frozen b (joined first later) (neighbour_count first) ≡ cut_order (first_rows b first)
+numbers_first b first nothing some = absurd (omega (arith, some))
+numbers_first b first (piece size sort inner more) some = ap cut_order (first_kept b first size sort inner more)
+
+-- so of the first plates of a plan that has more
+first_numbers : (b : Problem) (plan : Forest) (k : ℕ) → k < neighbour_count plan → numbers_frozen b plan k ≡ cut_order (first_rows b (first_plates k plan))
+first_numbers b plan k more =
+    let whole : joined (first_plates k plan) (later_plates k plan) ≡ plan = parted k plan in
+    let many : neighbour_count (first_plates k plan) ≡ k = first_count k plan (omega (arith, more)) in
+    rw (whole, many) at (numbers_first b (first_plates k plan) (later_plates k plan) (some_behind k plan more))
+
+pub rest_is_same : RestIsSame
+rest_is_same b plan other k rest frozen begins more =
+    let numbers : numbers_frozen b plan k ≡ numbers_frozen b other k =
+    first_numbers b plan k frozen.fewer ∙ ap (λ (first : Forest). cut_order (first_rows b first)) (sym begins) ∙ sym (first_numbers b other k more) in (
+      record {
+        items_are = frozen.rest_is.items_are ∙ ap (λ (ns : List ℕ). items_besides ns b.items) numbers;
+        defects_are = frozen.rest_is.defects_are;
+        widths_are = frozen.rest_is.widths_are;
+        params_are = frozen.rest_is.params_are;
+        rules = frozen.rest_is.rules;
+      },
+      ap (λ (ns : List ℕ). b.params.height * Before b k - area_of (items_among ns b.items)) (sym numbers),
+    )

@@ -36,3 +36,9 @@ WholeIsFound =
 abbrev pub RestIsOne : Type 0
 RestIsOne =
     (b : Problem) (plan other : Forest) (k : ℕ) (rest left : Problem) → IsFrozen b plan k rest → BeginsWith k plan other → IsRest b other k left → left ≡ rest
+
+-- what is left behind the first plates of a plan is left behind those of every plan that begins with them and has more, and they lose the same there
+abbrev pub RestIsSame : Type 0
+RestIsSame =
+    (b : Problem) (plan other : Forest) (k : ℕ) (rest : Problem) → IsFrozen b plan k rest → BeginsWith k plan other → k < neighbour_count other →
+    IsRest b other k rest × (frozen_loss b other k ≡ frozen_loss b plan k)

@@ -98,7 +98,8 @@ pub(crate) fn add_plates(
     plates: &mut Run<Plate>,
     more: &[Plate],
 ) -> Result<(), Memory>
-    ensures { OnOk result (plates_of plates.new.items ≡ joined (plates_of plates.old.items) (plates_of more.now)) }
+    ensures { OnOk result (plates_of plates.new.items
+        ≡ joined (plates_of plates.old.items) (plates_of more.now)) }
 {
     for plate in more {
         append(plates, copy_plate(alloc, plate)?)?;

@@ -40,7 +40,8 @@ pub(crate) fn frozen_numbers(
     k: u32,
 ) -> Result<Run<u32>, Memory>
     requires { Fits (tree plan.now) }
-    ensures { IfOk result (λ numbers. numbers.items ≡ numbers_frozen instance.now (tree plan.now) k) }
+    ensures { IfOk result (λ numbers. numbers.items
+        ≡ numbers_frozen instance.now (tree plan.now) k) }
 {
     let mut gathering = Gathering {
         plates: k,

@@ -12,7 +12,8 @@ use std::alloc::Global;
 /// The first `k` plates of a plan, and then the plates of another one. It fails only where memory runs out.
 pub fn glue(alloc: Global, plan: &Plan, k: u32, tail: &Plan) -> Result<Plan, Memory>
     requires { k ≤ neighbour_count (tree plan.now) }
-    ensures { IfOk result (λ whole. tree whole ≡ joined (first_plates k (tree plan.now)) (tree tail.now)) }
+    ensures { IfOk result (λ whole. tree whole
+        ≡ joined (first_plates k (tree plan.now)) (tree tail.now)) }
 {
     let mut plates = Run::new(alloc);
     let first = &plan.plates.as_slice()[..k as usize];

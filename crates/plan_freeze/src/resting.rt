@@ -68,7 +68,8 @@ fn widths_from(alloc: Global, instance: &Instance, k: u32) -> Result<Run<u32>, M
 /// The parameters with so many plates less.
 fn params_from(params: &Params, k: u32) -> Params
     requires { k < params.now.plates }
-    ensures { let p = params.now in HasSizes result (p.plates - k) p.width p.height p.min1 p.max1 p.min2 p.waste }
+    ensures { let p = params.now in HasSizes result
+        (p.plates - k) p.width p.height p.min1 p.max1 p.min2 p.waste }
 {
     Params {
         plates: params.plates - k,

@@ -40,7 +40,8 @@ pub(crate) fn add_cuts(marks: &mut Run<Mark>, cuts: &[Line]) -> Result<(), Memor
 
 /// Adds a ring around a defect, if there is one.
 fn add_ring(marks: &mut Run<Mark>, struck: Option<Defect>) -> Result<(), Memory>
-    ensures { OnOk result (told marks.new.items ≡ with_rings (told marks.old.items) (option_to_list struck)) }
+    ensures { OnOk result (told marks.new.items
+        ≡ with_rings (told marks.old.items) (option_to_list struck)) }
 {
     match struck {
         None => Ok(()),
@@ -58,7 +59,8 @@ pub(crate) fn add_outlines(
     outlined: &[Row],
     struck: Option<Defect>,
 ) -> Result<(), Memory>
-    ensures { OnOk result (told marks.new.items ≡ with_outlines (told marks.old.items) (option_to_list struck) outlined.now) }
+    ensures { OnOk result (told marks.new.items
+        ≡ with_outlines (told marks.old.items) (option_to_list struck) outlined.now) }
 {
     for row in outlined {
         add(marks, Mark::Outline(*row))?;
@@ -84,7 +86,8 @@ fn defect_within(defect: &Defect, width: u32, height: u32) -> Option<Defect>
 
 /// Adds a part of a defect, if there is one.
 fn add_part(marks: &mut Run<Mark>, part: Option<Defect>) -> Result<(), Memory>
-    ensures { OnOk result (told marks.new.items ≡ with_defects (told marks.old.items) (option_to_list part)) }
+    ensures { OnOk result (told marks.new.items
+        ≡ with_defects (told marks.old.items) (option_to_list part)) }
 {
     match part {
         None => Ok(()),
@@ -98,7 +101,8 @@ pub(crate) fn add_defects(
     instance: &Instance,
     plate: u32,
 ) -> Result<(), Memory>
-    ensures { OnOk result (told marks.new.items ≡ with_defects (told marks.old.items) (defects_on instance.now plate)) }
+    ensures { OnOk result (told marks.new.items
+        ≡ with_defects (told marks.old.items) (defects_on instance.now plate)) }
 {
     let width = instance.width(plate);
     let height = instance.params().height;
@@ -112,7 +116,8 @@ pub(crate) fn add_defects(
 
 /// Adds texts.
 pub(crate) fn add_labels(marks: &mut Run<Mark>, labels: &[Label]) -> Result<(), Memory>
-    ensures { OnOk result (told marks.new.items ≡ with_texts (told marks.old.items) (words_in labels.now)) }
+    ensures { OnOk result (told marks.new.items
+        ≡ with_texts (told marks.old.items) (words_in labels.now)) }
 {
     for label in labels {
         add(marks, Mark::Label(*label))?;

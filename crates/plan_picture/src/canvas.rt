@@ -27,7 +27,10 @@ pub(crate) struct Canvas {
 
 /// Adds what is drawn over the pieces of a plate, in its group.
 fn add_over(marks: &mut Run<Mark>, over: &Over, sheet: &Sheet<'_>, plate: u32) -> Result<(), Memory>
-    ensures { let b = sheet.now.instance.now in OnOk result (told marks.new.items ≡ with_defects (with_outlines (told marks.old.items) (struck_by b sheet.now.broken) over.now.outlined.items) (defects_on b plate)) }
+    ensures { let b = sheet.now.instance.now in
+        OnOk result (told marks.new.items
+        ≡ with_defects (with_outlines (told marks.old.items)
+        (struck_by b sheet.now.broken) over.now.outlined.items) (defects_on b plate)) }
 {
     add_cuts(marks, over.cuts.as_slice())?;
     add_outlines(marks, over.outlined.as_slice(), sheet.struck())?;
@@ -37,7 +40,12 @@ fn add_over(marks: &mut Run<Mark>, over: &Over, sheet: &Sheet<'_>, plate: u32) -
 impl Canvas {
     /// No elements.
     pub fn new(alloc: Global) -> Canvas
-        ensures { sketch result ≡ record { tells = untold; plate = None; words = []; outlined = [] } }
+        ensures { sketch result ≡ record {
+          tells = untold;
+          plate = None;
+          words = [];
+          outlined = [];
+        } }
     {
         Canvas {
             marks: Run::new(alloc),
@@ -48,7 +56,13 @@ impl Canvas {
 
     /// Ends the group that is open, if one is: draws over its pieces, and behind the group the texts.
     pub fn close(&mut self, alloc: Global, sheet: &Sheet<'_>) -> Result<(), Memory>
-        ensures { OnOk result (sketch self.new ≡ record { tells = closed sheet.now.instance.now sheet.now.broken (sketch self.old); plate = None; words = []; outlined = [] }) }
+        ensures { OnOk result (sketch self.new ≡ record {
+          tells = closed sheet.now.instance.now sheet.now.broken
+              (sketch self.old);
+          plate = None;
+          words = [];
+          outlined = [];
+        }) }
     {
         let over = mem::replace(&mut self.over, Over::new(alloc));
         let Some(plate) = self.plate else {
@@ -64,7 +78,8 @@ impl Canvas {
     fn open(&mut self, sheet: &Sheet<'_>, plate: u32) -> Result<(), Memory>
         requires words { (sketch self.old).words ≡ [] }
         requires outlined { (sketch self.old).outlined ≡ [] }
-        ensures { OnOk result (sketch self.new ≡ opened sheet.now.instance.now sheet.now.layout (told self.old.marks.items) plate) }
+        ensures { OnOk result (sketch self.new ≡ opened sheet.now.instance.now sheet.now.layout
+            (told self.old.marks.items) plate) }
     {
         let layout = sheet.layout;
         self.over.begin(sheet, plate)?;
@@ -80,7 +95,8 @@ impl Canvas {
 
     /// Goes to the group of a plate: ends the one that is open and begins that of the plate, unless it is open already.
     pub fn turn_to(&mut self, alloc: Global, sheet: &Sheet<'_>, plate: u32) -> Result<(), Memory>
-        ensures { OnOk result (sketch self.new ≡ turned_to sheet.now.instance.now sheet.now.broken sheet.now.layout (sketch self.old) plate) }
+        ensures { OnOk result (sketch self.new ≡ turned_to sheet.now.instance.now sheet.now.broken
+            sheet.now.layout (sketch self.old) plate) }
     {
         if self.plate == Some(plate) {
             return Ok(());
@@ -93,7 +109,9 @@ impl Canvas {
     pub fn draw(&mut self, sheet: &Sheet<'_>, family: &Family) -> Result<(), Memory>
         requires small { IsSmall family.now }
         requires named { family.now.row.kind ≡ type_number family.now.sort }
-        ensures { let b = sheet.now.instance.now in OnOk result (HasDrawn b sheet.now.broken family.now.row (look_of b family.now.sort) (sketch self.old) (sketch self.new)) }
+        ensures { let b = sheet.now.instance.now in
+            OnOk result (HasDrawn b sheet.now.broken family.now.row (look_of b family.now.sort)
+            (sketch self.old) (sketch self.new)) }
     {
         let look = sheet.look(family.sort);
         add(&mut self.marks, Mark::Piece(family.row, look))?;

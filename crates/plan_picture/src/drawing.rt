@@ -46,7 +46,9 @@ impl<'a> Visitor for Drawing<'a> {
 /// The elements of a picture up to the end of its last plate.
 fn draw(alloc: Global, sheet: &Sheet<'_>, plan: &Plan) -> Result<Run<Mark>, Memory>
     requires { Fits (tree plan.now) }
-    ensures { let b = sheet.now.instance.now in IfOk result (λ marks. IsShown b sheet.now.broken sheet.now.layout (told marks.items) (plates_in (rows_of b (tree plan.now))) (rows_of b (tree plan.now))) }
+    ensures { let b = sheet.now.instance.now in
+        IfOk result (λ marks. IsShown b sheet.now.broken sheet.now.layout (told marks.items)
+        (plates_in (rows_of b (tree plan.now))) (rows_of b (tree plan.now))) }
 {
     let mut drawing = Drawing {
         alloc,
@@ -73,7 +75,8 @@ fn elements_of(
     verdict: &Verdict,
 ) -> Result<Elements, Memory>
     requires { Fits (tree plan.now) }
-    ensures { IfOk result (λ e. IsPicture instance.now (tree plan.now) verdict.now (picture_text e.frame e.marks.items)) }
+    ensures { IfOk result (λ e. IsPicture instance.now (tree plan.now) verdict.now
+        (picture_text e.frame e.marks.items)) }
 {
     let survey = survey_of(instance, plan);
     let layout = Layout::new(survey.widest, instance.params().height);

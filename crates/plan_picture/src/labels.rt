@@ -96,7 +96,8 @@ fn letters_of_sides(row: &Row) -> u32
 
 /// Adds a line of text.
 pub(crate) fn add_line(labels: &mut Run<Label>, label: Label) -> Result<(), Memory>
-    ensures { OnOk result (words_in labels.new.items ≡ words_in labels.old.items ++ label.words ∷ []) }
+    ensures { OnOk result (words_in labels.new.items
+        ≡ words_in labels.old.items ++ label.words ∷ []) }
 {
     append(labels, label)
 }
@@ -109,7 +110,8 @@ fn add_two_lines(
     setting: Setting,
     name: Words,
 ) -> Result<(), Memory>
-    ensures { OnOk result (words_in labels.new.items ≡ words_in labels.old.items ++ name ∷ Sides row.now.width row.now.height ∷ []) }
+    ensures { OnOk result (words_in labels.new.items
+        ≡ words_in labels.old.items ++ name ∷ Sides row.now.width row.now.height ∷ []) }
 {
     add_line(labels, line(layout, row, setting, 0, name))?;
     let sides = Words::Sides(row.width, row.height);
@@ -124,7 +126,8 @@ pub(crate) fn add_item(
     number: u32,
 ) -> Result<(), Memory>
     requires { row.now.kind ≡ type_number (ItemOf number) }
-    ensures { OnOk result (AddsTrue sheet.now.instance.now row.now labels.old.items labels.new.items) }
+    ensures { OnOk result (AddsTrue sheet.now.instance.now row.now labels.old.items
+        labels.new.items) }
 {
     let layout = &sheet.layout;
     let turned = sheet.is_turned(row, number);
@@ -158,7 +161,8 @@ pub(crate) fn add_residual(
     row: &Row,
 ) -> Result<(), Memory>
     requires { row.now.kind ≡ type_number TheResidual }
-    ensures { OnOk result (AddsTrue sheet.now.instance.now row.now labels.old.items labels.new.items) }
+    ensures { OnOk result (AddsTrue sheet.now.instance.now row.now labels.old.items
+        labels.new.items) }
 {
     let layout = &sheet.layout;
     let two = fitting(layout, row, letters_of_sides(row).max(8), 2);

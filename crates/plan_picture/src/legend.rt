@@ -60,7 +60,8 @@ fn add_words(
 
 /// Adds a word of the key.
 fn add_key(marks: &mut Run<Mark>, layout: &Layout, x: u64, key: Key) -> Result<(), Memory>
-    ensures { OnOk result (told marks.new.items ≡ with_texts (told marks.old.items) (KeyOf key ∷ [])) }
+    ensures { OnOk result (told marks.new.items
+        ≡ with_texts (told marks.old.items) (KeyOf key ∷ [])) }
 {
     add_words(marks, layout, x, KEY, 100, Words::Key(key))
 }
@@ -136,7 +137,8 @@ fn add_verdict(
     instance: &Instance,
     verdict: &Verdict,
 ) -> Result<(), Memory>
-    ensures { OnOk result (told marks.new.items ≡ with_texts (told marks.old.items) (verdict_words instance.now verdict.now)) }
+    ensures { OnOk result (told marks.new.items
+        ≡ with_texts (told marks.old.items) (verdict_words instance.now verdict.now)) }
 {
     match *verdict {
         Verdict::Lawful(loss) => {
@@ -158,7 +160,10 @@ pub(crate) fn add_legend(
     verdict: &Verdict,
     counts: &Counts,
 ) -> Result<(), Memory>
-    ensures { OnOk result (told marks.new.items ≡ with_texts (told marks.old.items) (verdict_words instance.now verdict.now ++ CountsOf counts.now.plates counts.now.items ∷ key_words)) }
+    ensures { OnOk result (told marks.new.items
+        ≡ with_texts (told marks.old.items)
+        (verdict_words instance.now verdict.now
+        ++ CountsOf counts.now.plates counts.now.items ∷ key_words)) }
 {
     add_verdict(marks, layout, instance, verdict)?;
     let words = Words::Counts(counts.plates, counts.items);

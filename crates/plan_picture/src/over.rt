@@ -58,7 +58,8 @@ fn add_cut(cuts: &mut Run<Line>, family: &Family) -> Result<(), Memory>
 
 /// Adds a row, if it is the piece that breaks a rule.
 fn add_breach(outlined: &mut Run<Row>, sheet: &Sheet<'_>, row: Row) -> Result<(), Memory>
-    ensures { OnOk result (outlined.new.items ≡ outlined.old.items ++ filter (is_breach sheet.now.broken) (row ∷ [])) }
+    ensures { OnOk result (outlined.new.items
+        ≡ outlined.old.items ++ filter (is_breach sheet.now.broken) (row ∷ [])) }
 {
     if sheet.is_breach(&row) {
         append(outlined, row)
@@ -70,7 +71,8 @@ fn add_breach(outlined: &mut Run<Row>, sheet: &Sheet<'_>, row: Row) -> Result<()
 /// Adds the texts in a piece, as far as they fit.
 fn add_words(labels: &mut Run<Label>, sheet: &Sheet<'_>, family: &Family) -> Result<(), Memory>
     requires { family.now.row.kind ≡ type_number family.now.sort }
-    ensures { OnOk result (AddsTrue sheet.now.instance.now family.now.row labels.old.items labels.new.items) }
+    ensures { OnOk result (AddsTrue sheet.now.instance.now family.now.row labels.old.items
+        labels.new.items) }
 {
     match family.sort {
         Sort::Item(number) => add_item(labels, sheet, &family.row, number),
@@ -94,7 +96,8 @@ impl Over {
 
     /// Notes the text above a plate.
     pub fn begin(&mut self, sheet: &Sheet<'_>, plate: u32) -> Result<(), Memory>
-        ensures labels { OnOk result (words_in self.new.labels.items ≡ words_in self.old.labels.items ++ heading sheet.now.instance.now plate ∷ []) }
+        ensures labels { OnOk result (words_in self.new.labels.items
+            ≡ words_in self.old.labels.items ++ heading sheet.now.instance.now plate ∷ []) }
         ensures outlined { self.new.outlined.items ≡ self.old.outlined.items }
     {
         let width = sheet.instance.width(plate);
@@ -105,8 +108,11 @@ impl Over {
     pub fn note(&mut self, sheet: &Sheet<'_>, family: &Family) -> Result<(), Memory>
         requires small { IsSmall family.now }
         requires named { family.now.row.kind ≡ type_number family.now.sort }
-        ensures labels { OnOk result (AddsTrue sheet.now.instance.now family.now.row self.old.labels.items self.new.labels.items) }
-        ensures outlined { OnOk result (self.new.outlined.items ≡ self.old.outlined.items ++ filter (is_breach sheet.now.broken) (family.now.row ∷ [])) }
+        ensures labels { OnOk result (AddsTrue sheet.now.instance.now family.now.row
+            self.old.labels.items self.new.labels.items) }
+        ensures outlined { OnOk result (self.new.outlined.items
+            ≡ self.old.outlined.items ++ filter (is_breach sheet.now.broken)
+            (family.now.row ∷ [])) }
     {
         add_cut(&mut self.cuts, family)?;
         add_breach(&mut self.outlined, sheet, family.row)?;

@@ -77,7 +77,8 @@ fn write_plate(text: &mut String, number: u32, x: u64, y: u64) -> Result<(), Mem
 
 /// Writes the place and the sides of a rectangle.
 fn write_place(text: &mut String, x: u32, y: u32, width: u32, height: u32) -> Result<(), Memory>
-    ensures { OnOk result (string_bytes text.new ≡ string_bytes text.old ++ place_text x y width height) }
+    ensures { OnOk result (string_bytes text.new
+        ≡ string_bytes text.old ++ place_text x y width height) }
 {
     write!(
         text,
@@ -124,7 +125,8 @@ fn write_look_class(text: &mut String, look: &Look) -> Result<(), Memory>
 
 /// Writes what a browser shows where the pointer rests on a piece.
 fn write_title(text: &mut String, row: &Row, look: &Look) -> Result<(), Memory>
-    ensures { OnOk result (string_bytes text.new ≡ string_bytes text.old ++ title_text row.now look.now) }
+    ensures { OnOk result (string_bytes text.new
+        ≡ string_bytes text.old ++ title_text row.now look.now) }
 {
     text.push_str("<title>")?;
     write_name(text, look)?;
@@ -137,7 +139,8 @@ fn write_title(text: &mut String, row: &Row, look: &Look) -> Result<(), Memory>
 
 /// Writes the class of a row.
 fn write_row_class(text: &mut String, row: &Row, look: &Look) -> Result<(), Memory>
-    ensures { OnOk result (string_bytes text.new ≡ string_bytes text.old ++ row_class row.now look.now) }
+    ensures { OnOk result (string_bytes text.new
+        ≡ string_bytes text.old ++ row_class row.now look.now) }
 {
     text.push_str(" class=\"")?;
     write_look_class(text, look)?;
@@ -148,7 +151,8 @@ fn write_row_class(text: &mut String, row: &Row, look: &Look) -> Result<(), Memo
 
 /// Writes the rectangle of a row.
 fn write_rect(text: &mut String, row: &Row, look: &Look) -> Result<(), Memory>
-    ensures { OnOk result (string_bytes text.new ≡ string_bytes text.old ++ rect_text row.now look.now) }
+    ensures { OnOk result (string_bytes text.new
+        ≡ string_bytes text.old ++ rect_text row.now look.now) }
 {
     text.push_str("<rect")?;
     write_row_class(text, row, look)?;
@@ -159,7 +163,8 @@ fn write_rect(text: &mut String, row: &Row, look: &Look) -> Result<(), Memory>
 
 /// Writes a piece.
 fn write_piece(text: &mut String, row: &Row, look: &Look) -> Result<(), Memory>
-    ensures { OnOk result (string_bytes text.new ≡ string_bytes text.old ++ piece_text row.now look.now) }
+    ensures { OnOk result (string_bytes text.new
+        ≡ string_bytes text.old ++ piece_text row.now look.now) }
 {
     text.push_str("<g>")?;
     write_title(text, row, look)?;
@@ -181,7 +186,8 @@ fn write_cut(text: &mut String, line: &Line) -> Result<(), Memory>
 
 /// Writes the rectangle of a defect.
 fn write_defect(text: &mut String, defect: &Defect) -> Result<(), Memory>
-    ensures { OnOk result (string_bytes text.new ≡ string_bytes text.old ++ defect_text defect.now) }
+    ensures { OnOk result (string_bytes text.new
+        ≡ string_bytes text.old ++ defect_text defect.now) }
 {
     text.push_str("<rect class=\"defect\"")?;
     let width = defect.x1.saturating_sub(defect.x0);
@@ -235,7 +241,8 @@ fn write_sample(text: &mut String, x: u64, y: u64, fill: Fill) -> Result<(), Mem
 
 /// Writes the number of an item, with a letter where it is turned.
 fn write_number(text: &mut String, number: u32, turned: bool) -> Result<(), Memory>
-    ensures { OnOk result (string_bytes text.new ≡ string_bytes text.old ++ number_text number turned) }
+    ensures { OnOk result (string_bytes text.new
+        ≡ string_bytes text.old ++ number_text number turned) }
 {
     if turned {
         write!(text, "{number} T")?;
@@ -247,7 +254,8 @@ fn write_number(text: &mut String, number: u32, turned: bool) -> Result<(), Memo
 
 /// Writes the sides of a piece.
 fn write_sides(text: &mut String, width: u32, height: u32) -> Result<(), Memory>
-    ensures { OnOk result (string_bytes text.new ≡ string_bytes text.old ++ sides_text width height) }
+    ensures { OnOk result (string_bytes text.new
+        ≡ string_bytes text.old ++ sides_text width height) }
 {
     write!(text, "{width} x {height}")?;
     Ok(())
@@ -255,7 +263,8 @@ fn write_sides(text: &mut String, width: u32, height: u32) -> Result<(), Memory>
 
 /// Writes a share of the glass, given in thousandths.
 fn write_share(text: &mut String, thousandths: u64) -> Result<(), Memory>
-    ensures { OnOk result (string_bytes text.new ≡ string_bytes text.old ++ share_text thousandths) }
+    ensures { OnOk result (string_bytes text.new
+        ≡ string_bytes text.old ++ share_text thousandths) }
 {
     let whole = thousandths / 10;
     let tenth = thousandths % 10;
@@ -265,7 +274,8 @@ fn write_share(text: &mut String, thousandths: u64) -> Result<(), Memory>
 
 /// Writes what a plan loses.
 fn write_loss(text: &mut String, loss: u64, thousandths: u64) -> Result<(), Memory>
-    ensures { OnOk result (string_bytes text.new ≡ string_bytes text.old ++ words_text (Words.Loss loss thousandths)) }
+    ensures { OnOk result (string_bytes text.new
+        ≡ string_bytes text.old ++ words_text (Words.Loss loss thousandths)) }
 {
     write!(text, "loss {loss} mm&#178;, ")?;
     write_share(text, thousandths)
@@ -273,7 +283,8 @@ fn write_loss(text: &mut String, loss: u64, thousandths: u64) -> Result<(), Memo
 
 /// Writes a breach.
 fn write_breach(text: &mut String, broken: &Broken) -> Result<(), Memory>
-    ensures { OnOk result (string_bytes text.new ≡ string_bytes text.old ++ breach_text broken.now) }
+    ensures { OnOk result (string_bytes text.new
+        ≡ string_bytes text.old ++ breach_text broken.now) }
 {
     let word = broken.rule.word();
     let (plate, node) = (broken.plate, broken.node);
@@ -293,7 +304,8 @@ fn write_item(
     width: u32,
     height: u32,
 ) -> Result<(), Memory>
-    ensures { OnOk result (string_bytes text.new ≡ string_bytes text.old ++ words_text (Words.Item number turned width height)) }
+    ensures { OnOk result (string_bytes text.new
+        ≡ string_bytes text.old ++ words_text (Words.Item number turned width height)) }
 {
     text.push_str("<tspan class=\"number\">")?;
     write_number(text, number, turned)?;
@@ -369,7 +381,8 @@ fn write_mark(text: &mut String, mark: &Mark) -> Result<(), Memory>
 
 /// Writes the elements of a picture one after the other.
 fn write_marks(text: &mut String, marks: &[Mark]) -> Result<(), Memory>
-    ensures { OnOk result (string_bytes text.new ≡ string_bytes text.old ++ flat_map mark_text marks.now) }
+    ensures { OnOk result (string_bytes text.new
+        ≡ string_bytes text.old ++ flat_map mark_text marks.now) }
 {
     for mark in marks {
         write_mark(text, mark)?;

@@ -11,9 +11,10 @@ use Rattle.cut_model.specs.Traces.{Sides, next_kind, steps_in}
 use Rattle.cut_model.proofs.Cutting.{items_in}
 use Rattle.loss_area.proofs.Areas.{hold_of}
 use Rattle.cut_model.proofs.TracesTold.{next_append, next_same}
+use Rattle.defect_map.specs.Queries.{CrossesNoneY}
 use Rattle.plan_trace.specs.Marks.{Level, level_of, begins, Draw, Cut}
 use Rattle.plan_trace.specs.inner.Shape.{AreBands}
-use Rattle.plan_trace.specs.TraceRules.{Gap, CrossesNoneY, is_last_strip, is_last_band}
+use Rattle.plan_trace.specs.TraceRules.{Gap, is_last_strip, is_last_band}
 use Rattle.plan_trace.proofs.Ahead.{levels_of, AreBroad, passes, ahead, gap_more, next_some, next_at_most, left_none, right_none}
 use Rattle.plan_trace.proofs.Placing.{Meeting, Due, Follows, Now, OnPlate, InStrip}
 use Rattle.plan_trace.proofs.Cells.{Closing, area_y, band_sides, border_y, cell_meets, cells_meet, strip_passes}

@@ -15,9 +15,10 @@ use Rattle.cut_model.specs.Traces.{Sides, next_kind, step_of, steps_in}
 use Rattle.cut_model.proofs.Cutting.{items_in}
 use Rattle.loss_area.proofs.Areas.{hold_of}
 use Rattle.cut_model.proofs.TracesTold.{next_append, next_same}
+use Rattle.defect_map.specs.Queries.{HitsNone, CrossesNoneX, CrossesNoneY}
 use Rattle.plan_trace.specs.Marks.{Level, Over, level_of, Draw, Cut}
 use Rattle.plan_trace.specs.inner.Shape.{AreLeaves, AreCells}
-use Rattle.plan_trace.specs.TraceRules.{Gap, HitsNone, CrossesNoneX, CrossesNoneY, is_last_strip, is_last_band, is_last_cell}
+use Rattle.plan_trace.specs.TraceRules.{Gap, is_last_strip, is_last_band, is_last_cell}
 use Rattle.plan_trace.proofs.Ahead.{levels_of, AreBroad, Passes, passes, ahead, gap_more, next_some}
 use Rattle.plan_trace.proofs.Placing.{Meeting, Due, Follows, Now, OnPlate, InStrip, Behind, Turns, item_meets, over_meets}
 

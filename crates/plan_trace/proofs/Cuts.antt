@@ -14,8 +14,9 @@ use Rattle.cut_model.specs.Tree.{Forest, nothing, piece, is_nothing, holds_item,
 use Rattle.cut_model.specs.declared.steps.Step.{Step}
 use Rattle.cut_model.specs.Families.{families_of}
 use Rattle.cut_model.specs.Rules.{KeepsCutRules}
+use Rattle.defect_map.specs.Queries.{HitsNone, CrossesNoneX, CrossesNoneY}
 use Rattle.plan_trace.specs.Marks.{Level, NewPlate, NewStrip, NewBand, NewCell, Over, Spot, spot, Cut, cut, no_cut, no_place, place_of, draw_of, marks, attach, levels}
-use Rattle.plan_trace.specs.TraceRules.{Rules, EachStep, Gap, AloneFits, bottom, Meets, LiftLine, HitsNone, CrossesNoneX, CrossesNoneY, is_last_cell, is_last_band, is_last_in_cell, Inherits}
+use Rattle.plan_trace.specs.TraceRules.{Rules, EachStep, Gap, AloneFits, bottom, Meets, LiftLine, is_last_cell, is_last_band, is_last_in_cell, Inherits}
 use Rattle.plan_trace.specs.Canonical.{Grown, grown, canonical, gap, start_of, end_sort, hoisted, cell_pieces, item_id}
 use Rattle.plan_trace.proofs.Totals.{Totals, gap_total}
 use Rattle.plan_trace.proofs.Items.{IsItemOf, high, item_all, wide}

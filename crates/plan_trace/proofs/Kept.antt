@@ -15,9 +15,9 @@ use Rattle.cut_model.specs.Tree.{Forest, nothing, piece, is_nothing, holds_item,
 use Rattle.cut_model.specs.Families.{families, family_with, row_at, inside, behind, side_along, turned}
 use Rattle.cut_model.specs.Order.{item_with}
 use Rattle.cut_model.specs.Rules.{IsTurnOf, HasBandHeight, HasClearBorder, HasStripWidth, HasItsSides, AvoidsDefects, KeepsCutRules}
+use Rattle.defect_map.specs.Queries.{HitsNone, CrossesNoneX, CrossesNoneY}
 use Rattle.plan_trace.specs.Canonical.{gap, hoisted}
 use Rattle.plan_trace.specs.Marks.{item_width, item_height}
-use Rattle.plan_trace.specs.TraceRules.{HitsNone, CrossesNoneX, CrossesNoneY}
 
 abbrev family_at : Row → Sort → Along → Bool → Bool → Children → Family
 family_at row sort along first ends children = record { row = row; sort = sort; along = along; first = first; ends = ends; children = children }

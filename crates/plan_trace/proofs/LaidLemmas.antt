@@ -1,7 +1,5 @@
 -- Steps one after another, as loops go over them.
-use Rattle.std.proofs.Common.{◌≡◌, ℕ, ◌+◌, ◌<◌, ◌≤◌, List, [], ◌∷◌, ◌++◌, length, take, drop, get_or, refl, ap, ◌∙◌, arith, true, false, Bool, not, IsTrue, All, ◌↔◌}
-use Rattle.std.specs.List.{list_any}
-use Rattle.std.proofs.lemmas.List.Folds.{list_any_at, Any-from_list_any}
+use Rattle.std.proofs.Common.{◌≡◌, ℕ, ◌+◌, ◌<◌, ◌≤◌, List, [], ◌∷◌, ◌++◌, length, take, drop, get_or, refl, ap, ◌∙◌, arith, true, false, Bool, IsTrue, ◌↔◌}
 use Rattle.std.proofs.lemmas.List.{at_drop_more, take_more}
 use Rattle.glass_base.specs.Problem.{Problem}
 use Rattle.glass_base.specs.declared.item.Defect.{Defect}
@@ -47,24 +45,6 @@ draws_some (s ∷ steps) kind e = begun_later steps (draw_of s) [] kind
 pub levels_ahead : (later : List Step) → levels (ahead later) ≡ levels_of later
 levels_ahead [] = refl
 levels_ahead (s ∷ later) = ap (λ l. level_of s.kind ∷ l) (levels_ahead later)
-
--- no element passes a test
-pub none_passes : {A : Type 0} (p : A → Bool) (xs : List A) → IsTrue (not (list_any p xs)) ↔ All (λ x. ¬ IsTrue (p x)) xs
-none_passes p xs = (to, from)
-  where
-    to : IsTrue (not (list_any p xs)) → All (λ x. ¬ IsTrue (p x)) xs
-    to h k d lt hit = by (list_any p xs) (list_any_at p xs k d lt hit) h
-      where
-        by : (b : Bool) → b ≡ true → IsTrue (not b) → ⊥
-        by true e h = cc
-        by false e h = cc
-
-    from : All (λ x. ¬ IsTrue (p x)) xs → IsTrue (not (list_any p xs))
-    from none = by (list_any p xs) refl
-      where
-        by : (b : Bool) → list_any p xs ≡ b → IsTrue (not b)
-        by false e = refl
-        by true e = let found = Any-from_list_any p xs e in absurd (none found.0 found.1 found.2 (ap p found.3 ∙ found.4))
 
 -- the lines of a step, one after another
 pub lines_clear : (b : Problem) (defects : List Defect) (l : Level) (s : Cut) →

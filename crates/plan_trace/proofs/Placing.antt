@@ -12,8 +12,9 @@ use Rattle.cut_model.specs.declared.steps.Step.{Step}
 use Rattle.cut_model.specs.Order.{item_with}
 use Rattle.cut_model.specs.Steps.{plates_after}
 use Rattle.cut_model.specs.Traces.{Sides, turn_in, step_of}
+use Rattle.defect_map.specs.Queries.{HitsNone, CrossesNoneX, CrossesNoneY}
 use Rattle.plan_trace.specs.Marks.{Level, NewCell, Over, level_of, begins, Draw, drawn, Place, Cut, Spot, draw_of, item_width, item_height, cell_width, place_of, marks, attach, levels}
-use Rattle.plan_trace.specs.TraceRules.{Gap, HitsNone, CrossesNoneX, CrossesNoneY, is_last_strip, is_last_band, is_last_cell, is_last_in_cell, AloneFits, StripFits, BandFits, CellFits, LiftLine, TR9, bottom, Rules, EachStep}
+use Rattle.plan_trace.specs.TraceRules.{Gap, is_last_strip, is_last_band, is_last_cell, is_last_in_cell, AloneFits, StripFits, BandFits, CellFits, LiftLine, TR9, bottom, Rules, EachStep}
 use Rattle.plan_trace.proofs.Ahead.{levels_of, levels_later}
 
 -- the steps from a state on keep the rules: the draws before them, and the step before them with its level

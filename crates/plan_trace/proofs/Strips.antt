@@ -13,9 +13,10 @@ use Rattle.cut_model.specs.Traces.{Sides, next_kind, step_of, steps_in}
 use Rattle.cut_model.proofs.Cutting.{items_in}
 use Rattle.loss_area.proofs.Areas.{hold_of}
 use Rattle.cut_model.proofs.TracesTold.{next_append, next_same}
+use Rattle.defect_map.specs.Queries.{HitsNone, CrossesNoneX}
 use Rattle.plan_trace.specs.Marks.{Level, level_of, Draw, Cut}
 use Rattle.plan_trace.specs.inner.Shape.{AreStrips}
-use Rattle.plan_trace.specs.TraceRules.{Gap, HitsNone, CrossesNoneX, is_last_strip}
+use Rattle.plan_trace.specs.TraceRules.{Gap, is_last_strip}
 use Rattle.plan_trace.proofs.Ahead.{levels_of, AreBroad, ahead, gap_more, next_some, next_at_most}
 use Rattle.plan_trace.proofs.Placing.{Meeting, Due, Follows, Now, OnPlate, Turns, item_meets}
 use Rattle.plan_trace.proofs.Cells.{area_x, border_x, now_behind}

@@ -8,6 +8,7 @@ use Rattle.cut_model.specs.declared.steps.Step.{Step}
 use Rattle.cut_model.specs.Tree.{Forest, nothing, piece}
 use Rattle.cut_model.specs.Traces.{trace_of}
 use Rattle.cut_model.proofs.Examples.{usual}
+use Rattle.plan_trace.specs.declared.trace_rule.TraceRule.{TraceRule}
 use Rattle.plan_trace.specs.Broken.{RuleAt}
 use Rattle.plan_trace.specs.Canonical.{canonical}
 
@@ -81,5 +82,6 @@ unfolding Width
 three_traced = refl
 
 -- a band that is too low breaks the fifth rule at its step
-low_band : RuleAt (batch (item 0 50 50 ∷ []) (6000 ∷ []) (0 ∷ [])) (step 0 0 0 0 100 0 60 0 ∷ []) 5 0 → ⊥
+low_band :
+    RuleAt (batch (item 0 50 50 ∷ []) (6000 ∷ []) (0 ∷ [])) (step 0 0 0 0 100 0 60 0 ∷ []) TraceRule.TR5 0 → ⊥
 low_band rule = omega (arith, rule.1)

@@ -1,5 +1,5 @@
 -- Steps as code carries them are the placed steps, in all that rules read.
-use Rattle.std.proofs.Common.{◌≡◌, ℕ, zero, suc, ◌+◌, ◌<◌, ◌≤◌, ◌↔◌, List, [], ◌∷◌, length, map, take, drop, get_or, refl, sym, ap, subst, arith, IsTrue, true, zero-add, ◌⊎◌, inl, inr}
+use Rattle.std.proofs.Common.{◌≡◌, ℕ, zero, suc, ◌+◌, ◌<◌, ◌≤◌, ◌↔◌, List, [], ◌∷◌, All, length, map, take, drop, get_or, refl, sym, ap, subst, arith, IsTrue, true, zero-add, ◌⊎◌, inl, inr}
 use Rattle.std.proofs.lemmas.Bool.{cases_order}
 use Rattle.std.proofs.lemmas.List.{at_drop_more}
 use Rattle.glass_base.specs.declared.params.Params.{Params}
@@ -10,8 +10,9 @@ use Rattle.glass_base.proofs.PlateLemmas.{width_within}
 use Rattle.cut_model.specs.declared.steps.Step.{Step}
 use Rattle.cut_model.specs.Steps.{plates_after}
 use Rattle.plan_trace.specs.declared.laid.Laid.{Laid}
+use Rattle.plan_trace.specs.declared.trace_rule.TraceRule.{TraceRule}
 use Rattle.plan_trace.specs.Marks.{Level, NewPlate, NewStrip, NewBand, NewCell, Over, level_of, Draw, draw_of, Place, place_of, begins, marks, attach, levels, Cut, cut, no_cut, Spot, spot, spots}
-use Rattle.plan_trace.specs.TraceRules.{RuleOf, EachStep, TR3, TR4, TR5, TR6, TR7, TR9, StripFits, BandFits, CellFits, LiftLine, AloneFits, is_last_in_cell}
+use Rattle.plan_trace.specs.TraceRules.{KeepsTraceRule, EachStep, TR3, TR4, TR5, TR6, TR7, TR9, StripFits, BandFits, CellFits, LiftLine, AloneFits, is_last_in_cell, trace_rules}
 use Rattle.plan_trace.specs.Broken.{AtStep, RuleAt, RuleHolds}
 use Rattle.plan_trace.specs.inner.Laid.{ahead, cut_of, draws_of, next_laid, no_laid, IsFitted}
 use Rattle.plan_trace.proofs.Breaches.{at_each, each_size}
@@ -106,17 +107,19 @@ same9 b defects l s =
       (λ r. record { at_a = r.at_a; at_b = r.at_b; at_c = r.at_c; at_d = r.at_d; at_e = r.at_e; at_end = r.at_end; at_lift = line.1 r.at_lift }),
     )
 
-same_rule : (b : Problem) (n : ℕ) (m : Level) (t : Cut) (l : Level) (s : Cut) (later other : List Spot) → levels later ≡ levels other → RuleOf b n m t l s later ↔ RuleOf b n m (seen t) l (seen s) other
-same_rule b zero m t l s later other e = ((λ h. h), (λ h. h))
-same_rule b (suc zero) m t l s later other e = ((λ h. h), (λ h. h))
-same_rule b (suc (suc zero)) m t l s later other e = ((λ h. h), (λ h. h))
-same_rule b (suc (suc (suc zero))) m t l s later other e = same3 l t s
-same_rule b (suc (suc (suc (suc zero)))) m t l s later other e = same4 b l t s later other e
-same_rule b (suc (suc (suc (suc (suc zero))))) m t l s later other e = same5 b.params l t s later other e
-same_rule b (suc (suc (suc (suc (suc (suc zero)))))) m t l s later other e = same6 b.params l t s later other e
-same_rule b (suc (suc (suc (suc (suc (suc (suc zero))))))) m t l s later other e = same7 b.params m l t s later other e
-same_rule b (suc (suc (suc (suc (suc (suc (suc (suc zero)))))))) m t l s later other e = ((λ h. h), (λ h. h))
-same_rule b (suc (suc (suc (suc (suc (suc (suc (suc (suc n))))))))) m t l s later other e = same9 b b.defects l s
+-- no rule reads the rest
+same_rule : (b : Problem) (rule : TraceRule) (m : Level) (t : Cut) (l : Level) (s : Cut) →
+    (later other : List Spot) → levels later ≡ levels other →
+    KeepsTraceRule b rule m t l s later ↔ KeepsTraceRule b rule m (seen t) l (seen s) other
+same_rule b TraceRule.TR1 m t l s later other e = ((λ h. h), (λ h. h))
+same_rule b TraceRule.TR2 m t l s later other e = ((λ h. h), (λ h. h))
+same_rule b TraceRule.TR3 m t l s later other e = same3 l t s
+same_rule b TraceRule.TR4 m t l s later other e = same4 b l t s later other e
+same_rule b TraceRule.TR5 m t l s later other e = same5 b.params l t s later other e
+same_rule b TraceRule.TR6 m t l s later other e = same6 b.params l t s later other e
+same_rule b TraceRule.TR7 m t l s later other e = same7 b.params m l t s later other e
+same_rule b TraceRule.TR8 m t l s later other e = ((λ h. h), (λ h. h))
+same_rule b TraceRule.TR9 m t l s later other e = same9 b b.defects l s
 
 -- the placed steps behind some draws and a place
 abbrev pub tail_of : Problem → List Draw → Place → List Step → List Spot
@@ -144,7 +147,10 @@ pub record Walked (b : Problem) (ss : List Step) (i : ℕ) (last : Laid) : Type 
   pub cut_is : cut_of last ≡ seen at
   pub few : last.plates ≤ i
   -- the rules from here on, and a fact of the placed steps from here on
-  pub rules_there : (n j : ℕ) → AtStep (RuleOf b n) NewPlate no_cut (spots b ss) (i + j) ↔ AtStep (RuleOf b n) level at (tail_of b (draws_of (take i ss)) at.place (drop i ss)) j
+  pub rules_there :
+      (rule : TraceRule) (j : ℕ) →
+      AtStep (KeepsTraceRule b rule) NewPlate no_cut (spots b ss) (i + j)
+      ↔ AtStep (KeepsTraceRule b rule) level at (tail_of b (draws_of (take i ss)) at.place (drop i ss)) j
   pub fits_there : (j : ℕ) → AtStep (λ _ _ _ s _. IsLying s) NewPlate no_cut (spots b ss) (i + j) → AtStep (λ _ _ _ s _. IsLying s) level at (tail_of b (draws_of (take i ss)) at.place (drop i ss)) j
 
 pub walk_start : (b : Problem) (ss : List Step) → Walked b ss 0 no_laid
@@ -154,7 +160,7 @@ walk_start b ss = record {
   level_is = refl;
   cut_is = refl;
   few = omega arith;
-  rules_there = λ n j. ((λ h. rw zero-add at h), (λ h. rw zero-add h));
+  rules_there = λ rule j. ((λ h. rw zero-add at h), (λ h. rw zero-add h));
   fits_there = λ j h. rw zero-add at h;
 }
 
@@ -188,11 +194,12 @@ walk_next b ss i d last lt h =
       level_is = refl;
       cut_is = next_seen b before last h.at s h.cut_is;
       few = plates_few s.kind last.plates i h.few;
-      rules_there = λ n j. (
-          let there = h.rules_there n (suc j) in
-          let on = next_there (RuleOf b n) b ss i d h.level h.at lt j in (
-            (λ x. on.0 (there.0 (subst (AtStep (RuleOf b n) NewPlate no_cut (spots b ss)) (more j) x))),
-            (λ y. subst (AtStep (RuleOf b n) NewPlate no_cut (spots b ss)) (sym (more j)) (there.1 (on.1 y))),
+      rules_there = λ rule j. (
+          let Keeps : ℕ → Type 0 = AtStep (KeepsTraceRule b rule) NewPlate no_cut (spots b ss) in
+          let there = h.rules_there rule (suc j) in
+          let on = next_there (KeepsTraceRule b rule) b ss i d h.level h.at lt j in (
+            (λ x. on.0 (there.0 (subst Keeps (more j) x))),
+            (λ y. subst Keeps (sym (more j)) (there.1 (on.1 y))),
           ));
       fits_there = λ j x.
           (next_there (λ _ _ _ s _. IsLying s) b ss i d h.level h.at lt j).0
@@ -200,21 +207,26 @@ walk_next b ss i d last lt h =
     }
 
 -- what a test of a step says of the trace
-pub rule_here : (b : Problem) (ss : List Step) (i n : ℕ) (d : Step) (last : Laid) → i < length ss → Walked b ss i last →
+pub rule_here : (b : Problem) (ss : List Step) (i : ℕ) (rule : TraceRule) (d : Step) (last : Laid) →
+    i < length ss → Walked b ss i last →
     let here : Laid = next_laid b (draws_of (take i ss)) last (get_or ss i d) in
-    RuleAt b ss n i ↔ RuleOf b n last.level (cut_of last) here.level (cut_of here) (ahead (drop (i + 1) ss))
-rule_here b ss i n d last lt h =
+    RuleAt b ss rule i
+    ↔ KeepsTraceRule b rule last.level (cut_of last) here.level (cut_of here) (ahead (drop (i + 1) ss))
+rule_here b ss i rule d last lt h =
     let before : List Draw = draws_of (take i ss) in
     let s : Step = get_or ss i d in
     let now : Cut = cut (place_of b before h.at.place (draw_of s)) s in
     let here : drop i ss ≡ s ∷ drop (i + 1) ss = at_drop_more (λ xs. xs) ss i d lt in
     let rest : List Spot = tail_of b (draw_of s ∷ before) now.place (drop (i + 1) ss) in
-    let same = same_rule b n h.level h.at (begins before s.kind) now rest (ahead (drop (i + 1) ss)) (tail_levels b (draw_of s) before now.place (drop (i + 1) ss)) in
-    let there = h.rules_there n 0 in
+    let levels_are = tail_levels b (draw_of s) before now.place (drop (i + 1) ss) in
+    let level : Level = begins before s.kind in
+    let same = same_rule b rule h.level h.at level now rest (ahead (drop (i + 1) ss)) levels_are in
+    let Keeps : ℕ → Type 0 = AtStep (KeepsTraceRule b rule) NewPlate no_cut (spots b ss) in
+    let there = h.rules_there rule 0 in
     let plain : i + 0 ≡ i = omega arith in
     let seen_now = next_seen b before last h.at s h.cut_is in (
-      (λ x. rw (h.level_is, h.cut_is, seen_now) (same.0 (rw here at (there.0 (subst (AtStep (RuleOf b n) NewPlate no_cut (spots b ss)) (sym plain) x))))),
-      (λ y. subst (AtStep (RuleOf b n) NewPlate no_cut (spots b ss)) plain (there.1 (rw here (same.1 (rw (h.level_is, h.cut_is, seen_now) at y))))),
+      (λ x. rw (h.level_is, h.cut_is, seen_now) (same.0 (rw here at (there.0 (subst Keeps (sym plain) x))))),
+      (λ y. subst Keeps plain (there.1 (rw here (same.1 (rw (h.level_is, h.cut_is, seen_now) at y))))),
     )
 
 cell_tall : (waste : ℕ) (l : Level) (t s : Place) → Adds waste l t s → s.h ≤ s.cell_h
@@ -243,7 +255,8 @@ lying_from b rules m t (spot l s ∷ later) ok items =
     )
 
 -- where the rules on sizes are kept the items lie in their places
-pub lying_all : (b : Problem) → IsProblem b → (ss : List Step) → ((n : ℕ) → n ≤ 7 → RuleHolds b ss n) → EachStep (λ _ _ _ s _. IsLying s) NewPlate no_cut (spots b ss)
+pub lying_all : (b : Problem) → IsProblem b → (ss : List Step) → All (RuleHolds b ss) (take 7 trace_rules) →
+    EachStep (λ _ _ _ s _. IsLying s) NewPlate no_cut (spots b ss)
 lying_all b rules ss h =
     let sizes = each_size b NewPlate no_cut (spots b ss) h in
     lying_from b rules NewPlate no_cut (spots b ss) (sized_sound b ss sizes) (items_all b rules [] NewPlate no_cut ss sizes)
@@ -270,15 +283,8 @@ each_before R m t [] h = tt
 each_before R m t (spot l s ∷ later) h = (h 0 (omega arith), each_before R l s later (λ j lt. h (suc j) (omega (arith, lt))))
 
 -- a rule that each step keeps is kept
-pub all_kept : (b : Problem) (ss : List Step) (n i : ℕ) → length ss ≤ i → ((j : ℕ) → j < i → RuleAt b ss n j) → RuleHolds b ss n
-all_kept b ss n i le h = each_before (RuleOf b n) NewPlate no_cut (spots b ss) (λ j lt. h j (omega (arith, lt, le, spots_count b [] no_cut ss)))
-
--- there is no rule 0
-pub none_kept : (b : Problem) (ss : List Step) (n : ℕ) → n < 1 → RuleHolds b ss n
-none_kept b ss zero lt = each_before (RuleOf b 0) NewPlate no_cut (spots b ss) (λ j _. nothing_asked NewPlate no_cut (spots b ss) j)
-  where
-    nothing_asked : (m : Level) (t : Cut) (xs : List Spot) (j : ℕ) → AtStep (RuleOf b 0) m t xs j
-    nothing_asked m t [] j = tt
-    nothing_asked m t (spot l s ∷ later) zero = tt
-    nothing_asked m t (spot l s ∷ later) (suc j) = nothing_asked l s later j
-none_kept b ss (suc n) lt = absurd (omega (arith, lt))
+pub all_kept : (b : Problem) (ss : List Step) (rule : TraceRule) (i : ℕ) → length ss ≤ i →
+    ((j : ℕ) → j < i → RuleAt b ss rule j) → RuleHolds b ss rule
+all_kept b ss rule i le h =
+    each_before (KeepsTraceRule b rule) NewPlate no_cut (spots b ss)
+    (λ j lt. h j (omega (arith, lt, le, spots_count b [] no_cut ss)))

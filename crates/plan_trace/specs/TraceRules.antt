@@ -1,11 +1,12 @@
 -- The nine rules of a trace, each at one step.
-use Rattle.std.specs.Prelude.{◌≡◌, ℕ, zero, suc, ◌+◌, ◌-◌, ◌<◌, ◌≤◌, ◌⊎◌, List, [], ◌∷◌, IsSome, Bool, true, false, IsTrue, All}
+use Rattle.std.specs.Prelude.{◌≡◌, ℕ, zero, ◌+◌, ◌-◌, ◌<◌, ◌≤◌, ◌⊎◌, List, [], ◌∷◌, IsSome, Bool, true, false, IsTrue}
 use Rattle.glass_base.specs.declared.params.Params.{Params}
 use Rattle.glass_base.specs.declared.item.Defect.{Defect}
-use Rattle.glass_base.specs.Defects.{hits, crosses_x, crosses_y}
 use Rattle.glass_base.specs.Plates.{Width}
 use Rattle.glass_base.specs.Problem.{Problem}
 use Rattle.cut_model.specs.declared.steps.Step.{Step}
+use Rattle.defect_map.specs.Queries.{HitsNone, CrossesNoneX, CrossesNoneY}
+use Rattle.plan_trace.specs.declared.trace_rule.TraceRule.{TraceRule}
 use Rattle.plan_trace.specs.Marks.{Level, NewPlate, NewStrip, NewBand, NewCell, Over, Cut, no_cut, Spot, spot, spots, levels}
 
 -- whether a strip has no later strip on its plate, by the levels of the later steps; `end` where no step is left to tell
@@ -39,18 +40,6 @@ is_last_in_cell end (_ ∷ _) = true
 -- nothing lies between, or at least the least waste
 abbrev pub Gap : ℕ → ℕ → ℕ → Type 0
 Gap waste from to = (from ≡ to) ⊎ (from + waste ≤ to)
-
--- the inside of the rectangle meets the inside of no defect of the plate
-abbrev pub HitsNone : List Defect → ℕ → ℕ → ℕ → ℕ → ℕ → Type 0
-HitsNone defects plate x0 y0 x1 y1 = All (λ d. ¬ IsTrue (hits plate x0 y0 x1 y1 d)) defects
-
--- the upright line at x runs through the inside of no defect of the plate
-abbrev pub CrossesNoneX : List Defect → ℕ → ℕ → ℕ → ℕ → Type 0
-CrossesNoneX defects plate x y0 y1 = All (λ d. ¬ IsTrue (crosses_x plate x y0 y1 d)) defects
-
--- the level line at y runs through the inside of no defect of the plate
-abbrev pub CrossesNoneY : List Defect → ℕ → ℕ → ℕ → ℕ → Type 0
-CrossesNoneY defects plate y x0 x1 = All (λ d. ¬ IsTrue (crosses_y plate y x0 x1 d)) defects
 
 -- TR1: a plate has been begun, and not too many; the kind is one of the five
 abbrev pub TR1 : Params → Cut → Type 0
@@ -153,18 +142,43 @@ pub record TR9 (b : Problem) (defects : List Defect) (l : Level) (s : Cut) : Typ
   pub at_end : s.e + s.w < s.b → CrossesNoneX defects s.plate (s.e + s.w) s.c s.d
   pub at_lift : LiftLine defects l s.draw.lift s
 
--- the rule of this number at a step `s` of level `l`, the step before it and its level, and the later steps
-abbrev pub RuleOf : Problem → ℕ → Level → Cut → Level → Cut → List Spot → Type 0
-RuleOf b zero m t l s later = Unit {0}
-RuleOf b (suc zero) m t l s later = TR1 b.params s
-RuleOf b (suc (suc zero)) m t l s later = TR2 s
-RuleOf b (suc (suc (suc zero))) m t l s later = TR3 l t s
-RuleOf b (suc (suc (suc (suc zero)))) m t l s later = TR4 b l t s later
-RuleOf b (suc (suc (suc (suc (suc zero))))) m t l s later = TR5 b.params l t s later
-RuleOf b (suc (suc (suc (suc (suc (suc zero)))))) m t l s later = TR6 b.params l t s later
-RuleOf b (suc (suc (suc (suc (suc (suc (suc zero))))))) m t l s later = TR7 b.params m l t s later
-RuleOf b (suc (suc (suc (suc (suc (suc (suc (suc zero)))))))) m t l s later = TR8 b.defects l s
-RuleOf b _ m t l s later = TR9 b b.defects l s
+-- the rules in the order in which they are asked
+abbrev pub trace_rules : List TraceRule
+trace_rules =
+    TraceRule.TR1
+    ∷ TraceRule.TR2
+    ∷ TraceRule.TR3
+    ∷ TraceRule.TR4
+    ∷ TraceRule.TR5
+    ∷ TraceRule.TR6
+    ∷ TraceRule.TR7
+    ∷ TraceRule.TR8
+    ∷ TraceRule.TR9
+    ∷ []
+
+-- their numbers, from 1 on
+abbrev pub rule_number : TraceRule → ℕ
+rule_number TraceRule.TR1 = 1
+rule_number TraceRule.TR2 = 2
+rule_number TraceRule.TR3 = 3
+rule_number TraceRule.TR4 = 4
+rule_number TraceRule.TR5 = 5
+rule_number TraceRule.TR6 = 6
+rule_number TraceRule.TR7 = 7
+rule_number TraceRule.TR8 = 8
+rule_number TraceRule.TR9 = 9
+
+-- a rule at a step `s` of level `l`, the step before it and its level, and the later steps
+abbrev pub KeepsTraceRule : Problem → TraceRule → Level → Cut → Level → Cut → List Spot → Type 0
+KeepsTraceRule b TraceRule.TR1 m t l s later = TR1 b.params s
+KeepsTraceRule b TraceRule.TR2 m t l s later = TR2 s
+KeepsTraceRule b TraceRule.TR3 m t l s later = TR3 l t s
+KeepsTraceRule b TraceRule.TR4 m t l s later = TR4 b l t s later
+KeepsTraceRule b TraceRule.TR5 m t l s later = TR5 b.params l t s later
+KeepsTraceRule b TraceRule.TR6 m t l s later = TR6 b.params l t s later
+KeepsTraceRule b TraceRule.TR7 m t l s later = TR7 b.params m l t s later
+KeepsTraceRule b TraceRule.TR8 m t l s later = TR8 b.defects l s
+KeepsTraceRule b TraceRule.TR9 m t l s later = TR9 b b.defects l s
 
 -- all rules at one step
 pub record Rules (b : Problem) (m : Level) (t : Cut) (l : Level) (s : Cut) (later : List Spot) : Type 0 where

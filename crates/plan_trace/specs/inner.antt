@@ -1,3 +1,4 @@
+pub mod Asked
 pub mod Laid
 pub mod Piles
 pub mod Shape

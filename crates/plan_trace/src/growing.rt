@@ -50,7 +50,8 @@ fn size_between(from: u64, to: u32) -> u32
 
 /// Puts a waste before cells, where there is glass between two places.
 fn put_cell_waste(cells: &mut Run<Piece3>, from: u64, to: u32) -> Result<(), Memory>
-    ensures { OnOk result (cells_pile cells.new.items ≡ gap from to sort.Waste (cells_pile cells.old.items)) }
+    ensures { OnOk result (cells_pile cells.new.items
+        ≡ gap from to sort.Waste (cells_pile cells.old.items)) }
 {
     if from != u64::from(to) {
         append(
@@ -66,7 +67,8 @@ fn put_cell_waste(cells: &mut Run<Piece3>, from: u64, to: u32) -> Result<(), Mem
 
 /// Puts a waste before bands, where there is glass between two places.
 fn put_band_waste(bands: &mut Run<Piece2>, from: u64, to: u32) -> Result<(), Memory>
-    ensures { OnOk result (bands_pile bands.new.items ≡ gap from to sort.Waste (bands_pile bands.old.items)) }
+    ensures { OnOk result (bands_pile bands.new.items
+        ≡ gap from to sort.Waste (bands_pile bands.old.items)) }
 {
     if from != u64::from(to) {
         append(
@@ -83,7 +85,8 @@ fn put_band_waste(bands: &mut Run<Piece2>, from: u64, to: u32) -> Result<(), Mem
 /// Puts a piece of this kind before strips, where there is glass between two places.
 fn put_rest(strips: &mut Run<Piece1>, from: u64, to: u32, body: Body1) -> Result<(), Memory>
     requires { inner1 body ≡ nothing }
-    ensures { OnOk result (strips_pile strips.new.items ≡ gap from to (sort1 body) (strips_pile strips.old.items)) }
+    ensures { OnOk result (strips_pile strips.new.items
+        ≡ gap from to (sort1 body) (strips_pile strips.old.items)) }
 {
     if from != u64::from(to) {
         append(
@@ -230,8 +233,10 @@ fn add_cell(growth: &mut Growth, s: &Laid) -> Result<(), Memory>
 
 /// What becomes of the cells that have grown, as a band from this left side on.
 fn take_band(alloc: Global, growth: &mut Growth, left: u32) -> Result<Body2, Memory>
-    ensures sort { IfOk result (λ body. sort2 body ≡ hoisted_sort (gap left growth.old.from sort.Waste (cells_pile growth.old.cells.items))) }
-    ensures inner { IfOk result (λ body. inner2 body ≡ hoisted_inner (gap left growth.old.from sort.Waste (cells_pile growth.old.cells.items))) }
+    ensures sort { IfOk result (λ body. sort2 body
+        ≡ hoisted_sort (gap left growth.old.from sort.Waste (cells_pile growth.old.cells.items))) }
+    ensures inner { IfOk result (λ body. inner2 body
+        ≡ hoisted_inner (gap left growth.old.from sort.Waste (cells_pile growth.old.cells.items))) }
     ensures rest { IfOk result (λ _. grown_of growth.new ≡ without_cells (grown_of growth.old)) }
 {
     put_cell_waste(&mut growth.cells, u64::from(left), growth.from)?;
@@ -241,7 +246,8 @@ fn take_band(alloc: Global, growth: &mut Growth, left: u32) -> Result<Body2, Mem
 
 /// Puts the band of a step, with the cells that have grown, before the others.
 fn add_band(alloc: Global, params: &Params, growth: &mut Growth, s: &Laid) -> Result<(), Memory>
-    ensures { OnOk result (grown_of growth.new ≡ band_added params.now (cut_of s.now) (grown_of growth.old)) }
+    ensures { OnOk result (grown_of growth.new
+        ≡ band_added params.now (cut_of s.now) (grown_of growth.old)) }
 {
     let body = take_band(alloc, growth, s.step.a)?;
     let start = start_of(growth.bands.as_slice(), growth.low, params.height);
@@ -254,8 +260,10 @@ fn add_band(alloc: Global, params: &Params, growth: &mut Growth, s: &Laid) -> Re
 
 /// What becomes of the bands that have grown, as a strip.
 fn take_strip(alloc: Global, growth: &mut Growth) -> Result<Body1, Memory>
-    ensures sort { IfOk result (λ body. sort1 body ≡ hoisted_sort (gap 0 growth.old.low sort.Waste (bands_pile growth.old.bands.items))) }
-    ensures inner { IfOk result (λ body. inner1 body ≡ hoisted_inner (gap 0 growth.old.low sort.Waste (bands_pile growth.old.bands.items))) }
+    ensures sort { IfOk result (λ body. sort1 body
+        ≡ hoisted_sort (gap 0 growth.old.low sort.Waste (bands_pile growth.old.bands.items))) }
+    ensures inner { IfOk result (λ body. inner1 body
+        ≡ hoisted_inner (gap 0 growth.old.low sort.Waste (bands_pile growth.old.bands.items))) }
     ensures rest { IfOk result (λ _. grown_of growth.new ≡ without_bands (grown_of growth.old)) }
 {
     put_band_waste(&mut growth.bands, 0, growth.low)?;
@@ -266,7 +274,8 @@ fn take_strip(alloc: Global, growth: &mut Growth) -> Result<Body1, Memory>
 /// What the glass behind the last strip of a plate is: the residual where nothing follows, else a waste.
 #[tactic(auto, using(crate::proofs::Piling::end_pile))]
 fn end_body(growth: &Growth) -> Body1
-    ensures sort { sort1 result ≡ end_sort (plates_pile growth.now.plates.items) (strips_pile growth.now.strips.items) }
+    ensures sort { sort1 result ≡ end_sort (plates_pile growth.now.plates.items)
+        (strips_pile growth.now.strips.items) }
     ensures inner { inner1 result ≡ nothing }
 {
     if growth.plates.is_empty() && growth.strips.is_empty() {
@@ -283,7 +292,8 @@ fn add_strip(
     growth: &mut Growth,
     s: &Laid,
 ) -> Result<(), Memory>
-    ensures { OnOk result (grown_of growth.new ≡ strip_added instance.now (cut_of s.now) (grown_of growth.old)) }
+    ensures { OnOk result (grown_of growth.new
+        ≡ strip_added instance.now (cut_of s.now) (grown_of growth.old)) }
 {
     let body = take_strip(alloc, growth)?;
     let end = instance.width(s.plates.saturating_sub(1));
@@ -313,7 +323,8 @@ fn begin_band(
     growth: &mut Growth,
     s: &Laid,
 ) -> Result<(), Memory>
-    ensures { OnOk result (grown_of growth.new ≡ step_added instance.now NewBand (cut_of s.now) (grown_of growth.old)) }
+    ensures { OnOk result (grown_of growth.new
+        ≡ step_added instance.now NewBand (cut_of s.now) (grown_of growth.old)) }
 {
     add_cell(growth, s)?;
     add_band(alloc, instance.params(), growth, s)
@@ -326,7 +337,8 @@ fn begin_strip(
     growth: &mut Growth,
     s: &Laid,
 ) -> Result<(), Memory>
-    ensures { OnOk result (grown_of growth.new ≡ step_added instance.now NewStrip (cut_of s.now) (grown_of growth.old)) }
+    ensures { OnOk result (grown_of growth.new
+        ≡ step_added instance.now NewStrip (cut_of s.now) (grown_of growth.old)) }
 {
     begin_band(alloc, instance, growth, s)?;
     add_strip(alloc, instance, growth, s)
@@ -339,7 +351,8 @@ fn begin_plate(
     growth: &mut Growth,
     s: &Laid,
 ) -> Result<(), Memory>
-    ensures { OnOk result (grown_of growth.new ≡ step_added instance.now NewPlate (cut_of s.now) (grown_of growth.old)) }
+    ensures { OnOk result (grown_of growth.new
+        ≡ step_added instance.now NewPlate (cut_of s.now) (grown_of growth.old)) }
 {
     begin_strip(alloc, instance, growth, s)?;
     add_plate(alloc, growth)
@@ -347,7 +360,8 @@ fn begin_plate(
 
 /// Puts a step before the others.
 fn add_step(alloc: Global, instance: &Instance, growth: &mut Growth, s: &Laid) -> Result<(), Memory>
-    ensures { OnOk result (grown_of growth.new ≡ step_added instance.now s.now.level (cut_of s.now) (grown_of growth.old)) }
+    ensures { OnOk result (grown_of growth.new
+        ≡ step_added instance.now s.now.level (cut_of s.now) (grown_of growth.old)) }
 {
     match s.level {
         Level::NewPlate => begin_plate(alloc, instance, growth, s),

@@ -10,8 +10,10 @@ mod lines;
 pub mod meeting;
 pub mod planning;
 mod rules;
+pub mod trace_rule;
 pub mod tracing;
 
 pub use meeting::{TraceBroken, first_broken, meets};
 pub use planning::plan_of;
+pub use trace_rule::TraceRule;
 pub use tracing::trace_of;

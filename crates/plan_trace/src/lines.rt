@@ -1,33 +1,16 @@
 //! The rules of a trace on defects, each as a test of one step that is in its place.
 
 ghost use Rattle.std.specs.Prelude.{◌≡◌, ◌↔◌, ◌+◌, ◌-◌, ◌<◌, ◌≤◌, IsTrue};
+ghost use Rattle.defect_map.specs.Queries.{HitsNone};
 ghost use Rattle.plan_trace.specs.inner.Laid.{BandClear, CellClear, cut_of, IsFitted, LowerClear, StripClear, UpperClear};
-ghost use Rattle.plan_trace.specs.TraceRules.{CrossesNoneX, CrossesNoneY, HitsNone, LiftLine, TR8, TR9, bottom as bottom_of};
+ghost use Rattle.plan_trace.specs.TraceRules.{LiftLine, TR8, TR9, bottom as bottom_of};
 
 use crate::laid::Laid;
 use crate::level::Level;
 use defect_map::Ground;
 
-/// Whether an upright line runs through no defect of the plate.
-#[tactic(auto, using(crate::proofs::LaidLemmas::none_passes))]
-fn is_clear_x(ground: Ground<'_>, plate: u32, x: u32, y0: u32, y1: u32) -> bool
-    requires { y0 < y1 }
-    ensures { IsTrue result ↔ CrossesNoneX ground.entry.instance.now.defects plate x y0 y1 }
-{
-    !ground.map.crosses_x(plate, x, y0, y1)
-}
-
-/// Whether a level line runs through no defect of the plate.
-#[tactic(auto, using(crate::proofs::LaidLemmas::none_passes))]
-fn is_clear_y(ground: Ground<'_>, plate: u32, y: u32, x0: u32, x1: u32) -> bool
-    requires { x0 < x1 }
-    ensures { IsTrue result ↔ CrossesNoneY ground.entry.instance.now.defects plate y x0 x1 }
-{
-    !ground.map.crosses_y(plate, y, x0, x1)
-}
-
 /// Whether the inside of a rectangle meets no defect of the plate.
-#[tactic(auto, using(crate::proofs::LaidLemmas::none_passes))]
+#[tactic(auto, using(defect_map::proofs::Clear::none_passes))]
 fn is_clear(ground: Ground<'_>, plate: u32, x0: u32, y0: u32, x1: u32, y1: u32) -> bool
     requires wide { x0 < x1 }
     requires high { y0 < y1 }
@@ -70,24 +53,26 @@ pub fn keeps8(ground: Ground<'_>, s: &Laid) -> bool
 
 /// Whether the sides of the strip run through no defect.
 fn strip_clear(ground: Ground<'_>, s: &Laid) -> bool
-    ensures { let b = ground.entry.instance.now in IsTrue result ↔ StripClear b b.defects (cut_of s.now) }
+    ensures { let b = ground.entry.instance.now in IsTrue result
+        ↔ StripClear b b.defects (cut_of s.now) }
 {
     let height = ground.instance.params().height;
     let plate = s.plates.saturating_sub(1);
-    (s.step.a == 0 || is_clear_x(ground, plate, s.step.a, 0, height))
+    (s.step.a == 0 || ground.is_clear_x(plate, s.step.a, 0, height))
         && (s.step.b >= ground.instance.width(plate)
-            || is_clear_x(ground, plate, s.step.b, 0, height))
+            || ground.is_clear_x(plate, s.step.b, 0, height))
 }
 
 /// Whether the sides of the band run through no defect.
 fn band_clear(ground: Ground<'_>, s: &Laid) -> bool
     requires { IsFitted s.now }
-    ensures { let b = ground.entry.instance.now in IsTrue result ↔ BandClear b.params b.defects (cut_of s.now) }
+    ensures { let b = ground.entry.instance.now in IsTrue result
+        ↔ BandClear b.params b.defects (cut_of s.now) }
 {
     let height = ground.instance.params().height;
     let plate = s.plates.saturating_sub(1);
-    (s.step.c == 0 || is_clear_y(ground, plate, s.step.c, s.step.a, s.step.b))
-        && (s.step.d >= height || is_clear_y(ground, plate, s.step.d, s.step.a, s.step.b))
+    (s.step.c == 0 || ground.is_clear_y(plate, s.step.c, s.step.a, s.step.b))
+        && (s.step.d >= height || ground.is_clear_y(plate, s.step.d, s.step.a, s.step.b))
 }
 
 /// Whether the sides of the item's cell run through no defect.
@@ -97,8 +82,8 @@ fn cell_clear(ground: Ground<'_>, s: &Laid) -> bool
 {
     let plate = s.plates.saturating_sub(1);
     let end = s.step.e + s.w;
-    (s.step.e <= s.step.a || is_clear_x(ground, plate, s.step.e, s.step.c, s.step.d))
-        && (end >= s.step.b || is_clear_x(ground, plate, end, s.step.c, s.step.d))
+    (s.step.e <= s.step.a || ground.is_clear_x(plate, s.step.e, s.step.c, s.step.d))
+        && (end >= s.step.b || ground.is_clear_x(plate, end, s.step.c, s.step.d))
 }
 
 /// Whether the line above an item that does not fill its cell runs through no defect.
@@ -107,14 +92,7 @@ fn upper_clear(ground: Ground<'_>, s: &Laid) -> bool
     ensures { IsTrue result ↔ UpperClear ground.entry.instance.now.defects (cut_of s.now) }
 {
     let top = s.step.c + s.h;
-    top >= s.step.d
-        || is_clear_y(
-            ground,
-            s.plates.saturating_sub(1),
-            top,
-            s.step.e,
-            s.step.e + s.w,
-        )
+    top >= s.step.d || ground.is_clear_y(s.plates.saturating_sub(1), top, s.step.e, s.step.e + s.w)
 }
 
 /// Whether the line below a lifted item runs through no defect.
@@ -122,8 +100,7 @@ fn lower_clear(ground: Ground<'_>, s: &Laid) -> bool
     requires { IsFitted s.now }
     ensures { IsTrue result ↔ LowerClear ground.entry.instance.now.defects (cut_of s.now) }
 {
-    is_clear_y(
-        ground,
+    ground.is_clear_y(
         s.plates.saturating_sub(1),
         s.step.d - s.h,
         s.step.e,
@@ -134,7 +111,8 @@ fn lower_clear(ground: Ground<'_>, s: &Laid) -> bool
 /// Whether the line between the item and the waste of its cell runs through no defect.
 fn lift_clear(ground: Ground<'_>, s: &Laid) -> bool
     requires { IsFitted s.now }
-    ensures { IsTrue result ↔ LiftLine ground.entry.instance.now.defects s.now.level s.now.step.lift (cut_of s.now) }
+    ensures { IsTrue result ↔ LiftLine ground.entry.instance.now.defects s.now.level s.now.step.lift
+        (cut_of s.now) }
 {
     if s.step.lift != 0 {
         return lower_clear(ground, s);
@@ -151,7 +129,8 @@ fn lift_clear(ground: Ground<'_>, s: &Laid) -> bool
 /// Whether the sides of strip and band run through no defect.
 fn outer_clear(ground: Ground<'_>, s: &Laid) -> bool
     requires { IsFitted s.now }
-    ensures { let b = ground.entry.instance.now in IsTrue result ↔ (StripClear b b.defects (cut_of s.now) × BandClear b.params b.defects (cut_of s.now)) }
+    ensures { let b = ground.entry.instance.now in IsTrue result
+        ↔ (StripClear b b.defects (cut_of s.now) × BandClear b.params b.defects (cut_of s.now)) }
 {
     strip_clear(ground, s) && band_clear(ground, s)
 }
@@ -159,7 +138,9 @@ fn outer_clear(ground: Ground<'_>, s: &Laid) -> bool
 /// Whether the lines in the band run through no defect.
 fn inner_clear(ground: Ground<'_>, s: &Laid) -> bool
     requires { IsFitted s.now }
-    ensures { let defects = ground.entry.instance.now.defects in IsTrue result ↔ (CellClear defects (cut_of s.now) × LiftLine defects s.now.level s.now.step.lift (cut_of s.now)) }
+    ensures { let defects = ground.entry.instance.now.defects in IsTrue result
+        ↔ (CellClear defects (cut_of s.now)
+        × LiftLine defects s.now.level s.now.step.lift (cut_of s.now)) }
 {
     cell_clear(ground, s) && lift_clear(ground, s)
 }
@@ -167,7 +148,8 @@ fn inner_clear(ground: Ground<'_>, s: &Laid) -> bool
 /// Whether the lines of the step's cuts run through no defect.
 pub fn keeps9(ground: Ground<'_>, s: &Laid) -> bool
     requires { IsFitted s.now }
-    ensures { let b = ground.entry.instance.now in IsTrue result ↔ TR9 b b.defects s.now.level (cut_of s.now) }
+    ensures { let b = ground.entry.instance.now in IsTrue result
+        ↔ TR9 b b.defects s.now.level (cut_of s.now) }
 {
     outer_clear(ground, s) && inner_clear(ground, s)
 }

@@ -1,13 +1,15 @@
 //! Whether a trace meets the rules.
 
-ghost use Rattle.std.specs.Prelude.{◌≡◌, ◌↔◌, ◌<◌, ◌≤◌, ◌^◌, ℕ, IsTrue, length, MatchOption, MatchResult};
+ghost use Rattle.std.specs.Prelude.{◌≡◌, ◌↔◌, ◌<◌, ◌^◌, All, IsTrue, length, MatchOption, MatchResult};
 ghost use Rattle.plan_trace.specs.Broken.{BreaksFirst, IsFirstBroken, RuleHolds};
+ghost use Rattle.plan_trace.specs.inner.Asked.{IsOnDefects, rules_before};
 ghost use Rattle.plan_trace.specs.inner.Laid.{ahead, cut_of, IsFitted};
-ghost use Rattle.plan_trace.specs.TraceRules.{Meets, RuleOf};
+ghost use Rattle.plan_trace.specs.TraceRules.{KeepsTraceRule, Meets};
 
 use crate::laid::Laid;
 use crate::lines::{keeps8, keeps9};
 use crate::rules::{keeps1, keeps2, keeps3, keeps4, keeps5, keeps6, keeps7};
+use crate::trace_rule::TraceRule;
 use cut_model::{Step, Trace};
 use defect_map::{DefectMap, Ground};
 use glass_base::Instance;
@@ -21,34 +23,32 @@ pub struct TraceBroken {
     pub step: u32,
 }
 
-/// Whether a step keeps the rule of this number.
-fn keeps(ground: Ground<'_>, rule: u32, last: &Laid, here: &Laid, later: &[Step]) -> bool
-    requires some { 1 ≤ rule }
-    requires in_rules { rule ≤ 9 }
-    requires fitted { 8 ≤ rule → IsFitted here.now }
-    ensures { IsTrue result ↔ RuleOf ground.entry.instance.now rule last.now.level (cut_of last.now) here.now.level (cut_of here.now) (ahead later.now) }
+/// Whether a step keeps this rule.
+fn keeps(ground: Ground<'_>, rule: TraceRule, last: &Laid, here: &Laid, later: &[Step]) -> bool
+    requires fitted { IsOnDefects rule → IsFitted here.now }
+    ensures { IsTrue result ↔ KeepsTraceRule ground.entry.instance.now rule last.now.level
+        (cut_of last.now) here.now.level (cut_of here.now) (ahead later.now) }
 {
     let params = ground.instance.params();
     match rule {
-        1 => keeps1(params, here),
-        2 => keeps2(here),
-        3 => keeps3(last, here),
-        4 => keeps4(ground.instance, last, here, later),
-        5 => keeps5(params, last, here, later),
-        6 => keeps6(params, last, here, later),
-        7 => keeps7(params, last, here, later),
-        8 => keeps8(ground, here),
-        _ => keeps9(ground, here),
+        TraceRule::TR1 => keeps1(params, here),
+        TraceRule::TR2 => keeps2(here),
+        TraceRule::TR3 => keeps3(last, here),
+        TraceRule::TR4 => keeps4(ground.instance, last, here, later),
+        TraceRule::TR5 => keeps5(params, last, here, later),
+        TraceRule::TR6 => keeps6(params, last, here, later),
+        TraceRule::TR7 => keeps7(params, last, here, later),
+        TraceRule::TR8 => keeps8(ground, here),
+        TraceRule::TR9 => keeps9(ground, here),
     }
 }
 
-/// The first step that breaks a rule, where no lesser rule is broken.
-fn first_step(ground: Ground<'_>, steps: &[Step], rule: u32) -> Option<u32>
+/// The first step that breaks a rule, where no rule before it is broken.
+fn first_step(ground: Ground<'_>, steps: &[Step], rule: TraceRule) -> Option<u32>
     requires few { length steps.now < 2 ^ 32 }
-    requires some { 1 ≤ rule }
-    requires in_rules { rule ≤ 9 }
-    requires before { (n : ℕ) → n < rule → RuleHolds ground.instance.now steps.now n }
-    ensures { let b = ground.entry.instance.now in MatchOption result (RuleHolds b steps.now rule) (BreaksFirst b steps.now rule) }
+    requires before { All (RuleHolds ground.instance.now steps.now) (rules_before rule) }
+    ensures { let b = ground.entry.instance.now in
+        MatchOption result (RuleHolds b steps.now rule) (BreaksFirst b steps.now rule) }
 {
     let mut last = Laid::none();
     for (i, step) in steps.iter().enumerate() {
@@ -64,11 +64,16 @@ fn first_step(ground: Ground<'_>, steps: &[Step], rule: u32) -> Option<u32>
 /// The first rule that these steps break: `meets` on a list of steps that is no trace of its own.
 pub fn first_broken(ground: Ground<'_>, steps: &[Step]) -> Option<TraceBroken>
     requires few { length steps.now < 2 ^ 32 }
-    ensures { let b = ground.entry.instance.now in MatchOption result (Meets b steps.now) (λ broken. IsFirstBroken b steps.now broken.rule broken.step) }
+    ensures { let b = ground.entry.instance.now in
+        MatchOption result (Meets b steps.now)
+        (λ broken. IsFirstBroken b steps.now broken.rule broken.step) }
 {
-    for rule in 1..10 {
+    for rule in TraceRule::ALL {
         if let Some(step) = first_step(ground, steps, rule) {
-            return Some(TraceBroken { rule, step });
+            return Some(TraceBroken {
+                rule: rule.number(),
+                step,
+            });
         }
     }
     None
@@ -82,7 +87,9 @@ pub fn first_broken(ground: Ground<'_>, steps: &[Step]) -> Option<TraceBroken>
 pub fn meets(instance: &Instance, map: &DefectMap, trace: &Trace) -> Result<(), TraceBroken>
     requires few { length trace.now.steps.items < 2 ^ 32 }
     requires map { map.now ≡ instance.now.defects }
-    ensures { let steps = trace.now.steps.items in MatchResult result (λ _. Meets instance.now steps) (λ broken. IsFirstBroken instance.now steps broken.rule broken.step) }
+    ensures { let steps = trace.now.steps.items in
+        MatchResult result (λ _. Meets instance.now steps)
+        (λ broken. IsFirstBroken instance.now steps broken.rule broken.step) }
 {
     match first_broken(Ground { instance, map }, trace.steps.as_slice()) {
         Some(broken) => Err(broken),

@@ -19,7 +19,8 @@ use std::alloc::Global;
 /// Adds the steps, each with what the rules read of it.
 fn lay_all(laid: &mut Run<Laid>, instance: &Instance, steps: &[Step]) -> Result<(), Memory>
     requires { length steps.now < 2 ^ 32 }
-    ensures { OnOk result (laid.new.items ≡ laid.old.items ++ laid_list instance.now [] no_laid steps.now) }
+    ensures { OnOk result (laid.new.items ≡ laid.old.items
+        ++ laid_list instance.now [] no_laid steps.now) }
 {
     let mut last = Laid::none();
     for (i, step) in steps.iter().enumerate() {
@@ -39,8 +40,11 @@ pub fn plan_of(alloc: Global, instance: &Instance, trace: &Trace) -> Result<Plan
     requires { IsComplete instance.now trace.now.steps.items }
     ensures plan { IfOk result (λ plan. tree plan ≡ canonical instance.now trace.now.steps.items) }
     ensures good { IfOk result (λ plan. IsGoodPlan instance.now (tree plan)) }
-    ensures loses { let b = instance.now in let steps = trace.now.steps.items in IfOk result (λ plan. loss_of b (tree plan) + area_of b.items ≡ b.params.height * length_of b steps) }
-    ensures traced { IfOk result (λ plan. trace_of instance.now (tree plan) ≡ trace.now.steps.items) }
+    ensures loses { let b = instance.now in let steps = trace.now.steps.items in
+        IfOk result (λ plan. loss_of b (tree plan) + area_of b.items
+        ≡ b.params.height * length_of b steps) }
+    ensures traced { IfOk result (λ plan. trace_of instance.now (tree plan)
+        ≡ trace.now.steps.items) }
 {
     let mut laid = Run::new(alloc);
     laid.reserve(instance.items().len())?;

@@ -74,7 +74,8 @@ fn strip_fits(instance: &Instance, from: u32, s: &Laid, later: &[Step]) -> bool
 
 /// Whether each strip fits.
 pub fn keeps4(instance: &Instance, t: &Laid, s: &Laid, later: &[Step]) -> bool
-    ensures { IsTrue result ↔ TR4 instance.now s.now.level (cut_of t.now) (cut_of s.now) (ahead later.now) }
+    ensures { IsTrue result ↔ TR4 instance.now s.now.level (cut_of t.now) (cut_of s.now)
+        (ahead later.now) }
 {
     match s.level {
         Level::NewPlate => strip_fits(instance, 0, s, later),
@@ -101,7 +102,8 @@ fn band_fits(params: &Params, from: u32, s: &Laid, later: &[Step]) -> bool
 
 /// Whether each band fits.
 pub fn keeps5(params: &Params, t: &Laid, s: &Laid, later: &[Step]) -> bool
-    ensures { IsTrue result ↔ TR5 params.now s.now.level (cut_of t.now) (cut_of s.now) (ahead later.now) }
+    ensures { IsTrue result ↔ TR5 params.now s.now.level (cut_of t.now) (cut_of s.now)
+        (ahead later.now) }
 {
     match s.level {
         Level::NewPlate => band_fits(params, 0, s, later),
@@ -125,7 +127,8 @@ fn cell_fits(params: &Params, from: u64, s: &Laid, later: &[Step]) -> bool
 
 /// Whether each cell fits.
 pub fn keeps6(params: &Params, t: &Laid, s: &Laid, later: &[Step]) -> bool
-    ensures { IsTrue result ↔ TR6 params.now s.now.level (cut_of t.now) (cut_of s.now) (ahead later.now) }
+    ensures { IsTrue result ↔ TR6 params.now s.now.level (cut_of t.now) (cut_of s.now)
+        (ahead later.now) }
 {
     let left = u64::from(s.step.a);
     match s.level {
@@ -172,14 +175,16 @@ fn over_fits(t: &Laid, s: &Laid) -> bool
 /// Whether an item that begins its cell fits into it, where it is alone there.
 #[tactic(auto, using(crate::proofs::LaidLemmas::levels_ahead))]
 fn begun_fits(params: &Params, s: &Laid, later: &[Step]) -> bool
-    ensures { IsTrue result ↔ (IsTrue (last_in_cell true (levels (ahead later.now))) → AloneFits params.now s.now.step.lift (cut_of s.now)) }
+    ensures { IsTrue result ↔ (IsTrue (last_in_cell true (levels (ahead later.now)))
+        → AloneFits params.now s.now.step.lift (cut_of s.now)) }
 {
     !is_last_in_cell(later) || alone_fits(params, s)
 }
 
 /// Whether two items fill their cell, and one item alone fits.
 pub fn keeps7(params: &Params, t: &Laid, s: &Laid, later: &[Step]) -> bool
-    ensures { IsTrue result ↔ TR7 params.now t.now.level s.now.level (cut_of t.now) (cut_of s.now) (ahead later.now) }
+    ensures { IsTrue result ↔ TR7 params.now t.now.level s.now.level (cut_of t.now) (cut_of s.now)
+        (ahead later.now) }
 {
     match s.level {
         Level::NewPlate => begun_fits(params, s, later),

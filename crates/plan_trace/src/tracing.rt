@@ -76,7 +76,8 @@ fn take_step(
     sort: Sort,
 ) -> Result<(), Memory>
     requires { length stacks.now ≤ 800 }
-    ensures { OnOk result (steps.new.items ≡ steps.old.items ++ tell items.now stacks.now here width sort []) }
+    ensures { OnOk result (steps.new.items ≡ steps.old.items
+        ++ tell items.now stacks.now here width sort []) }
 {
     match sort {
         Sort::Item(number) => append(steps, step_at(items, stacks, here, width, number)),
@@ -125,9 +126,13 @@ impl<'a> Visitor for Tracing<'a> {
 /// That of a lawful plan has a step for each item of the batch, meets the nine rules, and loses no more than the plan.
 pub fn trace_of(alloc: Global, instance: &Instance, plan: &Plan) -> Result<Trace, Memory>
     requires { Fits (tree plan.now) }
-    ensures steps { IfOk result (λ trace. trace.steps.items ≡ trace_of_plan instance.now (tree plan.now)) }
-    ensures whole { let b = instance.now in IsLawful b (tree plan.now) → IfOk result (λ trace. IsComplete b trace.steps.items) }
-    ensures loss { let b = instance.now in IsLawful b (tree plan.now) → IfOk result (λ trace. b.params.height * length_of b trace.steps.items ≤ loss_of b (tree plan.now) + area_of b.items) }
+    ensures steps { IfOk result (λ trace. trace.steps.items
+        ≡ trace_of_plan instance.now (tree plan.now)) }
+    ensures whole { let b = instance.now in IsLawful b (tree plan.now)
+        → IfOk result (λ trace. IsComplete b trace.steps.items) }
+    ensures loss { let b = instance.now in IsLawful b (tree plan.now)
+        → IfOk result (λ trace. b.params.height * length_of b trace.steps.items
+        ≤ loss_of b (tree plan.now) + area_of b.items) }
 {
     let stacks = stack_numbers(alloc, instance.items())?;
     let mut tracing = Tracing {

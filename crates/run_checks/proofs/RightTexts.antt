@@ -1,6 +1,6 @@
 -- A check accepts what is right, or does not show the floor.
 use Rattle.std.proofs.Common.{◌≡◌, ℕ, ◌+◌, ◌<◌, ◌^◌, List, length, inl, inr, refl, sym, ap, subst, ◌∙◌, arith, Option, Some, None}
-use Rattle.std.specs.Prelude.{Ok, Err, codes, option_map}
+use Rattle.std.specs.Prelude.{All, Ok, Err, codes, option_map}
 use Rattle.glass_base.specs.Problem.{Problem, IsProblem}
 use Rattle.cut_model.specs.Lawful.{IsLawful}
 use Rattle.cut_model.specs.Tree.{Forest, neighbour_count}
@@ -11,9 +11,10 @@ use Rattle.plan_freeze.proofs.SameRests.{rest_is_one}
 use Rattle.plan_box.specs.Ranges.{Ranges}
 use Rattle.cert_log.specs.declared.bad_cert.BadCert.{BadCert}
 use Rattle.cert_log.specs.declared.certificate.Certificate.{Certificate}
-use Rattle.cert_log.specs.Good.{IsFloor, IsGood, Stands, least_of, open_bounds}
+use Rattle.cert_log.specs.Good.{IsFloor, IsGood, Passes, least_of, visit_bounds}
 use Rattle.cert_log.specs.Outcomes.{IsReading}
 use Rattle.cert_log.specs.Readings.{SaySame}
+use Rattle.cert_log.specs.Visits.{visits}
 use Rattle.cert_log.proofs.OneStop.{one_reading}
 use Rattle.cert_log.proofs.RoundTrip.{one_certificate}
 use Rattle.cert_check.specs.declared.verdict.Verdict.{Verdict}
@@ -58,9 +59,13 @@ good_same b rs loss c d same good = record {
   nodes_are = sym same.nodes ∙ good.nodes_are;
   loss_is = sym same.loss ∙ good.loss_is;
   floor_is = subst (IsFloor b) same.floor good.floor_is;
-  stands = subst (λ (floor : ℕ). Stands b floor loss rs good.tree) same.floor good.stands;
-  left_is = sym same.left ∙ good.left_is ∙ ap (λ (floor : ℕ). length (open_bounds b floor rs good.tree)) same.floor;
-  bound_is = sym same.bound ∙ good.bound_is ∙ ap (λ (floor : ℕ). least_of loss (open_bounds b floor rs good.tree)) same.floor;
+  passes = subst (λ (floor : ℕ). All (Passes b floor loss) (visits rs good.tree)) same.floor good.passes;
+  left_is =
+      sym same.left ∙ good.left_is
+      ∙ ap (λ (floor : ℕ). length (visit_bounds b floor (visits rs good.tree))) same.floor;
+  bound_is =
+      sym same.bound ∙ good.bound_is
+      ∙ ap (λ (floor : ℕ). least_of loss (visit_bounds b floor (visits rs good.tree))) same.floor;
 }
 
 -- a floor that was not shown, of a certificate that says the same

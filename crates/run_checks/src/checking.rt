@@ -87,7 +87,9 @@ fn read_plan_in(
     instance: &Instance,
     text: Option<&[u8]>,
 ) -> Result<Option<Plan>, Stop>
-    ensures plan { MatchResult result (λ plan. IsPlanIn instance.now (option_map (λ bytes. bytes.now) text.entry) (option_map tree plan)) (OnTold (RefusesPlanText instance.now (option_map (λ bytes. bytes.now) text.entry))) }
+    ensures plan { MatchResult result (λ plan. IsPlanIn instance.now
+        (option_map (λ bytes. bytes.now) text.entry) (option_map tree plan))
+        (OnTold (RefusesPlanText instance.now (option_map (λ bytes. bytes.now) text.entry))) }
     ensures fits { IfOk result FitsToo }
 {
     let Some(bytes) = text else {
@@ -101,7 +103,8 @@ fn read_plan_in(
 
 /// The certificate that a text says.
 pub(crate) fn read_cert_in(alloc: Global, text: &[u8]) -> Result<Certificate, Stop>
-    ensures reading { MatchResult result (λ c. IsReading text.now (Ok c)) (OnTold (RefusesCertText text.now)) }
+    ensures reading { MatchResult result (λ c. IsReading text.now (Ok c))
+        (OnTold (RefusesCertText text.now)) }
     ensures tree { IfOk result (λ c. IsTree c.nodes.items) }
     ensures version { IfOk result HasVersion }
 {
@@ -114,7 +117,9 @@ pub(crate) fn read_cert_in(alloc: Global, text: &[u8]) -> Result<Certificate, St
 /// Goes on where a plan is lawful, or there is none.
 fn judge_plan_in(alloc: Global, ground: Ground<'_>, plan: &Option<Plan>) -> Result<(), Stop>
     requires fits { FitsToo plan.now }
-    ensures { let b = ground.entry.instance.now in MatchResult result (λ _. IsLawfulToo b (option_map tree plan.now)) (OnTold (IsUnlawful b (option_map tree plan.now))) }
+    ensures { let b = ground.entry.instance.now in
+        MatchResult result (λ _. IsLawfulToo b (option_map tree plan.now))
+        (OnTold (IsUnlawful b (option_map tree plan.now))) }
 {
     let Some(plan) = plan else {
         return Ok(());
@@ -145,7 +150,9 @@ pub(crate) fn check_cert_in(
 ) -> Result<(), Stop>
     requires tree { IsTree certificate.now.nodes.items }
     requires version { HasVersion certificate.now }
-    ensures { let b = ground.entry.instance.now in MatchResult result (λ _. IsGood b (root_ranges b) loss certificate.now) (OnTold (IsWrong b loss certificate.now)) }
+    ensures { let b = ground.entry.instance.now in
+        MatchResult result (λ _. IsGood b (root_ranges b) loss certificate.now)
+        (OnTold (IsWrong b loss certificate.now)) }
 {
     match check_cert(alloc, ground.instance, ground.map, loss, certificate)? {
         Verdict::Accept { .. } => Ok(()),
@@ -168,7 +175,11 @@ pub fn accepted_texts(
     plan_text: Option<&[u8]>,
     cert_text: &[u8],
 ) -> Result<Checked, Stop>
-    ensures accepted { let b = ground.entry.instance.now in MatchResult result (λ a. IsAccepted b (option_map (λ bytes. bytes.now) plan_text.entry) cert_text.now (option_map tree a.plan) a.certificate) (OnTold (NotAccepted b (option_map (λ bytes. bytes.now) plan_text.entry) cert_text.now)) }
+    ensures accepted { let b = ground.entry.instance.now in
+        MatchResult result (λ a. IsAccepted b
+        (option_map (λ bytes. bytes.now) plan_text.entry) cert_text.now
+        (option_map tree a.plan) a.certificate)
+        (OnTold (NotAccepted b (option_map (λ bytes. bytes.now) plan_text.entry) cert_text.now)) }
     ensures fits { IfOk result (λ a. FitsToo a.plan) }
     ensures version { IfOk result (λ a. HasVersion a.certificate) }
 {
@@ -187,7 +198,9 @@ pub(crate) fn verify_texts(
     plan_text: Option<&[u8]>,
     cert_text: &[u8],
 ) -> Result<Reply, Memory>
-    ensures { IfOk result (λ r. (name : Product → List ℕ) → Verifies instance.now (option_map (λ bytes. bytes.now) plan_text.entry) cert_text.now (answer_in name r)) }
+    ensures { IfOk result (λ r. (name : Product → List ℕ)
+        → Verifies instance.now (option_map (λ bytes. bytes.now) plan_text.entry) cert_text.now
+        (answer_in name r)) }
 {
     let map = DefectMap::new(alloc, instance)?;
     match accepted_texts(
@@ -207,7 +220,8 @@ pub(crate) fn verify_texts(
 /// The reply that stores a certificate.
 fn reply_with_cert(alloc: Global, certificate: &Certificate) -> Result<Reply, Memory>
     requires { HasVersion certificate.now }
-    ensures { IfOk result (λ r. (name : Product → List ℕ) → answer_in name r ≡ converted_of (name Product.Certificate) certificate.now) }
+    ensures { IfOk result (λ r. (name : Product → List ℕ)
+        → answer_in name r ≡ converted_of (name Product.Certificate) certificate.now) }
 {
     let lines = bound_line(alloc, "converted", certificate)?;
     let bytes = write_cert(alloc, certificate)?;
@@ -220,9 +234,13 @@ fn reply_with_cert(alloc: Global, certificate: &Certificate) -> Result<Reply, Me
 
 /// The reply that stores a right certificate with its causes named.
 fn convert(alloc: Global, ground: Ground<'_>, certificate: &Certificate) -> Result<Reply, Memory>
-    requires good { IsGood ground.instance.now (root_ranges ground.instance.now) certificate.now.loss certificate.now }
+    requires good { IsGood ground.instance.now (root_ranges ground.instance.now)
+        certificate.now.loss certificate.now }
     requires version { HasVersion certificate.now }
-    ensures { IfOk result (λ r. (d : CertificateOf) × IsConverted ground.entry.instance.now certificate.now d × ((name : Product → List ℕ) → answer_in name r ≡ converted_of (name Product.Certificate) d)) }
+    ensures { IfOk result (λ r. (d : CertificateOf)
+        × IsConverted ground.entry.instance.now certificate.now d
+        × ((name : Product → List ℕ) → answer_in name r
+        ≡ converted_of (name Product.Certificate) d)) }
 {
     let named = reasoned(alloc, ground.instance, ground.map, certificate)?;
     reply_with_cert(alloc, &named)
@@ -236,7 +254,9 @@ pub fn convert_texts(
     plan_text: Option<&[u8]>,
     cert_text: &[u8],
 ) -> Result<Reply, Memory>
-    ensures { IfOk result (λ r. (name : Product → List ℕ) → Converts instance.now (option_map (λ bytes. bytes.now) plan_text.entry) cert_text.now (name Product.Certificate) (answer_in name r)) }
+    ensures { IfOk result (λ r. (name : Product → List ℕ)
+        → Converts instance.now (option_map (λ bytes. bytes.now) plan_text.entry) cert_text.now
+        (name Product.Certificate) (answer_in name r)) }
 {
     let map = DefectMap::new(alloc, instance)?;
     let ground = Ground {

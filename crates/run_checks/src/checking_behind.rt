@@ -28,7 +28,8 @@ use std::alloc::Global;
 
 /// The plan that a text says.
 fn read_whole(alloc: Global, instance: &Instance, bytes: &[u8]) -> Result<Plan, Stop>
-    ensures plan { MatchResult result (λ plan. plan_said instance.now bytes.now ≡ Ok (tree plan)) (OnTold (RefusesPlanText instance.now (Some bytes.now))) }
+    ensures plan { MatchResult result (λ plan. plan_said instance.now bytes.now
+        ≡ Ok (tree plan)) (OnTold (RefusesPlanText instance.now (Some bytes.now))) }
     ensures fits { IfOk result (λ plan. Fits (tree plan)) }
 {
     match read_plan(alloc, instance, bytes) {
@@ -40,7 +41,9 @@ fn read_whole(alloc: Global, instance: &Instance, bytes: &[u8]) -> Result<Plan, 
 /// Goes on where a plan is lawful.
 fn judge_whole(alloc: Global, ground: Ground<'_>, plan: &Plan) -> Result<(), Stop>
     requires fits { Fits (tree plan.now) }
-    ensures { let b = ground.entry.instance.now in MatchResult result (λ _. IsLawful b (tree plan.now)) (OnTold (IsUnlawful b (Some (tree plan.now)))) }
+    ensures { let b = ground.entry.instance.now in
+        MatchResult result (λ _. IsLawful b (tree plan.now))
+        (OnTold (IsUnlawful b (Some (tree plan.now)))) }
 {
     match first_breach(alloc, ground, plan)? {
         None => Ok(()),
@@ -61,7 +64,8 @@ fn stop_at_last(alloc: Global, plan: &Plan, k: u32) -> Stop
 
 /// Goes on where a plan has more than `k` plates.
 fn leaves_some(alloc: Global, plan: &Plan, k: u32) -> Result<(), Stop>
-    ensures { MatchResult result (λ _. k < neighbour_count (tree plan.now)) (OnTold (LeavesNone (tree plan.now) k)) }
+    ensures { MatchResult result (λ _. k < neighbour_count (tree plan.now))
+        (OnTold (LeavesNone (tree plan.now) k)) }
 {
     if plates_used(plan) <= u64::from(k) {
         return Err(stop_at_last(alloc, plan, k));
@@ -82,7 +86,8 @@ fn check_behind(
     requires fewer { k < neighbour_count (tree plan.now) }
     requires tree { IsTree certificate.now.nodes.items }
     requires version { HasVersion certificate.now }
-    ensures { MatchResult result (λ _. IsRightBehind instance.now (tree plan.now) k certificate.now) (OnTold (IsWrongBehind instance.now (tree plan.now) k certificate.now)) }
+    ensures { MatchResult result (λ _. IsRightBehind instance.now (tree plan.now) k certificate.now)
+        (OnTold (IsWrongBehind instance.now (tree plan.now) k certificate.now)) }
 {
     let (left, tail) = rest(alloc, instance, plan, k)?;
     let map = DefectMap::new(alloc, &left)?;
@@ -111,7 +116,9 @@ fn accepted_behind(
     cert_text: &[u8],
     k: u32,
 ) -> Result<CheckedBehind, Stop>
-    ensures accepted { let b = ground.entry.instance.now in MatchResult result (λ a. IsAcceptedBehindFor b k plan_text.now cert_text.now (tree a.plan) a.certificate) (OnTold (NotAcceptedBehind b k plan_text.now cert_text.now)) }
+    ensures accepted { let b = ground.entry.instance.now in
+        MatchResult result (λ a. IsAcceptedBehindFor b k plan_text.now cert_text.now
+        (tree a.plan) a.certificate) (OnTold (NotAcceptedBehind b k plan_text.now cert_text.now)) }
     ensures fits { IfOk result (λ a. Fits (tree a.plan)) }
 {
     let plan = read_whole(alloc, ground.instance, plan_text)?;
@@ -154,7 +161,8 @@ fn verify_behind(
     cert_text: &[u8],
     k: u32,
 ) -> Result<Reply, Memory>
-    ensures { IfOk result (λ r. (name : Product → List ℕ) → VerifiesBehind instance.now k plan_text.now cert_text.now (answer_in name r)) }
+    ensures { IfOk result (λ r. (name : Product → List ℕ)
+        → VerifiesBehind instance.now k plan_text.now cert_text.now (answer_in name r)) }
 {
     // Read for its rules.
     let _items = instance.items();
@@ -197,7 +205,9 @@ pub fn verify_from(
     cert_text: &[u8],
     k: u32,
 ) -> Result<Reply, Memory>
-    ensures { IfOk result (λ r. (name : Product → List ℕ) → VerifiesFrom k instance.now (option_map (λ bytes. bytes.now) plan_text.entry) cert_text.now (answer_in name r)) }
+    ensures { IfOk result (λ r. (name : Product → List ℕ)
+        → VerifiesFrom k instance.now (option_map
+        (λ bytes. bytes.now) plan_text.entry) cert_text.now (answer_in name r)) }
 {
     if k == 0 {
         return verify_texts(alloc, instance, plan_text, cert_text);

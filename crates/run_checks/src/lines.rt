@@ -28,7 +28,8 @@ fn word_with(
     first: Option<u64>,
     second: Option<u64>,
 ) -> Result<String, Memory>
-    ensures { IfOk result (λ text. string_bytes text ≡ word_with_of word.now (loss_text first) (loss_text second)) }
+    ensures { IfOk result (λ text. string_bytes text
+        ≡ word_with_of word.now (loss_text first) (loss_text second)) }
 {
     let first = number_or_none(alloc, first)?;
     let second = number_or_none(alloc, second)?;

@@ -20,9 +20,14 @@ fn store_all<F: Files>(
     line: &CommandLine<'_>,
     outputs: &[Output],
 ) -> Result<(), Trouble>
-    ensures stands { OnOk result (Stands (map (store_in (stored_as (line_in line.now))) outputs.now) (F.shelf files.old).contents (F.shelf files.new).contents) }
-    ensures failed { IsErrOf result Failed → CutShort (map (store_in (stored_as (line_in line.now))) outputs.now) (F.shelf files.old).contents (F.shelf files.new).contents }
-    ensures memory { IsErrOf result OutOfMemory → StandsInPart (map (store_in (stored_as (line_in line.now))) outputs.now) (F.shelf files.old).contents (F.shelf files.new).contents }
+    ensures stands { OnOk result (Stands (map (store_in (stored_as (line_in line.now))) outputs.now)
+        (F.shelf files.old).contents (F.shelf files.new).contents) }
+    ensures failed { IsErrOf result Failed → CutShort
+        (map (store_in (stored_as (line_in line.now))) outputs.now) (F.shelf files.old).contents
+        (F.shelf files.new).contents }
+    ensures memory { IsErrOf result OutOfMemory → StandsInPart
+        (map (store_in (stored_as (line_in line.now))) outputs.now) (F.shelf files.old).contents
+        (F.shelf files.new).contents }
     ensures counts { CountsStore (F.shelf files.old) (F.shelf files.new) result }
     ensures keeps { F.reliable files.old → F.reliable files.new × (IsErrOf result Failed → ⊥) }
 {
@@ -52,7 +57,9 @@ pub fn deliver<F: Files, S: Sink>(
     line: &CommandLine<'_>,
     reply: &Reply,
 ) -> Status
-    ensures delivers { Delivers (answer_in (stored_as (line_in line.now)) reply.now) (world (F.shelf files.old) (S.paper out.old)) (world (F.shelf files.new) (S.paper out.new)) result }
+    ensures delivers { Delivers (answer_in (stored_as (line_in line.now)) reply.now)
+        (world (F.shelf files.old) (S.paper out.old))
+        (world (F.shelf files.new) (S.paper out.new)) result }
     ensures keeps { F.reliable files.old → S.reliable out.old → result ≢ Status.WriteFault }
 {
     match store_all(files, line, reply.outputs.as_slice()) {

@@ -46,7 +46,8 @@ fn append_wanted<'a>(
     line: &CommandLine<'a>,
     role: Role,
 ) -> Result<(), Memory>
-    ensures { OnOk result (map file_in wanted.new.items ≡ map file_in wanted.old.items ++ option_to_list (file_of (line_in line.now) role)) }
+    ensures { OnOk result (map file_in wanted.new.items
+        ≡ map file_in wanted.old.items ++ option_to_list (file_of (line_in line.now) role)) }
 {
     match line.name_of(role) {
         Some(name) => append(wanted, Wanted { role, name }),
@@ -72,7 +73,9 @@ fn fetch_text<F: Files>(
     file: Wanted<'_>,
 ) -> Result<Result<Text, Notice>, NoReply>
     ensures same { SameContents (F.shelf files.old).contents (F.shelf files.new).contents }
-    ensures fetched { IfOk result (λ r. IfSome (F.shelf files.old).contents (λ contents. FetchesOne r file.entry.role (text_of file.entry.role (contents file.entry.name.now)))) }
+    ensures fetched { IfOk result (λ r. IfSome (F.shelf files.old).contents
+        (λ contents. FetchesOne r file.entry.role
+        (text_of file.entry.role (contents file.entry.name.now)))) }
     ensures faults { CountsFetch file.entry.role (F.shelf files.old) (F.shelf files.new) result }
     ensures keeps { F.reliable files.old → F.reliable files.new × IfErr result (OnFault (λ _. ⊥)) }
 {
@@ -95,8 +98,11 @@ fn fetch_texts<F: Files>(
     wanted: &[Wanted<'_>],
 ) -> Result<Result<Run<Text>, Notice>, NoReply>
     ensures same { SameContents (F.shelf files.old).contents (F.shelf files.new).contents }
-    ensures fetched { IfOk result (λ r. IfSome (F.shelf files.old).contents (λ contents. GathersAll r (texts_of contents (map file_in wanted.now)))) }
-    ensures reached { IfErr result (OnFault (λ of. IfSome (F.shelf files.old).contents (λ contents. Reaches contents of (map file_in wanted.now)))) }
+    ensures fetched { IfOk result (λ r. IfSome (F.shelf files.old).contents
+        (λ contents. GathersAll r (texts_of contents (map file_in wanted.now)))) }
+    ensures reached { IfErr result (OnFault (λ of.
+        IfSome (F.shelf files.old).contents
+        (λ contents. Reaches contents of (map file_in wanted.now)))) }
     ensures faults { CountsFetches (F.shelf files.old) (F.shelf files.new) result }
     ensures keeps { F.reliable files.old → F.reliable files.new × IfErr result (OnFault (λ _. ⊥)) }
 {
@@ -117,8 +123,11 @@ pub fn fetch_files<F: Files>(
     line: &CommandLine<'_>,
 ) -> Result<Result<Run<Text>, Notice>, NoReply>
     ensures same { SameContents (F.shelf files.old).contents (F.shelf files.new).contents }
-    ensures fetched { IfOk result (λ r. IfSome (F.shelf files.old).contents (λ contents. GathersAll r (texts_of contents (files_of (line_in line.now))))) }
-    ensures reached { IfErr result (OnFault (λ of. IfSome (F.shelf files.old).contents (λ contents. Reaches contents of (files_of (line_in line.now))))) }
+    ensures fetched { IfOk result (λ r. IfSome (F.shelf files.old).contents
+        (λ contents. GathersAll r (texts_of contents (files_of (line_in line.now))))) }
+    ensures reached { IfErr result (OnFault (λ of.
+        IfSome (F.shelf files.old).contents
+        (λ contents. Reaches contents of (files_of (line_in line.now))))) }
     ensures faults { CountsFetches (F.shelf files.old) (F.shelf files.new) result }
     ensures keeps { F.reliable files.old → F.reliable files.new × IfErr result (OnFault (λ _. ⊥)) }
 {

@@ -35,7 +35,8 @@ pub struct Reply {
 
 /// The outputs that are this one.
 pub fn one_output(alloc: Global, product: Product, bytes: Run<u8>) -> Result<Run<Output>, Memory>
-    ensures { IfOk result (λ outputs. outputs.items ≡ record { product = product; bytes = bytes } ∷ []) }
+    ensures { IfOk result (λ outputs. outputs.items
+        ≡ record { product = product; bytes = bytes } ∷ []) }
 {
     let mut outputs = Run::new(alloc);
     append(&mut outputs, Output { product, bytes })?;

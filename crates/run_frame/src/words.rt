@@ -9,7 +9,8 @@ use std::{env, io};
 
 /// The words that a run is given: none of them where one is not text, and nothing where memory ran out.
 pub fn words_taken(words: &io::Result<Vec<String>>) -> Option<&[String]>
-    ensures given { IfOk words.now (λ given. MatchOption result ⊥ (λ taken. taken.now ≡ given.items)) }
+    ensures given { IfOk words.now (λ given. MatchOption result ⊥ (λ taken. taken.now
+        ≡ given.items)) }
     ensures wrong { IfErr words.now (λ _. IfSome result (λ taken. taken.now ≡ [])) }
 {
     match words {

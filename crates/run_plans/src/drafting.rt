@@ -33,7 +33,8 @@ fn no_draft(alloc: Global, number: u32) -> Result<Notice, Memory>
 /// The reply that stores a plan.
 fn reply_with_plan(alloc: Global, instance: &Instance, plan: &Plan) -> Result<Reply, Memory>
     requires { Fits (tree plan.now) }
-    ensures { IfOk result (λ r. (name : Product → List ℕ) → answer_in name r ≡ drafted instance.now (name Product.Plan) (tree plan.now)) }
+    ensures { IfOk result (λ r. (name : Product → List ℕ)
+        → answer_in name r ≡ drafted instance.now (name Product.Plan) (tree plan.now)) }
 {
     let lines = summary_lines(alloc, loss(instance, plan), plates_used(plan))?;
     let text = write_plan(alloc, instance, plan)?;
@@ -46,8 +47,10 @@ fn reply_with_plan(alloc: Global, instance: &Instance, plan: &Plan) -> Result<Re
 
 /// The plan of the draft, or the number of the first item without a place.
 fn draft_plan(alloc: Global, instance: &Instance) -> Result<Result<Plan, u32>, Memory>
-    ensures drafted { IfOk result (λ drafted. MatchResult drafted (λ plan. IsDraftPlan instance.now (tree plan)) (HasNoDraft instance.now)) }
-    ensures good { IfOk result (λ drafted. IfOk drafted (λ plan. IsGoodPlan instance.now (tree plan))) }
+    ensures drafted { IfOk result (λ drafted. MatchResult drafted
+        (λ plan. IsDraftPlan instance.now (tree plan)) (HasNoDraft instance.now)) }
+    ensures good { IfOk result (λ drafted. IfOk drafted
+        (λ plan. IsGoodPlan instance.now (tree plan))) }
 {
     let map = DefectMap::new(alloc, instance)?;
     match draft(alloc, instance, &map)? {
@@ -61,7 +64,8 @@ fn draft_plan(alloc: Global, instance: &Instance) -> Result<Result<Plan, u32>, M
 
 /// The reply to an instance: the plan of its draft, which is lawful, or the first item without a place.
 pub fn draft_instance(alloc: Global, instance: &Instance) -> Result<Reply, Memory>
-    ensures { IfOk result (λ r. (name : Product → List ℕ) → Drafts instance.now (name Product.Plan) (answer_in name r)) }
+    ensures { IfOk result (λ r. (name : Product → List ℕ)
+        → Drafts instance.now (name Product.Plan) (answer_in name r)) }
 {
     match draft_plan(alloc, instance)? {
         Ok(plan) => reply_with_plan(alloc, instance, &plan),

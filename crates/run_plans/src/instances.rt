@@ -15,7 +15,8 @@ use stock_csv::{read_defects, read_params, read_plates};
 
 /// The defects of a text, or none.
 fn defects_of(alloc: Global, text: Option<&[u8]>) -> Result<Run<Defect>, BadText>
-    ensures defects { Gives (λ run. run.items) result (defects_in (option_map (λ bytes. bytes.now) text.entry)) }
+    ensures defects { Gives (λ run. run.items) result
+        (defects_in (option_map (λ bytes. bytes.now) text.entry)) }
     ensures ranges { IfOk result (λ run. All IsDefectInRange run.items) }
 {
     match text {
@@ -37,7 +38,8 @@ fn params_of(alloc: Global, text: Option<&[u8]>) -> Result<Params, BadText>
 
 /// The widths of the plates by a text, or the parameters' width for each.
 fn widths_of(alloc: Global, params: &Params, text: Option<&[u8]>) -> Result<Run<u32>, BadText>
-    ensures widths { Gives (λ run. run.items) result (widths_in params.now (option_map (λ bytes. bytes.now) text.entry)) }
+    ensures widths { Gives (λ run. run.items) result
+        (widths_in params.now (option_map (λ bytes. bytes.now) text.entry)) }
     ensures ranges { IfOk result (λ run. AreWidths params.now run.items) }
 {
     match text {
@@ -48,7 +50,9 @@ fn widths_of(alloc: Global, params: &Params, text: Option<&[u8]>) -> Result<Run<
 
 /// The items that the batch says.
 fn read_items(alloc: Global, texts: &[Text], flaws: Option<&[u8]>) -> Result<Run<Item>, Stop>
-    ensures said { MatchResult result (λ items. items_said (texts_in texts.now) ≡ Ok items.items) (OnTold (InstanceRefused (texts_in texts.now) (option_map (λ bytes. bytes.now) flaws.entry))) }
+    ensures said { MatchResult result (λ items. items_said (texts_in texts.now)
+        ≡ Ok items.items) (OnTold (InstanceRefused (texts_in texts.now)
+        (option_map (λ bytes. bytes.now) flaws.entry))) }
     ensures ranges { IfOk result (λ items. All IsItemInRange items.items) }
 {
     match read_batch(alloc, text_or_empty(texts, Role::Batch)) {
@@ -65,7 +69,11 @@ fn read_defects_with(
     _items: &[Item],
 ) -> Result<Run<Defect>, Stop>
     requires { items_said (texts_in texts.now) ≡ Ok _items.now }
-    ensures said { MatchResult result (λ defects. SayLists (texts_in texts.now) (option_map (λ bytes. bytes.now) flaws.entry) _items.now defects.items) (OnTold (InstanceRefused (texts_in texts.now) (option_map (λ bytes. bytes.now) flaws.entry))) }
+    ensures said { MatchResult result (λ defects.
+        SayLists (texts_in texts.now) (option_map
+        (λ bytes. bytes.now) flaws.entry) _items.now defects.items)
+        (OnTold (InstanceRefused (texts_in texts.now)
+        (option_map (λ bytes. bytes.now) flaws.entry))) }
     ensures ranges { IfOk result (λ defects. All IsDefectInRange defects.items) }
 {
     match defects_of(alloc, flaws) {
@@ -82,8 +90,12 @@ fn read_params_with(
     _items: &[Item],
     _defects: &[Defect],
 ) -> Result<Params, Stop>
-    requires { SayLists (texts_in texts.now) (option_map (λ bytes. bytes.now) flaws) _items.now _defects.now }
-    ensures { MatchResult result (SayStock (texts_in texts.now) (option_map (λ bytes. bytes.now) flaws.entry) _items.now _defects.now) (OnTold (InstanceRefused (texts_in texts.now) (option_map (λ bytes. bytes.now) flaws.entry))) }
+    requires { SayLists (texts_in texts.now) (option_map
+        (λ bytes. bytes.now) flaws) _items.now _defects.now }
+    ensures { MatchResult result (SayStock (texts_in texts.now)
+        (option_map (λ bytes. bytes.now) flaws.entry) _items.now _defects.now)
+        (OnTold (InstanceRefused (texts_in texts.now)
+        (option_map (λ bytes. bytes.now) flaws.entry))) }
 {
     match params_of(alloc, text_of_role(texts, Role::Params)) {
         Ok(params) => Ok(params),
@@ -100,8 +112,13 @@ fn read_widths_with(
     _defects: &[Defect],
     params: &Params,
 ) -> Result<Run<u32>, Stop>
-    requires { SayStock (texts_in texts.now) (option_map (λ bytes. bytes.now) flaws) _items.now _defects.now params.now }
-    ensures said { MatchResult result (λ widths. SayAll (texts_in texts.now) (option_map (λ bytes. bytes.now) flaws.entry) _items.now _defects.now params.now widths.items) (OnTold (InstanceRefused (texts_in texts.now) (option_map (λ bytes. bytes.now) flaws.entry))) }
+    requires { SayStock (texts_in texts.now) (option_map
+        (λ bytes. bytes.now) flaws) _items.now _defects.now params.now }
+    ensures said { MatchResult result (λ widths.
+        SayAll (texts_in texts.now) (option_map
+        (λ bytes. bytes.now) flaws.entry) _items.now _defects.now params.now widths.items)
+        (OnTold (InstanceRefused (texts_in texts.now)
+        (option_map (λ bytes. bytes.now) flaws.entry))) }
     ensures ranges { IfOk result (λ widths. AreWidths params.now widths.items) }
 {
     match widths_of(alloc, params, text_of_role(texts, Role::Plates)) {
@@ -113,7 +130,10 @@ fn read_widths_with(
 /// The instance that the texts say, with the defects of one of them or none, or what is told of the first text that is refused, or of lists that make no instance: the batch,
 /// the defects, the parameters and the widths of plates are read in this order.
 pub fn instance_of(alloc: Global, texts: &[Text], flaws: Option<&[u8]>) -> Result<Instance, Stop>
-    ensures { MatchResult result (IsInstanceOf (texts_in texts.now) (option_map (λ bytes. bytes.now) flaws.entry)) (OnTold (InstanceRefused (texts_in texts.now) (option_map (λ bytes. bytes.now) flaws.entry))) }
+    ensures { MatchResult result (IsInstanceOf (texts_in texts.now)
+        (option_map (λ bytes. bytes.now) flaws.entry))
+        (OnTold (InstanceRefused (texts_in texts.now)
+        (option_map (λ bytes. bytes.now) flaws.entry))) }
 {
     let items = read_items(alloc, texts, flaws)?;
     let defects = read_defects_with(alloc, texts, flaws, items.as_slice())?;

@@ -23,7 +23,8 @@ use std::alloc::Global;
 fn store_sheet(alloc: Global, instance: &Instance, plan: &Plan) -> Result<Reply, Memory>
     requires fits { Fits (tree plan.now) }
     requires lawful { IsLawful instance.now (tree plan.now) }
-    ensures { IfOk result (λ r. (name : Product → List ℕ) → answer_in name r ≡ sheeted (name Product.Sheet) (sheet_in (tree plan.now))) }
+    ensures { IfOk result (λ r. (name : Product → List ℕ)
+        → answer_in name r ≡ sheeted (name Product.Sheet) (sheet_in (tree plan.now))) }
 {
     let _params = instance.params();
     let sheet = sheet_of(alloc, instance, plan)?;
@@ -39,7 +40,8 @@ fn store_sheet(alloc: Global, instance: &Instance, plan: &Plan) -> Result<Reply,
 /// The reply to a plan: its sheet is stored where it is lawful, and else its first breach is told.
 fn sheet_plan(alloc: Global, instance: &Instance, plan: &Plan) -> Result<Reply, Memory>
     requires { Fits (tree plan.now) }
-    ensures { IfOk result (λ r. (name : Product → List ℕ) → Sheets instance.now (name Product.Sheet) (tree plan.now) (answer_in name r)) }
+    ensures { IfOk result (λ r. (name : Product → List ℕ)
+        → Sheets instance.now (name Product.Sheet) (tree plan.now) (answer_in name r)) }
 {
     let map = DefectMap::new(alloc, instance)?;
     let breach = first_breach(
@@ -58,7 +60,8 @@ fn sheet_plan(alloc: Global, instance: &Instance, plan: &Plan) -> Result<Reply, 
 
 /// The reply to the text of a plan of this instance.
 pub fn sheet_text(alloc: Global, instance: &Instance, bytes: &[u8]) -> Result<Reply, Memory>
-    ensures { IfOk result (λ r. (name : Product → List ℕ) → SheetsText instance.now (name Product.Sheet) bytes.now (answer_in name r)) }
+    ensures { IfOk result (λ r. (name : Product → List ℕ)
+        → SheetsText instance.now (name Product.Sheet) bytes.now (answer_in name r)) }
 {
     match read_plan(alloc, instance, bytes) {
         Ok(plan) => sheet_plan(alloc, instance, &plan),

@@ -23,13 +23,14 @@ use Rattle.cert_log.specs.Trees.{Tree, halved, closed, waiting, nodes_of}
 use Rattle.cert_log.specs.Values.{IsNumber}
 use Rattle.cert_log.proofs.Covers.{bounds_each_plan}
 use Rattle.cert_log.proofs.GoodNodes.{good_counts}
+use Rattle.cert_log.proofs.Walked.{good_left_is}
 use Rattle.cert_check.specs.Causes.{AreNamed}
 use Rattle.cert_resume.specs.Joins.{AreRightParts, IsAtMost, IsJoined, KeepsRight}
 use Rattle.cert_resume.specs.OpenBoxes.{left_boxes_of, open_boxes}
 use Rattle.cert_resume.proofs.Numbered.{as_many, bound_for_each, by_ranges}
 use Rattle.run_checks.specs.Checks.{IsConverted, loss_in, root_ranges}
 use Rattle.run_search.specs.Plans.{HasLoss, course_from, handled}
-use Rattle.run_search.specs.Resumptions.{IsResumed}
+use Rattle.run_search.specs.Resumptions.{ResumesEachBox}
 use Rattle.run_search.specs.inner.Searches.{IsSaidByItsText}
 use Rattle.run_search.proofs.Searched.{known}
 use Rattle.run_search.proofs.StoredTexts.{both_said, is_text_of}
@@ -139,7 +140,8 @@ module _ (b : Problem) (budget to_beat : ℕ) (plan : Option Forest) (c named : 
   all_handled =
       let boxes = open_boxes (root_ranges b) s.names.good.tree in
       let many : named.left ≡ length parts =
-      s.names.good.left_is ∙ bound_for_each b named.floor (root_ranges b) s.names.good.tree ∙ sym (as_many (frame_of b) 0 boxes)
+      good_left_is b (root_ranges b) c.loss named s.names.good
+      ∙ bound_for_each b named.floor (root_ranges b) s.names.good.tree ∙ sym (as_many (frame_of b) 0 boxes)
       ∙ zip_length (λ (x : PlainBox) (p : Certificate). IsGood b x.ranges (loss_of h.best) p) (left_boxes_of b s.names.good.tree) parts s.right in
       omega (
         arith,
@@ -153,22 +155,26 @@ module _ (b : Problem) (budget to_beat : ℕ) (plan : Option Forest) (c named : 
         good_counts b (root_ranges b) (loss_of h.best) j joined_good,
       )
 
-  pub resumed : HasLoss b (loss_of h.best) best → IsSaidByItsText b best → IsResumed b budget plan c j best
+  pub resumed : HasLoss b (loss_of h.best) best → IsSaidByItsText b best → ResumesEachBox b budget plan c j best
   resumed has said =
       let loss = s.joined.loss_is in
       let good = subst (λ (o : Option ℕ). IsGood b (root_ranges b) o j) (sym loss) joined_good in
       record {
-        named = named;
-        names = s.names;
-        parts = parts;
-        joined = subst (λ (o : Option ℕ). IsJoined named parts o j) (sym loss) s.joined;
-        good = good;
-        version = joined_version named j s.named_version s.joined;
-        plan_is = subst (λ (o : Option ℕ). HasLoss b o best) (sym loss) has;
-        no_worse = subst (λ (o : Option ℕ). IsAtMost o (loss_in b plan)) (sym loss) no_worse;
-        bounds = bounds_each_plan b 0 (loss_of h.best) j problem joined_good;
-        few = s.few;
-        said = both_said b best j said (is_text_of b j problem good (joined_version named j s.named_version s.joined) s.few s.head);
+        made = record {
+          named = named;
+          names = s.names;
+          parts = parts;
+          joined = subst (λ (o : Option ℕ). IsJoined named parts o j) (sym loss) s.joined;
+          good = good;
+          version = joined_version named j s.named_version s.joined;
+          plan_is = subst (λ (o : Option ℕ). HasLoss b o best) (sym loss) has;
+          no_worse = subst (λ (o : Option ℕ). IsAtMost o (loss_in b plan)) (sym loss) no_worse;
+          bounds = bounds_each_plan b 0 (loss_of h.best) j problem joined_good;
+          few = s.few;
+          said = both_said b best j said (is_text_of b j problem good (joined_version named j s.named_version s.joined) s.few s.head);
+          in_budget = omega (arith, all_handled, s.lawful.in_budget);
+          spent = λ some. all_handled ∙ ap (λ (n : ℕ). handled c + n) (s.lawful.spent (left_some h.left.items (omega (arith, some, s.joined.left_is, s.left))));
+        };
         to_beat = to_beat;
         searched = s.searched;
         no_greater = at_most;
@@ -176,6 +182,4 @@ module _ (b : Problem) (budget to_beat : ℕ) (plan : Option Forest) (c named : 
         lawful = subst (λ (n : ℕ). IsLawful b (course_from (left_boxes_of b s.names.good.tree) to_beat budget n) h) (sym s.joined.floor_is) s.lawful;
         handled_is = all_handled;
         left_is = omega (arith, s.joined.left_is, s.left);
-        in_budget = omega (arith, all_handled, s.lawful.in_budget);
-        spent = λ some. all_handled ∙ ap (λ (n : ℕ). handled c + n) (s.lawful.spent (left_some h.left.items (omega (arith, some, s.joined.left_is, s.left))));
       }

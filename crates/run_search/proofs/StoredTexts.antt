@@ -1,5 +1,5 @@
 -- What a search stores is read again, and accepted.
-use Rattle.std.proofs.Common.{◌≡◌, ℕ, ◌≤◌, ◌<◌, ◌^◌, ◌⊎◌, length, arith, refl, sym, ap, subst, Option, Some, None, Ok}
+use Rattle.std.proofs.Common.{◌≡◌, ℕ, ◌≤◌, length, arith, refl, sym, ap, subst, Option, Some, None, Ok}
 use Rattle.std.specs.Prelude.{option_map}
 use Rattle.std.proofs.lemmas.List.Elements.{All-weaker}
 use Rattle.glass_base.specs.Problem.{Problem, IsProblem}
@@ -28,9 +28,7 @@ use Rattle.cert_log.proofs.GoodNodes.{good_counts, good_left}
 use Rattle.cert_log.proofs.Naming.{good_steps}
 use Rattle.cert_log.proofs.ShortTexts.{short_texts}
 use Rattle.cert_log.proofs.Whole.{written_is_read}
-use Rattle.run_frame.specs.Answers.{Answer}
-use Rattle.run_checks.specs.Checks.{IsAccepted, IsLawfulToo, NotShown, Verifies, accepted, loss_in, root_ranges}
-use Rattle.run_checks.proofs.RightTexts.{right_is_accepted}
+use Rattle.run_checks.specs.Checks.{IsAccepted, IsLawfulToo, loss_in, root_ranges}
 use Rattle.run_search.specs.Plans.{HasLoss, handled, most_work}
 use Rattle.run_checks.specs.Said.{IsPlanIn, SayBoth}
 use Rattle.run_frame.specs.Texts.{limit_of}
@@ -115,12 +113,3 @@ is_accepted b plan c said has good = record {
   lawful = lawful_too b c.loss plan has;
   good = subst (λ (loss : Option ℕ). IsGood b (root_ranges b) loss c) (its_loss b c.loss plan has) good;
 }
-
--- the text of a certificate that is read has few bytes
-few_bytes : (bytes : ℕ) → bytes ≤ limit_of role.Cert → bytes < 2 ^ 63
-few_bytes bytes short = omega (arith, short)
-
--- `verify` of the texts accepts them, or does not show the floor
-pub verified_or : (b : Problem) (plan : Option Forest) (c : Certificate) → SayBoth b (option_map (solution_text b) plan) (cert_text c) plan c → HasLoss b c.loss plan → IsGood b (root_ranges b) c.loss c →
-    length (cert_text c) ≤ limit_of role.Cert → (answer : Answer) → Verifies b (option_map (solution_text b) plan) (cert_text c) answer → (answer ≡ accepted c) ⊎ NotShown c answer
-verified_or b plan c said has good short = right_is_accepted b (option_map (solution_text b) plan) (cert_text c) plan c (few_bytes (length (cert_text c)) short) (is_accepted b plan c said has good)

@@ -1,5 +1,5 @@
 -- What `freeze` answers to an instance and the text of a plan.
-use Rattle.std.specs.Prelude.{◌≡◌, ◌⊎◌, ◌≤◌, ◌<◌, ◌*◌, ℕ, List, [], ◌∷◌, length, Some, Ok, Err, Result}
+use Rattle.std.specs.Prelude.{◌≡◌, ◌⊎◌, ◌≤◌, ◌<◌, ◌*◌, ℕ, List, length, Some, Ok, Err, Result}
 use Rattle.glass_base.specs.Problem.{Problem}
 use Rattle.glass_base.specs.declared.role.Role.TheVariants as role
 use Rattle.cut_model.specs.declared.broken.Broken.{Broken}
@@ -17,7 +17,7 @@ use Rattle.plan_freeze.specs.Frozen.{first_plates, joined, later_plates}
 use Rattle.plan_freeze.specs.Rests.{IsRest, frozen_loss}
 use Rattle.run_frame.specs.Answers.{Answer, bad_input}
 use Rattle.run_plans.specs.Judgements.{IsFirstBroken, PlanRefused, unlawful}
-use Rattle.run_search.specs.Plans.{IsOfSearch, ending, handled, most_work, search_summary}
+use Rattle.run_search.specs.Plans.{IsOfSearch, both_stores, ending, handled, most_work, search_summary}
 use Rattle.run_checks.specs.Checks.{root_ranges}
 use Rattle.run_checks.specs.FrozenChecks.{all_frozen, raised}
 use Rattle.run_checks.specs.Said.{SayBoth}
@@ -48,7 +48,7 @@ pub record IsFoundFrom (b : Problem) (plan : Forest) (budget : ℕ) (c : Certifi
 abbrev pub frozen_planned : Problem → List ℕ → List ℕ → ℕ → Certificate → Forest → Answer
 frozen_planned b out cert more c whole = record {
   status = ending c;
-  stores = record { name = out; bytes = solution_text b whole } ∷ record { name = cert; bytes = cert_text c } ∷ [];
+  stores = both_stores b out cert c (Some whole);
   lines = search_summary (raised more c) (Some (neighbour_count whole));
 }
 

@@ -144,11 +144,15 @@ abbrev pub plan_stores : Problem → List ℕ → Option Forest → List Store
 plan_stores b name None = []
 plan_stores b name (Some plan) = record { name = name; bytes = solution_text b plan } ∷ []
 
--- the plan is stored, if there is one, then the certificate; the six lines are printed, and the improvements, where they are told
+-- the plan is stored, if there is one, then the certificate
+abbrev pub both_stores : Problem → List ℕ → List ℕ → Certificate → Option Forest → List Store
+both_stores b out cert c plan = plan_stores b out plan ++ record { name = cert; bytes = cert_text c } ∷ []
+
+-- both are stored; the six lines are printed, and the improvements, where they are told
 abbrev pub planned : Problem → List ℕ → List ℕ → Certificate → Option Forest → Option (List ℕ) → Answer
 planned b out cert c plan told = record {
   status = ending c;
-  stores = plan_stores b out plan ++ record { name = cert; bytes = cert_text c } ∷ [];
+  stores = both_stores b out cert c plan;
   lines = search_lines c (option_map neighbour_count plan) told;
 }
 

@@ -39,6 +39,14 @@ pub record IsResumed (b : Problem) (budget : ℕ) (plan : Option Forest) (c j : 
   -- the texts of both, if there is a plan, are read again as this plan and this certificate
   pub few : IsNumber (length j.nodes.items)
   pub said : SayBoth b (option_map (solution_text b) best) (cert_text j) best j
+  -- no more boxes were closed or split than the budget says beside those of the certificate, and exactly so many where one is left open
+  pub in_budget : handled j ≤ handled c + budget
+  pub spent : 0 < j.left → handled j ≡ handled c + budget
+
+-- and each box that the certificate leaves open, and each of its parts, was handled once or is left open
+pub record ResumesEachBox (b : Problem) (budget : ℕ) (plan : Option Forest) (c j : Certificate) (best : Option Forest) : Type 0 where
+  pub made : IsResumed b budget plan c j best
+  pub open made use *
   -- in the trees put in no box was split that is refuted, or whose bound reaches this loss; it is no greater than that of the plan
   pub to_beat : ℕ
   pub searched : AreSearched b to_beat (left_boxes_of b names.good.tree) parts
@@ -48,9 +56,6 @@ pub record IsResumed (b : Problem) (budget : ℕ) (plan : Option Forest) (c j : 
   pub lawful : IsLawfulHistory b (course_from (left_boxes_of b names.good.tree) to_beat budget j.floor) history
   pub handled_is : handled j ≡ handled c + length history.log.items
   pub left_is : j.left ≡ length history.left.items
-  -- no more boxes were closed or split than the budget says beside those of the certificate, and exactly so many where one is left open
-  pub in_budget : handled j ≤ handled c + budget
-  pub spent : 0 < j.left → handled j ≡ handled c + budget
 
 -- the answer where the text of a joined certificate has more bytes than one that is read: nothing is stored
 abbrev pub too_long_to_read : Certificate → Answer
@@ -60,7 +65,7 @@ too_long_to_read c = bad_input role.Cert 17 (length (cert_text c)) (limit_of rol
 pub record GoesOn (b : Problem) (budget : ℕ) (plan : Option Forest) (c : Certificate) (out new : List ℕ) (answer : Answer) : Type 0 where
   pub certificate : Certificate
   pub best : Option Forest
-  pub resumed : IsResumed b budget plan c certificate best
+  pub resumed : ResumesEachBox b budget plan c certificate best
   pub answer_is : answer ≡ (if nat_le (length (cert_text certificate)) (limit_of role.Cert) then planned b out new certificate best None else too_long_to_read certificate)
 
 -- the answer to a certificate that is accepted, or a refusal where its open boxes and the budget would be too much work

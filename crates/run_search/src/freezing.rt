@@ -75,7 +75,8 @@ fn find_from<R: Threads + Wait + Sync, G: Gate + Sync>(
 ) -> Result<FoundFrom, Memory>
     requires fits { Fits (tree plan.now) }
     requires lawful { IsLawful instance.now (tree plan.now) }
-    ensures found { IfOk result (λ found. IsFoundFrom instance.now (tree plan.now) workforce.now.budget found.certificate (tree found.best)) }
+    ensures found { IfOk result (λ found. IsFoundFrom instance.now
+        (tree plan.now) workforce.now.budget found.certificate (tree found.best)) }
     ensures fits { IfOk result (λ found. Fits (tree found.best)) }
     ensures few { IfOk result (λ found. count (tree found.best) ≤ 12 * length instance.now.items) }
     ensures head { IfOk result (λ found. IsHead (head_of found.certificate)) }
@@ -100,7 +101,10 @@ fn outputs_of(
 ) -> Result<Run<Output>, Memory>
     requires version { HasVersion certificate.now }
     requires fits { Fits (tree whole.now) }
-    ensures { IfOk result (λ outputs. (name : Product → List ℕ) → map (store_in name) outputs.items ≡ (frozen_planned instance.now (name Product.Plan) (name Product.Certificate) 0 certificate.now (tree whole.now)).stores) }
+    ensures { IfOk result (λ outputs. (name : Product → List ℕ)
+        → map (store_in name) outputs.items
+        ≡ (frozen_planned instance.now (name Product.Plan)
+        (name Product.Certificate) 0 certificate.now (tree whole.now)).stores) }
 {
     let mut outputs = Run::new(alloc);
     let bytes = write_plan(alloc, instance, whole)?;
@@ -134,7 +138,9 @@ fn reply_with_whole(
     requires fits { Fits (tree whole.now) }
     requires loss { IfSome certificate.now.loss (λ n. more + n < 2 ^ 64) }
     requires bound { IfSome certificate.now.bound (λ n. more + n < 2 ^ 64) }
-    ensures { IfOk result (λ r. (name : Product → List ℕ) → answer_in name r ≡ frozen_planned instance.now (name Product.Plan) (name Product.Certificate) more certificate.now (tree whole.now)) }
+    ensures { IfOk result (λ r. (name : Product → List ℕ)
+        → answer_in name r ≡ frozen_planned instance.now (name Product.Plan)
+        (name Product.Certificate) more certificate.now (tree whole.now)) }
 {
     let lines = six_lines(
         alloc,
@@ -163,7 +169,8 @@ fn find_behind<R: Threads + Wait + Sync, G: Gate + Sync>(
     requires fits { Fits (tree plan.now) }
     requires lawful { IsLawful instance.now (tree plan.now) }
     requires fewer { k < neighbour_count (tree plan.now) }
-    ensures found { IfOk result (λ found. IsFoundBehind instance.now (tree plan.now) k workforce.now.budget found.certificate (tree found.best)) }
+    ensures found { IfOk result (λ found. IsFoundBehind instance.now
+        (tree plan.now) k workforce.now.budget found.certificate (tree found.best)) }
     ensures fits { IfOk result (λ found. Fits (tree found.best)) }
 {
     let (left, tail) = rest(alloc, instance, plan, k)?;
@@ -182,7 +189,9 @@ fn plan_behind<R: Threads + Wait + Sync, G: Gate + Sync>(
     requires rows { count (tree plan.now) ≤ 1000000000 }
     requires lawful { IsLawful instance.now (tree plan.now) }
     requires fewer { k < neighbour_count (tree plan.now) }
-    ensures { IfOk result (λ r. (name : Product → List ℕ) → Freezes instance.now k workforce.now.budget (tree plan.now) (name Product.Plan) (name Product.Certificate) (answer_in name r)) }
+    ensures { IfOk result (λ r. (name : Product → List ℕ)
+        → Freezes instance.now k workforce.now.budget (tree plan.now) (name Product.Plan)
+        (name Product.Certificate) (answer_in name r)) }
 {
     // Read for its rules.
     let _items = instance.items();
@@ -202,7 +211,9 @@ fn freeze_plan<R: Threads + Wait + Sync, G: Gate + Sync>(
 ) -> Result<Reply, Memory>
     requires fits { Fits (tree plan.now) }
     requires rows { count (tree plan.now) ≤ 1000000000 }
-    ensures { IfOk result (λ r. (name : Product → List ℕ) → FreezesPlan instance.now k workforce.now.budget (tree plan.now) (name Product.Plan) (name Product.Certificate) (answer_in name r)) }
+    ensures { IfOk result (λ r. (name : Product → List ℕ)
+        → FreezesPlan instance.now k workforce.now.budget (tree plan.now) (name Product.Plan)
+        (name Product.Certificate) (answer_in name r)) }
 {
     let map = DefectMap::new(alloc, instance)?;
     if let Some(broken) = first_breach(
@@ -231,7 +242,9 @@ fn freeze_said<R: Threads + Wait + Sync, G: Gate + Sync>(
     bytes: &[u8],
     k: u32,
 ) -> Result<Reply, Memory>
-    ensures { IfOk result (λ r. (name : Product → List ℕ) → FreezesSaid instance.now k workforce.now.budget (plan_said instance.now bytes.now) (name Product.Plan) (name Product.Certificate) (answer_in name r)) }
+    ensures { IfOk result (λ r. (name : Product → List ℕ)
+        → FreezesSaid instance.now k workforce.now.budget (plan_said instance.now bytes.now)
+        (name Product.Plan) (name Product.Certificate) (answer_in name r)) }
 {
     match read_plan(alloc, instance, bytes) {
         Ok(plan) => freeze_plan(alloc, workforce, instance, &plan, k),
@@ -248,7 +261,9 @@ pub fn freeze_text<R: Threads + Wait + Sync, G: Gate + Sync>(
     bytes: &[u8],
     k: u32,
 ) -> Result<Reply, Memory>
-    ensures { IfOk result (λ r. (name : Product → List ℕ) → FreezesWithin instance.now k workforce.now.budget bytes.now (name Product.Plan) (name Product.Certificate) (answer_in name r)) }
+    ensures { IfOk result (λ r. (name : Product → List ℕ)
+        → FreezesWithin instance.now k workforce.now.budget bytes.now (name Product.Plan)
+        (name Product.Certificate) (answer_in name r)) }
 {
     let items = instance.items().len() as u64;
     if items * u64::from(workforce.budget) > MOST_WORK {

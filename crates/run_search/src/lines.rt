@@ -40,7 +40,8 @@ fn counted_lines(
 
 /// Appends a line for each improvement, with its loss.
 fn put_entries(alloc: Global, improvements: &[Entry], lines: &mut String) -> Result<(), Memory>
-    ensures { OnOk result (string_bytes lines.new ≡ string_bytes lines.old ++ entry_lines (map (λ e. e.loss) improvements.now)) }
+    ensures { OnOk result (string_bytes lines.new
+        ≡ string_bytes lines.old ++ entry_lines (map (λ e. e.loss) improvements.now)) }
 {
     for entry in improvements {
         let loss = entry.loss;
@@ -52,7 +53,8 @@ fn put_entries(alloc: Global, improvements: &[Entry], lines: &mut String) -> Res
 
 /// Appends the lines that tell of the improvements of a search: how many there are, and the loss of each.
 fn put_history(alloc: Global, improvements: &[Entry], lines: &mut String) -> Result<(), Memory>
-    ensures { OnOk result (string_bytes lines.new ≡ string_bytes lines.old ++ history_lines (map (λ e. e.loss) improvements.now)) }
+    ensures { OnOk result (string_bytes lines.new
+        ≡ string_bytes lines.old ++ history_lines (map (λ e. e.loss) improvements.now)) }
 {
     let count = improvements.len();
     let line = format!(in alloc; "history {count}\n")?;
@@ -70,7 +72,8 @@ pub(crate) fn six_lines(
     boxes: u64,
     left: u64,
 ) -> Result<String, Memory>
-    ensures { IfOk result (λ lines. string_bytes lines ≡ ended_lines_of ending.now loss bound ++ counted_lines_of plates boxes left) }
+    ensures { IfOk result (λ lines. string_bytes lines
+        ≡ ended_lines_of ending.now loss bound ++ counted_lines_of plates boxes left) }
 {
     let mut lines = ended_lines(alloc, ending, loss, bound)?;
     let counted = counted_lines(alloc, plates, boxes, left)?;
@@ -86,7 +89,8 @@ fn summary_of(
     plates: Option<u64>,
     boxes: u64,
 ) -> Result<String, Memory>
-    ensures { let c = certificate.now in IfOk result (λ lines. string_bytes lines ≡ ended_lines_of ending.now c.loss c.bound ++ counted_lines_of plates boxes c.left) }
+    ensures { let c = certificate.now in IfOk result (λ lines. string_bytes lines
+        ≡ ended_lines_of ending.now c.loss c.bound ++ counted_lines_of plates boxes c.left) }
 {
     let (loss, bound) = (certificate.loss, certificate.bound);
     six_lines(alloc, ending, loss, bound, plates, boxes, certificate.left)
@@ -103,7 +107,8 @@ pub(crate) fn search_lines(
 ) -> Result<String, Memory>
     requires ending { ending.now ≡ ending_word certificate.now }
     requires boxes { boxes ≡ handled certificate.now }
-    ensures { IfOk result (λ lines. string_bytes lines ≡ search_lines_of certificate.now plates (losses_in improvements.now)) }
+    ensures { IfOk result (λ lines. string_bytes lines
+        ≡ search_lines_of certificate.now plates (losses_in improvements.now)) }
 {
     let mut lines = summary_of(alloc, ending, certificate, plates, boxes)?;
     match improvements {

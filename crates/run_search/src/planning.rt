@@ -54,7 +54,8 @@ fn search_with<R: Threads + Wait + Sync, G: Gate + Sync>(
     watch: bool,
     opening: Opening,
 ) -> Result<Searched, Memory>
-    ensures history { IfOk result (λ s. IsWatchedHistory ground.entry.instance.now workforce.now.budget watch s.history s.improvements) }
+    ensures history { IfOk result (λ s. IsWatchedHistory ground.entry.instance.now
+        workforce.now.budget watch s.history s.improvements) }
     ensures unasked { IfOk result (λ s. opening.fronts ≡ false → s.history.floor ≡ 0) }
 {
     let start = start_of(alloc, workforce, ground, opening)?;
@@ -70,7 +71,8 @@ fn search_for<R: Threads + Wait + Sync, G: Gate + Sync>(
     watch: bool,
     opening: Opening,
 ) -> Result<Searched, Memory>
-    ensures history { IfOk result (λ s. IsWatchedHistory instance.now workforce.now.budget watch s.history s.improvements) }
+    ensures history { IfOk result (λ s. IsWatchedHistory instance.now workforce.now.budget watch
+        s.history s.improvements) }
     ensures unasked { IfOk result (λ s. opening.fronts ≡ false → s.history.floor ≡ 0) }
 {
     let map = DefectMap::new(alloc, instance)?;
@@ -92,8 +94,11 @@ pub(crate) fn certificate_of(
     instance: &Instance,
     history: &History,
 ) -> Result<Certificate, Memory>
-    requires { (budget : ℕ) × (to_beat : ℕ) × IsLawful instance.now (course instance.now to_beat budget history.now.floor) history.now }
-    ensures certifies { IfOk result (λ c. (budget to_beat : ℕ) → IsLawful instance.now (course instance.now to_beat budget history.now.floor) history.now → Certifies instance.now budget to_beat history.now c) }
+    requires { (budget : ℕ) × (to_beat : ℕ) × IsLawful instance.now
+        (course instance.now to_beat budget history.now.floor) history.now }
+    ensures certifies { IfOk result (λ c. (budget to_beat : ℕ)
+        → IsLawful instance.now (course instance.now to_beat budget history.now.floor) history.now
+        → Certifies instance.now budget to_beat history.now c) }
     ensures head { IfOk result (λ c. IsHead (head_of c)) }
 {
     let mut certificates = assemble(alloc, instance, history)?;
@@ -110,11 +115,13 @@ pub(crate) fn best_plan(
     history: &History,
 ) -> Result<Option<Plan>, Memory>
     requires { IsBest instance.now history.now.best history.now.plan }
-    ensures loss { IfOk result (λ plan. HasLoss instance.now (known_loss history.now.best) (option_map tree plan)) }
+    ensures loss { IfOk result (λ plan. HasLoss instance.now (known_loss history.now.best)
+        (option_map tree plan)) }
     ensures said { IfOk result (λ plan. IsSaidByItsText instance.now (option_map tree plan)) }
     ensures short { IfOk result (λ plan. IsShortToo instance.now (option_map tree plan)) }
     ensures fits { IfOk result FitsToo }
-    ensures few { IfOk result (λ plan. IfSome (option_map tree plan) (λ t. count t ≤ 12 * length instance.now.items)) }
+    ensures few { IfOk result (λ plan. IfSome (option_map tree plan) (λ t. count t
+        ≤ 12 * length instance.now.items)) }
 {
     // Read for its range and for its rules.
     let _best = history.best;
@@ -136,7 +143,8 @@ fn find<R: Threads + Wait + Sync, G: Gate + Sync>(
     watch: bool,
     opening: Opening,
 ) -> Result<Found, Memory>
-    ensures found { IfOk result (λ found. IsToldFound instance.now workforce.now.budget watch found.certificate (option_map tree found.plan) (losses_in found.improvements)) }
+    ensures found { IfOk result (λ found. IsToldFound instance.now workforce.now.budget watch
+        found.certificate (option_map tree found.plan) (losses_in found.improvements)) }
     ensures unasked { IfOk result (λ found. opening.fronts ≡ false → found.certificate.floor ≡ 0) }
     ensures fits { IfOk result (λ found. FitsToo found.plan) }
 {
@@ -203,7 +211,9 @@ fn put_plan(
 ) -> Result<(), Memory>
     requires fits { FitsToo plan.now }
     requires first { outputs.old.items ≡ [] }
-    ensures { OnOk result ((name : Product → List ℕ) → map (store_in name) outputs.new.items ≡ plan_stores instance.now (name Product.Plan) (option_map tree plan.now)) }
+    ensures { OnOk result ((name : Product → List ℕ)
+        → map (store_in name) outputs.new.items
+        ≡ plan_stores instance.now (name Product.Plan) (option_map tree plan.now)) }
 {
     match plan {
         None => Ok(()),
@@ -228,7 +238,10 @@ fn outputs_of(
     text: Run<u8>,
 ) -> Result<Run<Output>, Memory>
     requires { FitsToo plan.now }
-    ensures { IfOk result (λ outputs. (name : Product → List ℕ) → map (store_in name) outputs.items ≡ plan_stores instance.now (name Product.Plan) (option_map tree plan.now) ++ record { name = name Product.Certificate; bytes = text.items } ∷ []) }
+    ensures { IfOk result (λ outputs. (name : Product → List ℕ)
+        → map (store_in name) outputs.items
+        ≡ plan_stores instance.now (name Product.Plan) (option_map tree plan.now)
+        ++ record { name = name Product.Certificate; bytes = text.items } ∷ []) }
 {
     let mut outputs = Run::new(alloc);
     put_plan(alloc, instance, plan, &mut outputs)?;
@@ -261,7 +274,10 @@ pub(crate) fn reply_with_text(
 ) -> Result<Reply, Memory>
     requires text { text.items ≡ cert_text found.now.certificate }
     requires fits { FitsToo found.now.plan }
-    ensures { IfOk result (λ r. (name : Product → List ℕ) → answer_in name r ≡ planned instance.now (name Product.Plan) (name Product.Certificate) found.now.certificate (option_map tree found.now.plan) (losses_in found.now.improvements)) }
+    ensures { IfOk result (λ r. (name : Product → List ℕ)
+        → answer_in name r ≡ planned instance.now (name Product.Plan)
+        (name Product.Certificate) found.now.certificate (option_map tree found.now.plan)
+        (losses_in found.now.improvements)) }
 {
     let certificate = &found.certificate;
     let lines = search_lines(
@@ -283,7 +299,10 @@ pub(crate) fn reply_with_text(
 fn reply_with_found(alloc: Global, instance: &Instance, found: &Found) -> Result<Reply, Memory>
     requires version { HasVersion found.now.certificate }
     requires fits { FitsToo found.now.plan }
-    ensures { IfOk result (λ r. (name : Product → List ℕ) → answer_in name r ≡ planned instance.now (name Product.Plan) (name Product.Certificate) found.now.certificate (option_map tree found.now.plan) (losses_in found.now.improvements)) }
+    ensures { IfOk result (λ r. (name : Product → List ℕ)
+        → answer_in name r ≡ planned instance.now (name Product.Plan)
+        (name Product.Certificate) found.now.certificate (option_map tree found.now.plan)
+        (losses_in found.now.improvements)) }
 {
     let text = write_cert(alloc, &found.certificate)?;
     reply_with_text(alloc, instance, found, text)
@@ -299,7 +318,9 @@ pub fn plan_instance<R: Threads + Wait + Sync, G: Gate + Sync>(
     watch: bool,
     opening: Opening,
 ) -> Result<Reply, Memory>
-    ensures { IfOk result (λ r. (name : Product → List ℕ) → PlansWithin instance.now workforce.now.budget watch opening.fronts (name Product.Plan) (name Product.Certificate) (answer_in name r)) }
+    ensures { IfOk result (λ r. (name : Product → List ℕ)
+        → PlansWithin instance.now workforce.now.budget watch opening.fronts (name Product.Plan)
+        (name Product.Certificate) (answer_in name r)) }
 {
     let items = instance.items().len() as u64;
     if items * u64::from(workforce.budget) > MOST_WORK {

@@ -12,7 +12,7 @@ ghost use Rattle.cert_resume.specs.Joins.{IsAtMost};
 ghost use Rattle.box_workers.specs.Runs.{IsFirst, first_loss as first_loss_of};
 ghost use Rattle.run_checks.specs.Checks.{FitsToo, IsLawfulToo, loss_in, root_ranges};
 ghost use Rattle.run_search.specs.Plans.{course_from, planned};
-ghost use Rattle.run_search.specs.Resumptions.{GoesOnWithin, IsResumed, Resumes, too_long_to_read};
+ghost use Rattle.run_search.specs.Resumptions.{GoesOnWithin, Resumes, ResumesEachBox, too_long_to_read};
 ghost use Rattle.run_frame.specs.Texts.{limit_of};
 ghost use Rattle.run_frame.specs.Forms.{answer_in};
 
@@ -45,7 +45,8 @@ fn first_trace(
     requires fits { FitsToo plan.now }
     requires lawful { IsLawfulToo instance.now (option_map tree plan.now) }
     ensures first { IfOk result (IsFirst instance.now) }
-    ensures no_worse { IfOk result (λ first. IsAtMost (Some (first_loss_of instance.now first)) (loss_in instance.now (option_map tree plan.now))) }
+    ensures no_worse { IfOk result (λ first. IsAtMost (Some (first_loss_of instance.now first))
+        (loss_in instance.now (option_map tree plan.now))) }
     ensures known { IfOk result (λ first. is_some first ≡ is_some plan.now) }
 {
     match plan {
@@ -61,7 +62,8 @@ fn first_trace(
 fn history_of_none(alloc: Global, instance: &Instance, start: Start) -> History
     requires first { IsFirst instance.now start.first }
     requires floor { IsFloor instance.now start.floor }
-    ensures { (budget : ℕ) → IsLawful instance.now (course_from [] (first_loss_of instance.now start.first) budget start.floor) result }
+    ensures { (budget : ℕ) → IsLawful instance.now
+        (course_from [] (first_loss_of instance.now start.first) budget start.floor) result }
 {
     let Start { first, floor } = start;
     let best = first_loss(instance, &first);
@@ -88,7 +90,9 @@ fn history_of_open<R: Threads + Wait + Sync, G: Gate + Sync>(
     requires frames { All (λ (x : PlainBox). x.frame ≡ frame_of ground.instance.now) boxes.items }
     requires first { IsFirst ground.instance.now start.first }
     requires floor { IsFloor ground.instance.now start.floor }
-    ensures { let b = ground.entry.instance.now in IfOk result (λ h. IsLawful b (course_from boxes.items (first_loss_of b start.first) workforce.now.budget start.floor) h) }
+    ensures { let b = ground.entry.instance.now in
+        IfOk result (λ h. IsLawful b (course_from boxes.items
+        (first_loss_of b start.first) workforce.now.budget start.floor) h) }
 {
     if boxes.is_empty() {
         return Ok(history_of_none(alloc, ground.instance, start));
@@ -105,10 +109,13 @@ fn go_on<R: Threads + Wait + Sync, G: Gate + Sync>(
 ) -> Result<Found, Memory>
     requires fits { FitsToo checked.now.plan }
     requires lawful { IsLawfulToo ground.instance.now (option_map tree checked.now.plan) }
-    requires good { IsGood ground.instance.now (root_ranges ground.instance.now) (loss_in ground.instance.now (option_map tree checked.now.plan)) checked.now.certificate }
+    requires good { IsGood ground.instance.now (root_ranges ground.instance.now)
+        (loss_in ground.instance.now (option_map tree checked.now.plan)) checked.now.certificate }
     requires version { HasVersion checked.now.certificate }
     requires few { checked.now.certificate.left ≤ 160000000 }
-    ensures resumed { IfOk result (λ found. IsResumed ground.entry.instance.now workforce.now.budget (option_map tree checked.now.plan) checked.now.certificate found.certificate (option_map tree found.plan)) }
+    ensures resumed { IfOk result (λ found. ResumesEachBox ground.entry.instance.now
+        workforce.now.budget (option_map tree checked.now.plan) checked.now.certificate
+        found.certificate (option_map tree found.plan)) }
     ensures version { IfOk result (λ found. HasVersion found.certificate) }
     ensures fits { IfOk result (λ found. FitsToo found.plan) }
     ensures unwatched { IfOk result (λ found. found.improvements ≡ None) }
@@ -140,7 +147,11 @@ fn reply_if_readable(alloc: Global, instance: &Instance, found: &Found) -> Resul
     requires version { HasVersion found.now.certificate }
     requires fits { FitsToo found.now.plan }
     requires unwatched { found.now.improvements ≡ None }
-    ensures { IfOk result (λ r. (name : Product → List ℕ) → answer_in name r ≡ (if nat_le (length (cert_text found.now.certificate)) (limit_of role.Cert) then planned instance.now (name Product.Plan) (name Product.Certificate) found.now.certificate (option_map tree found.now.plan) None else too_long_to_read found.now.certificate)) }
+    ensures { IfOk result (λ r. (name : Product → List ℕ)
+        → answer_in name r ≡ (if nat_le (length (cert_text found.now.certificate))
+        (limit_of role.Cert) then planned instance.now (name Product.Plan)
+        (name Product.Certificate) found.now.certificate
+        (option_map tree found.now.plan) None else too_long_to_read found.now.certificate)) }
 {
     let text = write_cert(alloc, &found.certificate)?;
     let bytes = text.len() as u64;
@@ -162,9 +173,13 @@ fn resume_within<R: Threads + Wait + Sync, G: Gate + Sync>(
 ) -> Result<Reply, Memory>
     requires fits { FitsToo checked.now.plan }
     requires lawful { IsLawfulToo ground.instance.now (option_map tree checked.now.plan) }
-    requires good { IsGood ground.instance.now (root_ranges ground.instance.now) (loss_in ground.instance.now (option_map tree checked.now.plan)) checked.now.certificate }
+    requires good { IsGood ground.instance.now (root_ranges ground.instance.now)
+        (loss_in ground.instance.now (option_map tree checked.now.plan)) checked.now.certificate }
     requires version { HasVersion checked.now.certificate }
-    ensures { IfOk result (λ r. (name : Product → List ℕ) → GoesOnWithin ground.entry.instance.now workforce.now.budget (option_map tree checked.now.plan) checked.now.certificate (name Product.Plan) (name Product.Certificate) (answer_in name r)) }
+    ensures { IfOk result (λ r. (name : Product → List ℕ)
+        → GoesOnWithin ground.entry.instance.now workforce.now.budget
+        (option_map tree checked.now.plan) checked.now.certificate (name Product.Plan)
+        (name Product.Certificate) (answer_in name r)) }
 {
     // Read for its length.
     let _nodes = checked.certificate.nodes.len();
@@ -187,7 +202,10 @@ pub fn resume_texts<R: Threads + Wait + Sync, G: Gate + Sync>(
     plan_text: Option<&[u8]>,
     cert_text: &[u8],
 ) -> Result<Reply, Memory>
-    ensures { IfOk result (λ r. (name : Product → List ℕ) → Resumes instance.now (option_map (λ bytes. bytes.now) plan_text.entry) cert_text.now workforce.now.budget (name Product.Plan) (name Product.Certificate) (answer_in name r)) }
+    ensures { IfOk result (λ r. (name : Product → List ℕ)
+        → Resumes instance.now (option_map
+        (λ bytes. bytes.now) plan_text.entry) cert_text.now workforce.now.budget (name Product.Plan)
+        (name Product.Certificate) (answer_in name r)) }
 {
     let map = DefectMap::new(alloc, instance)?;
     let ground = Ground {

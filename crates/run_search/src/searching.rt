@@ -43,8 +43,12 @@ fn search_of_boxes<R: Threads + Wait + Sync, G: Gate + Sync>(
     requires frames { All (λ (x : PlainBox). x.frame ≡ frame_of ground.instance.now) boxes.items }
     requires first { IsFirst ground.instance.now start.first }
     requires floor { IsFloor ground.instance.now start.floor }
-    ensures lawful { let b = ground.entry.instance.now in IfOk result (λ s. IsLawful b (course_from boxes.items (first_loss_of b start.first) workforce.now.budget start.floor) s.history) }
-    ensures watched { let b = ground.entry.instance.now in IfOk result (λ s. AreWatched b (first_loss_of b start.first) s.history.best watch s.improvements) }
+    ensures lawful { let b = ground.entry.instance.now in
+        IfOk result (λ s. IsLawful b (course_from boxes.items
+        (first_loss_of b start.first) workforce.now.budget start.floor) s.history) }
+    ensures watched { let b = ground.entry.instance.now in
+        IfOk result (λ s. AreWatched b (first_loss_of b start.first) s.history.best watch
+        s.improvements) }
 {
     let Start { first, floor } = start;
     let loss = first_loss(ground.instance, &first);
@@ -104,7 +108,9 @@ pub(crate) fn history_of_boxes<R: Threads + Wait + Sync, G: Gate + Sync>(
     requires frames { All (λ (x : PlainBox). x.frame ≡ frame_of ground.instance.now) boxes.items }
     requires first { IsFirst ground.instance.now start.first }
     requires floor { IsFloor ground.instance.now start.floor }
-    ensures { let b = ground.entry.instance.now in IfOk result (λ h. IsLawful b (course_from boxes.items (first_loss_of b start.first) workforce.now.budget start.floor) h) }
+    ensures { let b = ground.entry.instance.now in
+        IfOk result (λ h. IsLawful b (course_from boxes.items
+        (first_loss_of b start.first) workforce.now.budget start.floor) h) }
 {
     let Searched {
         history,
@@ -123,8 +129,12 @@ pub(crate) fn search_from<R: Threads + Wait + Sync, G: Gate + Sync>(
 ) -> Result<Searched, Memory>
     requires first { IsFirst ground.instance.now start.first }
     requires floor { IsFloor ground.instance.now start.floor }
-    ensures lawful { let b = ground.entry.instance.now in IfOk result (λ s. IsLawful b (course b (first_loss_of b start.first) workforce.now.budget start.floor) s.history) }
-    ensures watched { let b = ground.entry.instance.now in IfOk result (λ s. AreWatched b (first_loss_of b start.first) s.history.best watch s.improvements) }
+    ensures lawful { let b = ground.entry.instance.now in
+        IfOk result (λ s. IsLawful b (course b
+        (first_loss_of b start.first) workforce.now.budget start.floor) s.history) }
+    ensures watched { let b = ground.entry.instance.now in
+        IfOk result (λ s. AreWatched b (first_loss_of b start.first) s.history.best watch
+        s.improvements) }
 {
     let boxes = start_boxes(alloc, ground.instance)?;
     search_of_boxes(alloc, workforce, ground, boxes, start, watch)
@@ -139,7 +149,9 @@ pub(crate) fn history_from<R: Threads + Wait + Sync, G: Gate + Sync>(
 ) -> Result<History, Memory>
     requires first { IsFirst ground.instance.now start.first }
     requires floor { IsFloor ground.instance.now start.floor }
-    ensures { let b = ground.entry.instance.now in IfOk result (λ h. IsLawful b (course b (first_loss_of b start.first) workforce.now.budget start.floor) h) }
+    ensures { let b = ground.entry.instance.now in
+        IfOk result (λ h. IsLawful b (course b
+        (first_loss_of b start.first) workforce.now.budget start.floor) h) }
 {
     let boxes = start_boxes(alloc, ground.instance)?;
     history_of_boxes(alloc, workforce, ground, boxes, start)

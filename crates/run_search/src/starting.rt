@@ -53,8 +53,10 @@ fn begun<G: Gate>(
     fronts: bool,
     telling: &Telling<G>,
 ) -> Result<Start, Memory>
-    ensures plan { IfOk result (λ start. IfSome start.first (λ trace. IsFirstPlan ground.entry.instance.now trace.steps.items)) }
-    ensures none { IfOk result (λ start. IfNone start.first ((number : ℕ) × HasNoDraft ground.entry.instance.now number)) }
+    ensures plan { IfOk result (λ start. IfSome start.first
+        (λ trace. IsFirstPlan ground.entry.instance.now trace.steps.items)) }
+    ensures none { IfOk result (λ start. IfNone start.first ((number : ℕ)
+        × HasNoDraft ground.entry.instance.now number)) }
     ensures floor { IfOk result (λ start. IsFloor ground.entry.instance.now start.floor) }
     ensures unasked { IfOk result (λ start. fronts ≡ false → start.floor ≡ 0) }
 {
@@ -72,8 +74,10 @@ pub(crate) fn start_of<R: Threads + Sync, G: Gate>(
     ground: Ground<'_>,
     opening: Opening,
 ) -> Result<Start, Memory>
-    ensures plan { IfOk result (λ start. IfSome start.first (λ trace. IsFirstPlan ground.entry.instance.now trace.steps.items)) }
-    ensures none { IfOk result (λ start. IfNone start.first ((number : ℕ) × HasNoDraft ground.entry.instance.now number)) }
+    ensures plan { IfOk result (λ start. IfSome start.first
+        (λ trace. IsFirstPlan ground.entry.instance.now trace.steps.items)) }
+    ensures none { IfOk result (λ start. IfNone start.first ((number : ℕ)
+        × HasNoDraft ground.entry.instance.now number)) }
     ensures floor { IfOk result (λ start. IsFloor ground.entry.instance.now start.floor) }
     ensures unasked { IfOk result (λ start. opening.fronts ≡ false → start.floor ≡ 0) }
 {

@@ -165,7 +165,8 @@ impl SharedBest {
         ensures seen { result ≤ seat.old.view.seen }
         ensures announced { result ≤ seat.old.view.announced }
         ensures first { result ≤ self.now.first }
-        ensures whole { IsWhole seat.old.view → result ≡ min self.now.first seat.old.view.announced }
+        ensures whole { IsWhole seat.old.view → result
+            ≡ min self.now.first seat.old.view.announced }
     {
         self.table.shared.load::<Look>(&mut seat.inner, BEST)
     }

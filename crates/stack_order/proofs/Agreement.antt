@@ -6,13 +6,13 @@ use Rattle.std.proofs.lemmas.List.Elements.{All-nil, All-cons, All-map, All-weak
 use Rattle.glass_base.proofs.Pairs.{pairs_map, contained_map}
 use Rattle.glass_base.specs.declared.item.Item.{Item}
 use Rattle.glass_base.specs.Problem.{Problem}
-use Rattle.cut_model.specs.declared.broken.Rule.{Rule}
 use Rattle.cut_model.specs.declared.broken.Broken.{Broken}
 use Rattle.cut_model.specs.declared.family.Row.{Row}
 use Rattle.cut_model.specs.Lawful.{IsItemOn, KeepsOrderRules, plate_rows}
 use Rattle.cut_model.specs.Order.{cut_order, item_named, item_with, items_cut, KeepsStacks}
 use Rattle.cut_model.proofs.Firsts.{first_not_all}
 use Rattle.stack_order.specs.declared.cuts.Cut.{Cut}
+use Rattle.stack_order.specs.declared.order_rule.OrderRule.{OrderRule}
 use Rattle.stack_order.specs.Cuts.{cuts_of, AreCuts}
 use Rattle.stack_order.specs.Breaches.{numbers, numbers_cut, items_of, HasItem, KeepsOrderRule, order_rules, IsBreach}
 use Rattle.stack_order.proofs.Searches.{find_some, find_is_some, any_cases, any_first, any_later, any_none, any_from_contained, all_unmap, pairs_unmap}
@@ -114,13 +114,13 @@ rows_from_cuts b rows kept =
     let cuts : List Cut = cuts_of b.items rows in
     record {
       each_once = record {
-        known = subst (All (Contains (numbers b.items))) (numbers_agree b.items rows) (numbers_from_items b.items cuts (are_cuts b.items rows) (kept 0 Rule.L10 (omega arith)));
-        once = subst (AllPairs (λ (m n : ℕ). m ≢ n)) (numbers_agree b.items rows) (pairs_map (λ (m n : ℕ). m ≢ n) (λ (c : Cut). c.number) cuts (kept 1 Rule.L10 (omega arith)));
-        all = subst (λ (order : List ℕ). All (Contains order) (numbers b.items)) (numbers_agree b.items rows) (kept 2 Rule.L10 (omega arith));
+        known = subst (All (Contains (numbers b.items))) (numbers_agree b.items rows) (numbers_from_items b.items cuts (are_cuts b.items rows) (kept 0 OrderRule.L10 (omega arith)));
+        once = subst (AllPairs (λ (m n : ℕ). m ≢ n)) (numbers_agree b.items rows) (pairs_map (λ (m n : ℕ). m ≢ n) (λ (c : Cut). c.number) cuts (kept 1 OrderRule.L10 (omega arith)));
+        all = subst (λ (order : List ℕ). All (Contains order) (numbers b.items)) (numbers_agree b.items rows) (kept 2 OrderRule.L10 (omega arith));
       };
-      each_plate = All-weaker (HasItem cuts) (λ (p : Row). Any (IsItemOn p.plate) rows) (has_from_cuts b.items rows) (plate_rows rows) (kept 3 Rule.L10 (omega arith));
-      few_plates = kept 4 Rule.L10 (omega arith);
-      stacks = subst KeepsStacks (items_agree b.items rows) (kept 5 Rule.L10 (omega arith));
+      each_plate = All-weaker (HasItem cuts) (λ (p : Row). Any (IsItemOn p.plate) rows) (has_from_cuts b.items rows) (plate_rows rows) (kept 3 OrderRule.L10 (omega arith));
+      few_plates = kept 4 OrderRule.L10 (omega arith);
+      stacks = subst KeepsStacks (items_agree b.items rows) (kept 5 OrderRule.L10 (omega arith));
     }
 
 -- a plan that keeps the rules by its rows keeps each of them by its cuts
@@ -150,7 +150,7 @@ breach_agrees b rows cuts plates broken are h =
 pub breach_unlawful : (b : Problem) (rows : List Row) (cuts : List Cut) (plates : List Row) (broken : Broken) → AreGathered b rows cuts plates → IsBreach b cuts plates broken → ¬ KeepsOrderRules b rows
 breach_unlawful b rows cuts plates broken are h lawful =
     let breach = breach_agrees b rows cuts plates broken are h in
-    first_not_all order_rules broken.rule breach.rule (cuts_from_rows b rows lawful)
+    first_not_all order_rules breach.rule breach.first (cuts_from_rows b rows lawful)
 
 -- a plan without one keeps them
 pub kept_lawful : (b : Problem) (rows : List Row) (cuts : List Cut) (plates : List Row) → AreGathered b rows cuts plates → All (KeepsOrderRule b cuts plates) order_rules → KeepsOrderRules b rows

@@ -5,12 +5,12 @@ use Rattle.std.proofs.lemmas.Option.{same_Some, slice_get_within, slice_get_read
 use Rattle.std.proofs.lemmas.List.{take-take, get_or-take}
 use Rattle.glass_base.specs.declared.item.Item.{Item}
 use Rattle.glass_base.specs.Problem.{Problem}
-use Rattle.cut_model.specs.declared.broken.Rule.{Rule}
 use Rattle.cut_model.specs.declared.broken.Broken.{Broken}
 use Rattle.cut_model.specs.declared.family.Row.{Row}
 use Rattle.cut_model.specs.Order.{KeepsStacks}
 use Rattle.cut_model.proofs.Firsts.{first_is_one}
 use Rattle.stack_order.specs.declared.cuts.Cut.{Cut}
+use Rattle.stack_order.specs.declared.order_rule.OrderRule.{OrderRule}
 use Rattle.stack_order.specs.Breaches.{numbers, items_of, breach, order_rules, last_of_stack, Names, NamesUnknown, NamesTwice, NamesMissing, NamesEmptyPlate, NamesLate, IsBreach}
 use Rattle.stack_order.proofs.Counted.{twice_breaks}
 use Rattle.stack_order.proofs.Ordered.{late_breaks}
@@ -51,8 +51,8 @@ twice_is_one cuts x y h k =
     let first : h.first ≡ k.first =
     same_Some h.first k.first (sym h.first_is ∙ ap (λ (cut : Cut). seek cut h.place) again ∙ ap (seek k.again) place ∙ k.first_is) in
     h.is
-    ∙ ap (λ (cut : Cut). breach Rule.L9Twice cut.plate cut.node cut.number h.first.node) again
-    ∙ ap (λ (cut : Cut). breach Rule.L9Twice k.again.plate k.again.node k.again.number cut.node) first
+    ∙ ap (λ (cut : Cut). breach OrderRule.L9Twice cut.plate cut.node cut.number h.first.node) again
+    ∙ ap (λ (cut : Cut). breach OrderRule.L9Twice k.again.plate k.again.node k.again.number cut.node) first
     ∙ sym k.is
 
 -- where the stacks are kept before a place, no item is late before it
@@ -78,37 +78,36 @@ late_is_one cuts x y h k =
     let last : h.late.last ≡ k.late.last =
     same_Some h.late.last k.late.last (sym h.late.last_is ∙ ap (λ (i : Item). seek i h.place) item ∙ ap (seek k.late.item) place ∙ k.late.last_is) in
     h.late.is
-    ∙ ap (λ (c : Cut). breach Rule.L10 c.plate c.node h.late.last.id c.number) cut
-    ∙ ap (λ (i : Item). breach Rule.L10 k.cut.plate k.cut.node i.id k.cut.number) last
+    ∙ ap (λ (c : Cut). breach OrderRule.L10 c.plate c.node h.late.last.id c.number) cut
+    ∙ ap (λ (i : Item). breach OrderRule.L10 k.cut.plate k.cut.node i.id k.cut.number) last
     ∙ sym k.late.is
 
 -- there is one first item that the batch does not have
 unknown_is_one : (cuts : List Cut) (x y : Broken) → NamesUnknown cuts x → NamesUnknown cuts y → x ≡ y
 unknown_is_one cuts x y h k =
-    h.is ∙ ap (λ (c : Cut). breach Rule.L9Unknown c.plate c.node c.number 0) (first_is_one cuts h.cut k.cut h.first k.first) ∙ sym k.is
+    h.is ∙ ap (λ (c : Cut). breach OrderRule.L9Unknown c.plate c.node c.number 0) (first_is_one cuts h.cut k.cut h.first k.first) ∙ sym k.is
 
 -- there is one first item of the batch that is not cut
 missing_is_one : (items : List Item) (cuts : List Cut) (x y : Broken) → NamesMissing items cuts x → NamesMissing items cuts y → x ≡ y
 missing_is_one items cuts x y h k =
-    h.is ∙ ap (λ (number : ℕ). breach Rule.L9Missing 0 0 number 0) (first_is_one (numbers items) h.number k.number h.first k.first) ∙ sym k.is
+    h.is ∙ ap (λ (number : ℕ). breach OrderRule.L9Missing 0 0 number 0) (first_is_one (numbers items) h.number k.number h.first k.first) ∙ sym k.is
 
 -- there is one first plate from which no item is cut
 empty_plate_is_one : (cuts : List Cut) (plates : List Row) (x y : Broken) → NamesEmptyPlate cuts plates x → NamesEmptyPlate cuts plates y → x ≡ y
 empty_plate_is_one cuts plates x y h k =
-    h.is ∙ ap (λ (row : Row). breach Rule.L9EmptyPlate row.plate row.node row.plate 0) (first_is_one plates h.plate k.plate h.first k.first) ∙ sym k.is
+    h.is ∙ ap (λ (row : Row). breach OrderRule.L9EmptyPlate row.plate row.node row.plate 0) (first_is_one plates h.plate k.plate h.first k.first) ∙ sym k.is
 
 -- one thing is said of a rule that is broken
-names_are_one : (b : Problem) (cuts : List Cut) (plates : List Row) (rule : Rule) (x y : Broken) → Names b cuts plates rule x → Names b cuts plates rule y → x ≡ y
-names_are_one b cuts plates Rule.L9Unknown x y h k = unknown_is_one cuts x y h k
-names_are_one b cuts plates Rule.L9Twice x y h k = twice_is_one cuts x y h k
-names_are_one b cuts plates Rule.L9Missing x y h k = missing_is_one b.items cuts x y h k
-names_are_one b cuts plates Rule.L9EmptyPlate x y h k = empty_plate_is_one cuts plates x y h k
-names_are_one b cuts plates Rule.L9Plates x y h k = h ∙ sym k
-names_are_one b cuts plates Rule.L10 x y h k = late_is_one cuts x y h k
-names_are_one b cuts plates _ x y h k = absurd h
+names_are_one : (b : Problem) (cuts : List Cut) (plates : List Row) (rule : OrderRule) (x y : Broken) → Names b cuts plates rule x → Names b cuts plates rule y → x ≡ y
+names_are_one b cuts plates OrderRule.L9Unknown x y h k = unknown_is_one cuts x y h k
+names_are_one b cuts plates OrderRule.L9Twice x y h k = twice_is_one cuts x y h k
+names_are_one b cuts plates OrderRule.L9Missing x y h k = missing_is_one b.items cuts x y h k
+names_are_one b cuts plates OrderRule.L9EmptyPlate x y h k = empty_plate_is_one cuts plates x y h k
+names_are_one b cuts plates OrderRule.L9Plates x y h k = h ∙ sym k
+names_are_one b cuts plates OrderRule.L10 x y h k = late_is_one cuts x y h k
 
 -- there is one breach of the rules on the order of items at the most
 pub breaches_one : (b : Problem) (cuts : List Cut) (plates : List Row) (x y : Broken) → IsBreach b cuts plates x → IsBreach b cuts plates y → x ≡ y
 breaches_one b cuts plates x y h k =
-    let same : y.rule ≡ x.rule = first_is_one order_rules y.rule x.rule k.rule h.rule in
-    names_are_one b cuts plates x.rule x y h.named (subst (λ (rule : Rule). Names b cuts plates rule y) same k.named)
+    let same : k.rule ≡ h.rule = first_is_one order_rules k.rule h.rule k.first h.first in
+    names_are_one b cuts plates h.rule x y h.named (subst (λ (rule : OrderRule). Names b cuts plates rule y) same k.named)

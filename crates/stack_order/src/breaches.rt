@@ -7,24 +7,32 @@ ghost use Rattle.std.specs.Prelude.{◌≡◌, ◌≢◌, ◌<◌, ◌≤◌, �
 ghost use Rattle.glass_base.specs.Items.{DifferentPlaces};
 ghost use Rattle.glass_base.specs.declared.item.Item.{Item as GlassItem};
 ghost use Rattle.cut_model.specs.Order.{KeepsStacks};
-ghost use Rattle.cut_model.specs.declared.broken.Rule.TheVariants.{L9Plates};
 ghost use Rattle.stack_order.specs.Breaches.{numbers, numbers_cut, items_of, HasItem, breach as breach_of, last_of_stack as last_of, NamesUnknown, NamesTwice, NamesMissing, NamesEmptyPlate, IsLate, NamesLate};
+ghost use Rattle.stack_order.specs.declared.order_rule.OrderRule.TheVariants.{L9Plates};
 
 use crate::cuts::Cut;
+use crate::order_rule::OrderRule;
 use cut_model::{Broken, Row, Rule};
 use glass_base::{Item, Params};
 
-/// A breach of this rule at an item that is cut.
-fn breach_at(rule: Rule, cut: &Cut, left: u64, right: u64) -> Broken
-    ensures { result ≡ breach_of rule cut.now.plate cut.now.node left right }
+/// A breach of this rule at this place, with the two numbers that disagree.
+fn breach(rule: OrderRule, plate: u32, node: u64, left: u64, right: u64) -> Broken
+    ensures { result ≡ breach_of rule plate node left right }
 {
     Broken {
-        rule,
-        plate: cut.plate,
-        node: cut.node,
+        rule: Rule::from(rule),
+        plate,
+        node,
         left,
         right,
     }
+}
+
+/// A breach of this rule at an item that is cut.
+fn breach_at(rule: OrderRule, cut: &Cut, left: u64, right: u64) -> Broken
+    ensures { result ≡ breach_of rule cut.now.plate cut.now.node left right }
+{
+    breach(rule, cut.plate, cut.node, left, right)
 }
 
 /// The first item that the batch does not have.
@@ -33,7 +41,7 @@ pub fn first_unknown(cuts: &[Cut]) -> Option<Broken>
 {
     for cut in cuts {
         if cut.item.is_none() {
-            return Some(breach_at(Rule::L9Unknown, cut, u64::from(cut.number), 0));
+            return Some(breach_at(OrderRule::L9Unknown, cut, u64::from(cut.number), 0));
         }
     }
     None
@@ -48,11 +56,12 @@ fn first_of_number(cuts: &[Cut], number: u32) -> Option<Cut>
 
 /// The first item that was cut before.
 pub fn first_repeat(cuts: &[Cut]) -> Option<Broken>
-    ensures { MatchOption result (AllPairs (λ a c. a.number ≢ c.number) cuts.now) (NamesTwice cuts.now) }
+    ensures { MatchOption result (AllPairs (λ a c. a.number ≢ c.number) cuts.now)
+        (NamesTwice cuts.now) }
 {
     for (place, cut) in cuts.iter().enumerate() {
         if let Some(first) = first_of_number(&cuts[..place], cut.number) {
-            return Some(breach_at(Rule::L9Twice, cut, u64::from(cut.number), first.node));
+            return Some(breach_at(OrderRule::L9Twice, cut, u64::from(cut.number), first.node));
         }
     }
     None
@@ -60,17 +69,12 @@ pub fn first_repeat(cuts: &[Cut]) -> Option<Broken>
 
 /// The first item of the batch that is not cut.
 pub fn first_missing(items: &[Item], cuts: &[Cut]) -> Option<Broken>
-    ensures { MatchOption result (All (Contains (numbers_cut cuts.now)) (numbers items.now)) (NamesMissing items.now cuts.now) }
+    ensures { MatchOption result (All (Contains (numbers_cut cuts.now)) (numbers items.now))
+        (NamesMissing items.now cuts.now) }
 {
     for item in items {
         if !cuts.iter().any(|c| c.number == item.id) {
-            return Some(Broken {
-                rule: Rule::L9Missing,
-                plate: 0,
-                node: 0,
-                left: u64::from(item.id),
-                right: 0,
-            });
+            return Some(breach(OrderRule::L9Missing, 0, 0, u64::from(item.id), 0));
         }
     }
     None
@@ -78,17 +82,18 @@ pub fn first_missing(items: &[Item], cuts: &[Cut]) -> Option<Broken>
 
 /// The first plate from which no item is cut.
 pub fn first_empty_plate(cuts: &[Cut], plates: &[Row]) -> Option<Broken>
-    ensures { MatchOption result (All (HasItem cuts.now) plates.now) (NamesEmptyPlate cuts.now plates.now) }
+    ensures { MatchOption result (All (HasItem cuts.now) plates.now)
+        (NamesEmptyPlate cuts.now plates.now) }
 {
     for plate in plates {
         if !cuts.iter().any(|c| c.plate == plate.plate) {
-            return Some(Broken {
-                rule: Rule::L9EmptyPlate,
-                plate: plate.plate,
-                node: plate.node,
-                left: u64::from(plate.plate),
-                right: 0,
-            });
+            return Some(breach(
+                OrderRule::L9EmptyPlate,
+                plate.plate,
+                plate.node,
+                u64::from(plate.plate),
+                0,
+            ));
         }
     }
     None
@@ -96,18 +101,20 @@ pub fn first_empty_plate(cuts: &[Cut], plates: &[Row]) -> Option<Broken>
 
 /// Whether there are too many plates.
 pub fn plates_too_many(params: &Params, plates: &[Row]) -> Option<Broken>
-    ensures { MatchOption result (length plates.now ≤ params.now.plates) (λ broken. (params.now.plates < length plates.now) × (broken ≡ breach_of L9Plates 0 0 (length plates.now) params.now.plates)) }
+    ensures { MatchOption result (length plates.now
+        ≤ params.now.plates) (λ broken. (params.now.plates < length plates.now)
+        × (broken ≡ breach_of L9Plates 0 0 (length plates.now) params.now.plates)) }
 {
     if plates.len() <= params.plates as usize {
         return None;
     }
-    Some(Broken {
-        rule: Rule::L9Plates,
-        plate: 0,
-        node: 0,
-        left: plates.len() as u64,
-        right: u64::from(params.plates),
-    })
+    Some(breach(
+        OrderRule::L9Plates,
+        0,
+        0,
+        plates.len() as u64,
+        u64::from(params.plates),
+    ))
 }
 
 /// The last of these items that belongs to a stack.
@@ -122,12 +129,19 @@ fn last_of_stack(cuts: &[Cut], stack: u32) -> Option<Item>
 
 /// Whether an item that is cut behind these comes too late.
 fn late(before: &[Cut], cut: &Cut) -> Option<Broken>
-    ensures { MatchOption result ((item last : GlassItem) → cut.now.item ≡ Some item → last_of item.stack before.now ≡ Some last → last.sequence ≤ item.sequence) (IsLate before.now cut.now) }
+    ensures { MatchOption result ((item last : GlassItem) → cut.now.item ≡ Some item
+        → last_of item.stack before.now ≡ Some last
+        → last.sequence ≤ item.sequence) (IsLate before.now cut.now) }
 {
     let item = cut.item?;
     let last = last_of_stack(before, item.stack)?;
     if item.sequence < last.sequence {
-        Some(breach_at(Rule::L10, cut, u64::from(last.id), u64::from(cut.number)))
+        Some(breach_at(
+            OrderRule::L10,
+            cut,
+            u64::from(last.id),
+            u64::from(cut.number),
+        ))
     } else {
         None
     }

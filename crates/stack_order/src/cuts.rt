@@ -69,8 +69,10 @@ pub struct Gathered {
 /// What a plan cuts. It fails only where memory runs out.
 pub fn gather(alloc: Global, instance: &Instance, plan: &Plan) -> Result<Gathered, Memory>
     requires { Fits (tree plan.now) }
-    ensures cuts { let b = instance.now in IfOk result (λ g. g.cuts.items ≡ cuts_of b.items (rows_of b (tree plan.now))) }
-    ensures plates { let b = instance.now in IfOk result (λ g. g.plates.items ≡ plate_rows (rows_of b (tree plan.now))) }
+    ensures cuts { let b = instance.now in IfOk result (λ g. g.cuts.items
+        ≡ cuts_of b.items (rows_of b (tree plan.now))) }
+    ensures plates { let b = instance.now in IfOk result (λ g. g.plates.items
+        ≡ plate_rows (rows_of b (tree plan.now))) }
 {
     let mut gathering = Gathering {
         items: instance.items(),

@@ -19,7 +19,8 @@ use std::alloc::Global;
 /// The first rule on the order of items that is broken, at its first place.
 fn first_breach(instance: &Instance, cuts: &[Cut], plates: &[Row]) -> Option<Broken>
     requires { AreCuts instance.now.items cuts.now }
-    ensures { let b = instance.now in MatchOption result (All (KeepsOrderRule b cuts.now plates.now) order_rules) (IsBreach b cuts.now plates.now) }
+    ensures { let b = instance.now in MatchOption result
+        (All (KeepsOrderRule b cuts.now plates.now) order_rules) (IsBreach b cuts.now plates.now) }
 {
     if let Some(broken) = first_unknown(cuts) {
         return Some(broken);
@@ -57,8 +58,10 @@ pub fn judge_order(
     plan: &Plan,
 ) -> Result<Result<(), Broken>, Memory>
     requires { Fits (tree plan.now) }
-    ensures lawful { let b = instance.now in IfOk result (λ answer. IsOk answer ↔ KeepsOrderRules b (rows_of b (tree plan.now))) }
-    ensures first { let b = instance.now in let rows = rows_of b (tree plan.now) in IfOk result (λ answer. IfErr answer (IsBreach b (cuts_of b.items rows) (plate_rows rows))) }
+    ensures lawful { let b = instance.now in IfOk result (λ answer. IsOk answer
+        ↔ KeepsOrderRules b (rows_of b (tree plan.now))) }
+    ensures first { let b = instance.now in let rows = rows_of b (tree plan.now) in
+        IfOk result (λ answer. IfErr answer (IsBreach b (cuts_of b.items rows) (plate_rows rows))) }
 {
     let gathered = gather(alloc, instance, plan)?;
     match first_breach(

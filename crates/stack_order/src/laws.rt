@@ -9,5 +9,6 @@ ghost use Rattle.stack_order.specs.declared.cuts.Cut.{Cut};
 
 /// There is one breach at the most: the definition leaves the judge no choice.
 pub fn breaches_are_one()
-    ensures { (b : Problem) → (cuts : List Cut) → (plates : List Row) → (x y : Broken) → IsBreach b cuts plates x → IsBreach b cuts plates y → x ≡ y }
+    ensures { (b : Problem) → (cuts : List Cut) → (plates : List Row) → (x y : Broken)
+        → IsBreach b cuts plates x → IsBreach b cuts plates y → x ≡ y }
 {}

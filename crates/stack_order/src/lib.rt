@@ -5,5 +5,6 @@ mod breaches;
 pub mod cuts;
 pub mod judge;
 pub mod laws;
+mod order_rule;
 
 pub use judge::judge_order;

@@ -56,7 +56,8 @@ fn set_width(widths: &mut Run<u32>, plate: PlateWidth)
 /// The widths of all plates by the rows of a table, or the first refusal. The first row is the header.
 fn widths_in(alloc: Global, params: &Params, rows: &mut Rows<'_>) -> Result<Run<u32>, BadText>
     requires few { length rows.old < 2 ^ 63 }
-    ensures widths { Gives (λ run. run.items) result (widths_by params.now (each_row plate_at 2 (drop 1 rows.old))) }
+    ensures widths { Gives (λ run. run.items) result
+        (widths_by params.now (each_row plate_at 2 (drop 1 rows.old))) }
     ensures ranges { IfOk result (λ run. AreWidths params.now run.items) }
 {
     let mut widths = same_widths(alloc, params)?;

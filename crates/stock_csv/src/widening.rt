@@ -45,7 +45,8 @@ pub(crate) fn widened(
     requires y { IsAtMost 20000 y }
     requires width { IsAtMost 20000 width }
     requires height { IsAtMost 20000 height }
-    ensures value { result ≡ widened_of row plate (millionths_in x) (millionths_in y) (millionths_in width) (millionths_in height) }
+    ensures value { result ≡ widened_of row plate (millionths_in x) (millionths_in y)
+        (millionths_in width) (millionths_in height) }
     ensures range { IfOk result IsDefectInRange }
 {
     if is_zero(width) || is_zero(height) {

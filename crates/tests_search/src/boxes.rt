@@ -53,7 +53,8 @@ fn lowest(alloc: Global, instance: &Instance, bx: PlanBox) -> Result<PlanBox, Fa
 
 /// The box of kind 0 and lift 0 in which the item lies as it is, and the one in which it is turned.
 pub(crate) fn two_boxes(alloc: Global, instance: &Instance) -> Result<Run<PlanBox>, Fail>
-    ensures frames { IfOk result (λ start. All (λ (x : PlainBox). x.frame ≡ frame_of instance.now) start.items) }
+    ensures frames { IfOk result (λ start. All (λ (x : PlainBox). x.frame
+        ≡ frame_of instance.now) start.items) }
     ensures ids { IfOk result (λ start. numbered 0 start.items) }
     ensures two { IfOk result (λ start. length start.items ≡ 2) }
 {
@@ -70,7 +71,8 @@ pub(crate) fn two_boxes_turned_first(
     alloc: Global,
     instance: &Instance,
 ) -> Result<Run<PlanBox>, Fail>
-    ensures frames { IfOk result (λ start. All (λ (x : PlainBox). x.frame ≡ frame_of instance.now) start.items) }
+    ensures frames { IfOk result (λ start. All (λ (x : PlainBox). x.frame
+        ≡ frame_of instance.now) start.items) }
     ensures ids { IfOk result (λ start. numbered 0 start.items) }
     ensures two { IfOk result (λ start. length start.items ≡ 2) }
 {

@@ -57,7 +57,8 @@ fn tell_bounds(
 
 /// A trace with a step for each item, to be filled.
 fn blank(alloc: Global, instance: &Instance) -> Result<Trace, Memory>
-    ensures { IfOk result (λ trace. length_of_list trace.steps.items ≡ length_of_list instance.now.items) }
+    ensures { IfOk result (λ trace. length_of_list trace.steps.items
+        ≡ length_of_list instance.now.items) }
 {
     let mut steps = Run::new(alloc);
     for _number in 0..instance.items().len() {

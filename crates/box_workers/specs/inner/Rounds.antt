@@ -5,7 +5,7 @@ use Rattle.plan_box.specs.Frames.{frame_of}
 use Rattle.plan_box.specs.Ranges.{PlainBox}
 use Rattle.box_bound.specs.Leastings.{IsOf}
 use Rattle.cert_log.specs.Lawful.{times}
-use Rattle.box_levels.specs.Events.{Event, made_by, all_boxes, tickets_of}
+use Rattle.cert_log.specs.Events.{Event, made_by, all_boxes, tickets_of}
 use Rattle.box_ring.specs.Arms.{ArmState, put, taken}
 use Rattle.shared_best.specs.Seats.{Words, Seated}
 use Rattle.shared_best.specs.Words.{drawn}

@@ -6,7 +6,7 @@ use Rattle.plan_box.specs.Bounds.{bound}
 use Rattle.plan_box.specs.Ranges.{PlainBox}
 use Rattle.cert_log.specs.declared.history.Left.{Left}
 use Rattle.cert_log.specs.Lawful.{no_loss, IsBest}
-use Rattle.box_levels.specs.Events.{Event, note_of, made_by, all_boxes, tickets_of}
+use Rattle.cert_log.specs.Events.{Event, note_of, made_by, all_boxes, tickets_of}
 use Rattle.box_ring.specs.Arms.{put, taken}
 use Rattle.shared_best.specs.declared.view.View.{View}
 use Rattle.shared_best.specs.Seats.{Words, Seated}

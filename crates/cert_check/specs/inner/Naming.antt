@@ -5,8 +5,8 @@ use Rattle.glass_base.specs.Problem.{Problem}
 use Rattle.plan_box.specs.Ranges.{Ranges}
 use Rattle.cert_log.specs.declared.certificate.Node.{Node}
 use Rattle.cert_log.specs.declared.history.Cause.{Cause}
+use Rattle.cert_log.specs.Visits.{Visit}
 use Rattle.cert_check.specs.Causes.{IsNamed}
-use Rattle.cert_check.specs.Visits.{Visit}
 use Rattle.cert_check.specs.inner.Walks.{HasCome}
 
 -- the second node is the first one with its cause named, where that stands at this box

@@ -5,16 +5,16 @@ use Rattle.plan_box.specs.Ranges.{Ranges}
 use Rattle.plan_box.specs.Decisions.{is_free}
 use Rattle.cert_log.specs.declared.certificate.Certificate.{Certificate}
 use Rattle.cert_log.specs.declared.certificate.Node.{Node}
-use Rattle.cert_log.specs.Good.{lesser, least_of, IsFloor}
+use Rattle.cert_log.specs.Good.{Passes, node_bounds, visit_bounds, lesser, least_of, IsFloor}
 use Rattle.cert_log.specs.Texts.{lines_of}
 use Rattle.cert_log.specs.Trees.{is_left}
+use Rattle.cert_log.specs.Visits.{Visit}
 use Rattle.cert_check.specs.declared.verdict.Verdict.{Verdict}
 use Rattle.cert_check.specs.declared.verdict.Why.{Why}
 use Rattle.cert_check.specs.declared.walk.Tally.{Tally}
 use Rattle.cert_check.specs.declared.walk.Walked.{Walked}
 use Rattle.cert_check.specs.declared.walk.Place.{Place}
 use Rattle.plan_box.specs.Halves.{lower_half, upper_half, half_at}
-use Rattle.cert_check.specs.Visits.{Visit, Passes, visit_bounds, node_bounds}
 use Rattle.cert_check.specs.Faults.{IsFloorFault, IsNodeFault}
 
 -- the boxes that wait behind a node: its halves come first

@@ -3,8 +3,9 @@ use Rattle.std.specs.Prelude.{◌≡◌, ℕ, ◌+◌, ◌<◌, ◌≤◌, ◌==
 use Rattle.glass_base.specs.declared.item.Item.{Item}
 use Rattle.glass_base.specs.Plates.{Width}
 use Rattle.glass_base.specs.Problem.{Problem}
+use Rattle.defect_map.specs.Queries.{CrossesNoneX, CrossesNoneY, HitsNone}
 use Rattle.plan_trace.specs.Marks.{item_height, item_width}
-use Rattle.plan_trace.specs.TraceRules.{CrossesNoneX, CrossesNoneY, Gap, HitsNone}
+use Rattle.plan_trace.specs.TraceRules.{Gap}
 use Rattle.plan_draft.specs.declared.place.Band.{Band}
 use Rattle.plan_draft.specs.declared.place.Place.{Place}
 use Rattle.plan_draft.specs.Drafts.{NotAfter}

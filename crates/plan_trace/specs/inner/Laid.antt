@@ -7,9 +7,9 @@ use Rattle.glass_base.specs.Plates.{Width}
 use Rattle.glass_base.specs.Problem.{Problem, item_at}
 use Rattle.cut_model.specs.declared.steps.Step.{Step}
 use Rattle.cut_model.specs.Steps.{plates_after}
+use Rattle.defect_map.specs.Queries.{CrossesNoneX, CrossesNoneY}
 use Rattle.plan_trace.specs.declared.laid.Laid.{Laid}
 use Rattle.plan_trace.specs.Marks.{Level, NewPlate, Over, level_of, Draw, draw_of, drawn, begins, item_width, item_height, cell_width, no_place, Cut, no_cut, Spot, spot}
-use Rattle.plan_trace.specs.TraceRules.{CrossesNoneX, CrossesNoneY}
 
 -- the draws of steps before others, the newest first
 abbrev pub draws_before : List Step → List Draw → List Draw

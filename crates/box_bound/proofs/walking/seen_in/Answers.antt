@@ -16,9 +16,9 @@ returns-clause-seen c =
     let b = c.args.ground.instance.now in
     let ranges = c.args.ranges.now in
     let whole = c.args.whole in
-    let none = c.none-none.result in
+    let none = c.before_all-before.result in
     let k : Known = early none in
     let found = c.seen_behind.ensures (steps_from b ranges 0 k) c.walk-behind.ensures.first (are_levels b [] k ranges) c.walk-behind.ensures.seen in
-    subst (λ (l : Level). IsFirstIfAny (λ r. SomeFixed (FactOf b whole r) l no_known (settle (follow b [] no_known (map unpacked ranges)))) c.seen_behind.result) c.none-none.ensures.level
-    (subst (λ (j : Known). IsFirstIfAny (λ r. SomeFixed (FactOf b whole r) none.level j (settle (follow b [] no_known (map unpacked ranges)))) c.seen_behind.result) c.none-none.ensures.late
-    (subst (λ (j : Known). IsFirstIfAny (λ r. SomeFixed (FactOf b whole r) none.level (late none) (settle (follow b [] j (map unpacked ranges)))) c.seen_behind.result) c.none-none.ensures.early found))
+    subst (λ (l : Level). IsFirstIfAny (λ r. SomeFixed (FactOf b whole r) l no_known (settle (follow b [] no_known (map unpacked ranges)))) c.seen_behind.result) c.before_all-before.ensures.level
+    (subst (λ (j : Known). IsFirstIfAny (λ r. SomeFixed (FactOf b whole r) none.level j (settle (follow b [] no_known (map unpacked ranges)))) c.seen_behind.result) c.before_all-before.ensures.late
+    (subst (λ (j : Known). IsFirstIfAny (λ r. SomeFixed (FactOf b whole r) none.level (late none) (settle (follow b [] j (map unpacked ranges)))) c.seen_behind.result) c.before_all-before.ensures.early found))

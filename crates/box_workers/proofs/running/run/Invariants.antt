@@ -1,5 +1,5 @@
 use Rattle.std.proofs.Common.{List, []}
-use Rattle.box_levels.specs.Events.{Event}
+use Rattle.cert_log.specs.Events.{Event}
 use Rattle.box_workers.specs.inner.Rounds.{HasRun}
 use Rattle.box_workers.proofs.running.run.Given as goal
 

@@ -2,7 +2,7 @@ use Rattle.std.proofs.Common.{◌≡◌, ◌+◌, ◌-◌, ◌*◌, ◌≤◌, L
 use Rattle.plan_box.specs.Frames.{frame_of}
 use Rattle.plan_box.specs.Ranges.{PlainBox}
 use Rattle.box_bound.specs.Leastings.{IsOf}
-use Rattle.box_levels.specs.Events.{Event}
+use Rattle.cert_log.specs.Events.{Event}
 use Rattle.box_ring.specs.Arms.{frame, Stays}
 use Rattle.box_workers.specs.Works.{Worked}
 use Rattle.box_workers.specs.inner.Rounds.{AreFew, Midway}

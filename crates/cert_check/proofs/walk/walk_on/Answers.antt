@@ -3,8 +3,8 @@ use Rattle.plan_box.specs.Frames.{frame_of}
 use Rattle.plan_box.specs.Ranges.{root_of}
 use Rattle.plan_box.specs.declared.var.Var.{Var}
 use Rattle.cert_log.specs.declared.certificate.Node.{Node}
-use Rattle.cert_log.specs.Good.{least_of}
-use Rattle.cert_check.specs.Visits.{Visit, NodePasses, Passes, visit_bounds}
+use Rattle.cert_log.specs.Good.{NodePasses, Passes, visit_bounds, least_of}
+use Rattle.cert_log.specs.Visits.{Visit}
 use Rattle.cert_check.specs.inner.Paths.{top}
 use Rattle.cert_check.proofs.Visiting.{waits, all_done}
 use Rattle.cert_check.proofs.Walking.{starts, walks, stops}

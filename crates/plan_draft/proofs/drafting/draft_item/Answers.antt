@@ -1,6 +1,11 @@
 use Rattle.std.proofs.Common.{refl}
-use Rattle.plan_draft.proofs.Taking.{none_follows, one_more}
+use Rattle.plan_draft.proofs.Taking.{few_begun, none_follows, one_more}
 use Rattle.plan_draft.proofs.drafting.draft_item.Goals as goal
+
+pub plates_behind-drafting-requires : goal.plates_behind-drafting-requires
+plates_behind-drafting-requires c =
+    let d = c.args.drafting.now in
+    few_begun c.args.ground.instance.now d.steps.items d.plates d.right c.requires.under_way
 
 pub returns-in-None : goal.returns-in-None
 returns-in-None c =

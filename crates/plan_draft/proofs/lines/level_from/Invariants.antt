@@ -1,5 +1,5 @@
 use Rattle.std.proofs.Common.{◌-◌}
-use Rattle.plan_trace.specs.TraceRules.{CrossesNoneY}
+use Rattle.defect_map.specs.Queries.{CrossesNoneY}
 use Rattle.plan_draft.specs.inner.Least.{HasNoneUpTo}
 use Rattle.plan_draft.proofs.lines.level_from.Given as goal
 

@@ -1,5 +1,5 @@
 use Rattle.std.proofs.Common.{◌-◌}
-use Rattle.plan_trace.specs.TraceRules.{CrossesNoneX}
+use Rattle.defect_map.specs.Queries.{CrossesNoneX}
 use Rattle.plan_draft.specs.inner.Least.{HasNoneUpTo}
 use Rattle.plan_draft.proofs.lines.upright_from.Given as goal
 

@@ -1,8 +1,8 @@
-use Rattle.std.proofs.Common.{◌≡◌, get_or, All, Any, Contains, refl, ap, subst, rules}
+use Rattle.std.proofs.Common.{◌≡◌, get_or, All, Any, Contains, refl, ap, subst, ◌∙◌, rules}
 use Rattle.std.proofs.lemmas.List.{take_all}
 use Rattle.std.proofs.lemmas.List.Elements.{All-map, All-more}
 use Rattle.glass_base.specs.declared.item.Item.{Item}
-use Rattle.cut_model.specs.declared.broken.Rule.TheVariants.{L9Missing}
+use Rattle.stack_order.specs.declared.order_rule.OrderRule.TheVariants.{L9Missing}
 use Rattle.stack_order.specs.Breaches.{numbers_cut, breach}
 use Rattle.stack_order.specs.declared.cuts.Cut.{Cut}
 use Rattle.stack_order.proofs.Counted.{missing_at}
@@ -16,7 +16,7 @@ returns-then-not-any c =
     record {
       number = item.id;
       first = missing_at c.args.items.now c.args.cuts.now c.loop-item.item-index item _ c.loop-item-test.true refl c.loop-item.invariant none;
-      is = ap (λ number. breach L9Missing 0 0 number 0) c.from.ensures;
+      is = c.breach.ensures ∙ ap (λ number. breach L9Missing 0 0 number 0) c.from.ensures;
     }
 
 pub loop-item-preserved : goal.loop-item-preserved

@@ -2,7 +2,7 @@ use Rattle.std.proofs.Common.{◌≡◌, ◌≢◌, get_or, Some, None, AllPairs
 use Rattle.std.specs.Prelude.{slice_get}
 use Rattle.std.proofs.lemmas.Option.{slice_get-get_or}
 use Rattle.std.proofs.lemmas.List.{take_all}
-use Rattle.cut_model.specs.declared.broken.Rule.TheVariants.{L9Twice}
+use Rattle.stack_order.specs.declared.order_rule.OrderRule.TheVariants.{L9Twice}
 use Rattle.stack_order.specs.Breaches.{breach}
 use Rattle.stack_order.specs.declared.cuts.Cut.{Cut}
 use Rattle.stack_order.proofs.Counted.{different_more}

@@ -1,7 +1,7 @@
 use Rattle.std.proofs.Common.{◌≡◌, ◌<◌, ◌≤◌, List, length, subst, All, Contains}
 use Rattle.glass_base.specs.declared.item.Item.{Item}
 use Rattle.glass_base.specs.declared.params.Params.{Params}
-use Rattle.cut_model.specs.declared.broken.Rule.TheVariants.{L9Plates}
+use Rattle.stack_order.specs.declared.order_rule.OrderRule.TheVariants.{L9Plates}
 use Rattle.stack_order.specs.Breaches.{breach, numbers, numbers_cut, NamesMissing}
 use Rattle.stack_order.proofs.Answered.{twice_breach, missing_breach, empty_breach, plates_breach, last_breach}
 use Rattle.stack_order.proofs.Places.{places_differ}

@@ -1,0 +1,5 @@
+use Rattle.glass_run.proofs.FreezeHeadline.{freeze_ended}
+use Rattle.glass_run.proofs.laws.searches_behind_first_plates_handle_each_box_once.Goals as goal
+
+pub returns : goal.returns
+returns c words line held old new result end e = (freeze_ended words line held old new result end e).1

@@ -1,0 +1,5 @@
+use Rattle.glass_run.proofs.SearchHeadline.{search_ended}
+use Rattle.glass_run.proofs.laws.searches_handle_each_box_once.Goals as goal
+
+pub returns : goal.returns
+returns c words line held old new result search searches end e = (search_ended words line held old new result search searches end e).1
