@@ -8,14 +8,9 @@ ghost use Rattle.batch_csv.specs.Batches.{item_at, items_of};
 
 use csv::ByteRecord;
 use csv_table::{Rows, whole_at};
+use glass_base::limits::{MOST_NUMBER, MOST_SIDE};
 use glass_base::{BadText, Item, Run, append};
 use std::alloc::Global;
-
-/// The greatest number of an item, a stack or a place in a stack.
-const NUMBER_LIMIT: u32 = 999_999_999;
-
-/// The greatest side of an item, in mm.
-const SIDE_LIMIT: u32 = 20_000;
 
 /// The item of a row.
 #[tactic(auto, unfolding(crate::specs::Batches::item_at))]
@@ -26,11 +21,11 @@ fn item_of(row: u64, fields: &ByteRecord) -> Result<Item, BadText>
     if fields.len() != 5 {
         return Err(BadText::Record(row, fields.len() as u64));
     }
-    let id = whole_at(row, 1, NUMBER_LIMIT, fields)?;
-    let length = whole_at(row, 2, SIDE_LIMIT, fields)?;
-    let width = whole_at(row, 3, SIDE_LIMIT, fields)?;
-    let stack = whole_at(row, 4, NUMBER_LIMIT, fields)?;
-    let sequence = whole_at(row, 5, NUMBER_LIMIT, fields)?;
+    let id = whole_at(row, 1, MOST_NUMBER, fields)?;
+    let length = whole_at(row, 2, MOST_SIDE, fields)?;
+    let width = whole_at(row, 3, MOST_SIDE, fields)?;
+    let stack = whole_at(row, 4, MOST_NUMBER, fields)?;
+    let sequence = whole_at(row, 5, MOST_NUMBER, fields)?;
     Ok(Item {
         id,
         length,

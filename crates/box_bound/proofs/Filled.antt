@@ -28,6 +28,7 @@ use Rattle.plan_box.specs.Within.{AllFixed, AreRangesWithin, AreWithin}
 use Rattle.box_bound.proofs.Extending.{ranges_followed, ranges_twice}
 use Rattle.plan_box.proofs.Limits.{all_within, few_within}
 use Rattle.plan_box.proofs.Following.{known_follows}
+use Rattle.glass_base.specs.declared.limits.TheConstants.{MOST_LENGTH}
 
 follow_take : (b : Problem) (before : List Draw) (k : Known) (n : ℕ) (rs : List Ranges) → take n (follow b before k rs) ≡ follow b before k (take n rs)
 follow_take b before k zero rs = refl
@@ -70,12 +71,12 @@ stored_in_frame f (x ∷ stored) rest h =
 
 -- the steps of a box are within the last limit
 pub filled_within : (b : Problem) (ps : List Packed) (xs : List Kept) → IsProblem b → All (λ (p : Packed). AreRangesWithin (unpacked p)) ps → length ps ≤ length b.items → IsFollowed b xs ps (length ps) →
-    map late_fixed (take (length ps) xs) ≡ settle (map early_fixed (take (length ps) xs)) → All (λ (k : Kept). AreWithin 40000000 (late k)) (take (length ps) xs)
+    map late_fixed (take (length ps) xs) ≡ settle (map early_fixed (take (length ps) xs)) → All (λ (k : Kept). AreWithin MOST_LENGTH (late k)) (take (length ps) xs)
 filled_within b ps xs rules within few followed lates =
     let n : ℕ = length ps in
     let taken : take n ps ≡ ps = take_all n ps (omega arith) in
     let late_is : map late_fixed (take n xs) ≡ settle (follow b [] no_known (map unpacked ps)) = lates ∙ ap settle (followed.values ∙ ap (follow b [] no_known) (ap (map unpacked) taken)) in
-    all_within (λ k. k.level) late 40000000 (take n xs) (subst (AllFixed 40000000) (sym late_is) (few_within b rules ps within (omega (arith, few, rules.few_items))))
+    all_within (λ k. k.level) late MOST_LENGTH (take n xs) (subst (AllFixed MOST_LENGTH) (sym late_is) (few_within b rules ps within (omega (arith, few, rules.few_items))))
 
 -- what filling gives is for the box
 pub filled : (b : Problem) (x : PlainBox) (ps : List Packed) (xs : List Kept) (total : ℕ) (seen : List (Option Reason)) (defects : List Defect) → IsProblem b →

@@ -26,6 +26,7 @@ use Rattle.plan_box.proofs.Draws.{draws_more}
 use Rattle.plan_box.proofs.Limits.{item_within, follow_within, settle_within}
 use Rattle.box_bound.proofs.Seeing.{Reasoning, first_or}
 use Rattle.plan_box.proofs.Sizes.{next_within, within_same}
+use Rattle.glass_base.specs.declared.limits.TheConstants.{MOST_ITEMS, MOST_LENGTH, MOST_REACH}
 
 -- the steps from one on are this one, with the values that it takes over, and those behind it
 pub steps_one : (b : Problem) (ranges : List Packed) (at : ℕ) (k : Known) (y : Kept) (d : Packed) → at < length ranges → early_fixed y ≡ next_fixed b (draws_of (take at ranges)) k (unpacked (get_or ranges at d)) →
@@ -110,7 +111,7 @@ step_within b rules ranges at n k y d lt is within h value =
     let same : early_fixed y ≡ fixed l j = value in
     let known : early y ≡ j = cc in
     let here = All-get_or (λ (x : Packed). AreRangesWithin (unpacked x)) ranges at d lt within in
-    within_same (limit n) (limit at + 40000) (early y) j known (omega (arith, is)) (next_within b rules (limit at) D (draw_at r) k r h here (omega arith) here.lift (item_within b rules r.stack.low (drawn D r.stack.low)))
+    within_same (limit n) (limit at + MOST_REACH) (early y) j known (omega (arith, is)) (next_within b rules (limit at) D (draw_at r) k r h here (omega arith) here.lift (item_within b rules r.stack.low (drawn D r.stack.low)))
 
 first_of : (n : ℕ) (ks : List Fixed) (k : Option Kept) → AllFixed n ks → IsHead k ks → IfSome k (λ (x : Kept). AreWithin n (late x))
 first_of n [] None h head = tt
@@ -119,13 +120,13 @@ first_of n (x ∷ ks) None h head = absurd head
 first_of n (fixed l j ∷ ks) (Some k) h head = let same : late k ≡ j = cc in within_same n n (late k) j same refl h.0
 
 -- and the first of the steps from one on is within the last limit
-pub head_within : (b : Problem) → IsProblem b → (ranges : List Packed) (at : ℕ) (k : Known) (first : Option Kept) → at ≤ length ranges → length ranges ≤ 800 → All (λ x. AreRangesWithin (unpacked x)) ranges → AreWithin (limit at) k →
-    IsHead first (steps_from b ranges at k) → IfSome first (λ (x : Kept). AreWithin 40000000 (late x))
+pub head_within : (b : Problem) → IsProblem b → (ranges : List Packed) (at : ℕ) (k : Known) (first : Option Kept) → at ≤ length ranges → length ranges ≤ MOST_ITEMS → All (λ x. AreRangesWithin (unpacked x)) ranges → AreWithin (limit at) k →
+    IsHead first (steps_from b ranges at k) → IfSome first (λ (x : Kept). AreWithin MOST_LENGTH (late x))
 head_within b rules ranges at k first le few within h head =
     let rest : List Packed = drop at ranges in
-    let all = follow_within b rules (draws_of (take at ranges)) k (limit at) 40000000 (map unpacked rest) h (omega arith) (All-map AreRangesWithin unpacked rest (All-drop (λ (x : Packed). AreRangesWithin (unpacked x)) at ranges within))
+    let all = follow_within b rules (draws_of (take at ranges)) k (limit at) MOST_LENGTH (map unpacked rest) h (omega arith) (All-map AreRangesWithin unpacked rest (All-drop (λ (x : Packed). AreRangesWithin (unpacked x)) at ranges within))
     (omega (arith, few, le, length-map rest unpacked, length-drop at ranges)) in
-    first_of 40000000 (steps_from b ranges at k) first (settle_within 40000000 (follow b (draws_of (take at ranges)) k (map unpacked rest)) all) head
+    first_of MOST_LENGTH (steps_from b ranges at k) first (settle_within MOST_LENGTH (follow b (draws_of (take at ranges)) k (map unpacked rest)) all) head
 
 -- the steps are written from the last one on
 pub written_one : (old mid new : List Step) (at n : ℕ) (x d : Step) (more rest : List Step) → at < length old → mid ≡ take (at + 1) old ++ (more ++ rest) → new ≡ set mid at x → new ≡ take at old ++ (x ∷ (more ++ rest))

@@ -14,6 +14,7 @@ use Rattle.box_bound.specs.Kept.{early_fixed, late, late_fixed}
 use Rattle.plan_box.specs.Follows.{follow}
 use Rattle.box_bound.specs.Seen.{AreSeen}
 use Rattle.plan_box.specs.Within.{AreWithin}
+use Rattle.glass_base.specs.declared.limits.TheConstants.{MOST_LENGTH}
 
 -- the area of all items, the decided steps, for each the first reason that is a fact at it or before it, how many steps there is room
 -- for, and the defects that the reasons are by
@@ -46,7 +47,7 @@ pub record IsFor (b : Problem) (x : PlainBox) (v : Leastings) : Type 0 where
   pub of_instance : IsOf b v
   pub ranges : ranges_in v.steps ≡ take (length (decided x.ranges)) x.ranges
   pub values : map late_fixed v.steps ≡ known b x.ranges
-  pub within : All (λ k. AreWithin 40000000 (late k)) v.steps
+  pub within : All (λ k. AreWithin MOST_LENGTH (late k)) v.steps
 
 -- the least value of a cut
 abbrev pub least_of : Var → Known → ℕ

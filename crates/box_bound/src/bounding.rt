@@ -16,6 +16,7 @@ use crate::filling::decided_ranges;
 use crate::kept::{Kept, drawn};
 use crate::leasts::Leasts;
 use glass_base::Instance;
+use glass_base::limits::{MOST_ITEMS, MOST_LENGTH};
 use plan_box::{Packed, PlanBox, Var};
 
 /// The quotient, rounded up.
@@ -33,7 +34,7 @@ fn ceil_div(n: u64, d: u64) -> u64
 #[tactic(auto, using(plan_box::proofs::LeastLengths::product_small, glass_base::proofs::PlateLemmas::before_within))]
 fn reached(instance: &Instance, total: u64, last: &Kept) -> u64
     requires total { total ≤ 320000000000 }
-    requires within { AreWithin 40000000 (late last.now) }
+    requires within { AreWithin MOST_LENGTH (late last.now) }
     ensures value { let k = late last.now in result
         ≡ max (end_of_strip instance.now k) (end_of_items instance.now total k) }
     ensures small { result ≤ 810000000000000 }
@@ -51,7 +52,7 @@ fn reached(instance: &Instance, total: u64, last: &Kept) -> u64
 /// The least length of a trace in a box by the last of so many decided steps, for items of this area together.
 fn length_by(instance: &Instance, total: u64, count: usize, last: &Kept) -> u64
     requires total { total ≡ area_of instance.now.items }
-    requires within { AreWithin 40000000 (late last.now) }
+    requires within { AreWithin MOST_LENGTH (late last.now) }
     ensures value { (ks : List Fixed) → length ks ≡ count → last_known no_known ks ≡ late last.now
         → result ≡ max (ceil_div_of (area_of instance.now.items) instance.now.params.height)
         (reached_of instance.now (area_of instance.now.items) ks) }
@@ -66,9 +67,9 @@ fn length_by(instance: &Instance, total: u64, count: usize, last: &Kept) -> u64
 
 /// The last of these decided steps, or what stands before the first one.
 fn last_of(instance: &Instance, steps: &[Kept]) -> Kept
-    requires within { All (λ k. AreWithin 40000000 (late k)) steps.now }
+    requires within { All (λ k. AreWithin MOST_LENGTH (late k)) steps.now }
     ensures value { late result ≡ last_known no_known (mapped late_fixed steps.now) }
-    ensures within { AreWithin 40000000 (late result) }
+    ensures within { AreWithin MOST_LENGTH (late result) }
 {
     if steps.len() == 0 {
         Kept::before_all(instance)
@@ -91,11 +92,11 @@ pub fn length_at(instance: &Instance, leasts: &Leasts, bx: &PlanBox) -> u64
 
 /// The last of the decided steps of these ranges, or what stands before the first one.
 fn last_step(instance: &Instance, ranges: &[Packed]) -> Kept
-    requires few { length ranges.now ≤ 800 }
+    requires few { length ranges.now ≤ MOST_ITEMS }
     requires within { All (λ x. AreRangesWithin (unpacked x)) ranges.now }
     ensures value { late result ≡ last_known no_known
         (follow instance.now [] no_known (mapped unpacked ranges.now)) }
-    ensures within { AreWithin 40000000 (late result) }
+    ensures within { AreWithin MOST_LENGTH (late result) }
 {
     let _items = instance.items();
     let mut last = Kept::before_all(instance);

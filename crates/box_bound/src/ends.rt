@@ -9,6 +9,7 @@ ghost use Rattle.plan_box.specs.Within.{AreRangesWithin};
 
 use crate::placed::Placed;
 use glass_base::Instance;
+use glass_base::limits::{MOST_LENGTH, MOST_SIDE};
 use plan_box::{Packed, Var};
 use plan_trace::level::Level;
 
@@ -68,10 +69,10 @@ impl Ends {
     /// With a new band whose lower side is at `from` at least, and its first cell.
     fn with_band(self, instance: &Instance, place: &Placed, from: u32, ranges: &Packed) -> Ends
         requires ranges { AreRangesWithin (unpacked ranges.now) }
-        requires cell_w { place.now.cell_w ≤ 20000 }
-        requires a { self.least_a ≤ 40000000 }
-        requires from { from ≤ 40000000 }
-        requires cell_h { place.now.cell_h ≤ 40000000 }
+        requires cell_w { place.now.cell_w ≤ MOST_SIDE }
+        requires a { self.least_a ≤ MOST_LENGTH }
+        requires from { from ≤ MOST_LENGTH }
+        requires cell_h { place.now.cell_h ≤ MOST_LENGTH }
         ensures { known_of place.now result ≡ band_known instance.now (place_in place.now)
             (known_of place.now self) from (unpacked ranges.now) }
     {
@@ -91,9 +92,9 @@ impl Ends {
     /// With a new strip whose left side is at `from` at least, and its first band and cell.
     fn with_strip(self, instance: &Instance, place: &Placed, from: u32, ranges: &Packed) -> Ends
         requires ranges { AreRangesWithin (unpacked ranges.now) }
-        requires cell_w { place.now.cell_w ≤ 20000 }
-        requires from { from ≤ 40000000 }
-        requires cell_h { place.now.cell_h ≤ 40000000 }
+        requires cell_w { place.now.cell_w ≤ MOST_SIDE }
+        requires from { from ≤ MOST_LENGTH }
+        requires cell_h { place.now.cell_h ≤ MOST_LENGTH }
         ensures { known_of place.now result ≡ strip_known instance.now (place_in place.now)
             (known_of place.now self) from (unpacked ranges.now) }
     {
@@ -121,13 +122,13 @@ impl Ends {
         ranges: &Packed,
     ) -> Ends
         requires ranges { AreRangesWithin (unpacked ranges.now) }
-        requires cell_w { place.now.cell_w ≤ 20000 }
-        requires cell_h { place.now.cell_h ≤ 40000000 }
-        requires a { self.least_a ≤ 40000000 }
-        requires b { self.least_b ≤ 40000000 }
-        requires d { self.least_d ≤ 40000000 }
-        requires e { self.least_e + last.now.cell_w ≤ 40000000 }
-        requires c { self.least_c ≤ 40000000 }
+        requires cell_w { place.now.cell_w ≤ MOST_SIDE }
+        requires cell_h { place.now.cell_h ≤ MOST_LENGTH }
+        requires a { self.least_a ≤ MOST_LENGTH }
+        requires b { self.least_b ≤ MOST_LENGTH }
+        requires d { self.least_d ≤ MOST_LENGTH }
+        requires e { self.least_e + last.now.cell_w ≤ MOST_LENGTH }
+        requires c { self.least_c ≤ MOST_LENGTH }
         ensures { known_of place.now result ≡ next_known instance.now level (place_in place.now)
             (known_of last.now self) (unpacked ranges.now) }
     {

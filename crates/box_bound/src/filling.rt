@@ -16,6 +16,7 @@ ghost use Rattle.plan_box.specs.Within.{AreRangesWithin};
 use crate::ends::Ends;
 use crate::kept::{Kept, drawn};
 use crate::placed::Placed;
+use glass_base::limits::MOST_ITEMS;
 use glass_base::{Instance, Run};
 use plan_box::{Packed, PlanBox, Var};
 use plan_trace::level::Level;
@@ -113,7 +114,7 @@ fn last_before(instance: &Instance, steps: &[Kept], from: usize) -> Kept
 fn extend(instance: &Instance, steps: &mut Run<Kept>, from: usize, ranges: &[Packed])
     requires more { from ≤ length ranges.now }
     requires room { length ranges.now ≤ length steps.old.items }
-    requires few { length ranges.now ≤ 800 }
+    requires few { length ranges.now ≤ MOST_ITEMS }
     requires within { All (λ x. AreRangesWithin (unpacked x)) ranges.now }
     requires start { IsFollowed instance.now steps.old.items ranges.now from }
     ensures many { length steps.new.items ≡ length steps.old.items }
@@ -152,7 +153,7 @@ pub fn decided_ranges<'a>(instance: &Instance, bx: &'a PlanBox) -> &'a [Packed]
 pub fn refill(instance: &Instance, steps: &mut Run<Kept>, count: usize, ranges: &[Packed]) -> usize
     requires inside { count ≤ length steps.old.items }
     requires room { length ranges.now ≤ length steps.old.items }
-    requires few { length ranges.now ≤ 800 }
+    requires few { length ranges.now ≤ MOST_ITEMS }
     requires within { All (λ x. AreRangesWithin (unpacked x)) ranges.now }
     requires kept { mapped early_fixed (take count steps.old.items)
         ≡ follow instance.now [] no_known (ranges_in (take count steps.old.items)) }

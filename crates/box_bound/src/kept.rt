@@ -12,6 +12,7 @@ ghost use Rattle.plan_box.specs.Follows.{draws_of, grown_place};
 
 use crate::ends::Ends;
 use crate::placed::{Drawn, Placed};
+use glass_base::limits::{MOST_ITEMS, MOST_LENGTH, MOST_REACH, MOST_SIDE};
 use glass_base::{Instance, Item};
 use plan_box::{Frame, Packed, Var};
 use plan_trace::laid::{height_in, level_of, plates_behind, width_in};
@@ -44,7 +45,7 @@ fn level_behind(before: &[Packed], kind: u32) -> Level
 /// How many of these steps draw from a stack.
 #[tactic(auto, using(plan_box::proofs::Draws::draws_more))]
 pub fn drawn(before: &[Packed], stack: u32) -> u32
-    requires { length before.now ≤ 800 }
+    requires { length before.now ≤ MOST_ITEMS }
     ensures { result ≡ drawn_of (draws_of before.now) stack }
 {
     let mut count = 0;
@@ -72,21 +73,21 @@ fn next_item(instance: &Instance, stack: u32, taken: u32) -> Option<Item>
 /// The height that an item takes in its cell.
 #[tactic(auto, using(plan_box::proofs::Sizes::times_bit))]
 fn own_height(instance: &Instance, h: u32, lift: u32) -> u32
-    requires h { h ≤ 20000 }
+    requires h { h ≤ MOST_SIDE }
     requires lift { lift ≤ 1 }
     ensures value { result ≡ h + lift * instance.now.params.waste }
-    ensures small { result ≤ 40000 }
+    ensures small { result ≤ MOST_REACH }
 {
     h + lift * instance.params().waste
 }
 
 /// The sizes of a cell, a band and a strip, and the areas, behind a step that begins this level.
 fn grown(last: &Placed, level: Level, place: Placed, own: u32) -> Placed
-    requires w { place.w ≤ 20000 }
-    requires h { place.h ≤ 20000 }
-    requires own { own ≤ 40000 }
-    requires cell_h { last.now.cell_h ≤ 40000000 }
-    requires band_w { last.now.band_w ≤ 40000000 }
+    requires w { place.w ≤ MOST_SIDE }
+    requires h { place.h ≤ MOST_SIDE }
+    requires own { own ≤ MOST_REACH }
+    requires cell_h { last.now.cell_h ≤ MOST_LENGTH }
+    requires band_w { last.now.band_w ≤ MOST_LENGTH }
     requires band_area { last.now.band_area ≤ 1000000000000 }
     requires area { last.now.area ≤ 1000000000000 }
     ensures { place_in result ≡ grown_place level (place_in last.now) (place_in place) own }
@@ -146,9 +147,9 @@ fn next_place(
     requires taken { taken ≡ drawn_of (draws_of before.now) draw.stack }
     requires level { level ≡ begins (draws_of before.now) draw.kind }
     requires lift { draw.lift ≤ 1 }
-    requires plates { last.now.plates ≤ 40000000 }
-    requires cell_h { last.now.cell_h ≤ 40000000 }
-    requires band_w { last.now.band_w ≤ 40000000 }
+    requires plates { last.now.plates ≤ MOST_LENGTH }
+    requires cell_h { last.now.cell_h ≤ MOST_LENGTH }
+    requires band_w { last.now.band_w ≤ MOST_LENGTH }
     requires band_area { last.now.band_area ≤ 1000000000000 }
     requires area { last.now.area ≤ 1000000000000 }
     ensures value { place_in result ≡ place_of instance.now (draws_of before.now)
@@ -218,7 +219,7 @@ impl Kept {
     /// The decided step of these ranges behind this one, where `before` has the ranges of all steps before it.
     pub fn next(&self, instance: &Instance, before: &[Packed], taken: u32, ranges: &Packed) -> Kept
         requires taken { taken ≡ drawn_of (draws_of before.now) (unpacked ranges.now).stack.low }
-        requires few { length before.now < 800 }
+        requires few { length before.now < MOST_ITEMS }
         requires ranges { AreRangesWithin (unpacked ranges.now) }
         requires within { AreWithin (limit (length before.now)) (early self.now) }
         ensures value { early_fixed result ≡ next_fixed instance.now (draws_of before.now)

@@ -10,13 +10,14 @@ ghost use Rattle.plan_box.specs.Within.{AreWithin};
 
 use crate::kept::Kept;
 use defect_map::{DefectMap, Ground};
+use glass_base::limits::MOST_LENGTH;
 use glass_base::{Instance, Params};
 use plan_trace::level::Level;
 
 /// With its lower side at the lower side of the band.
 fn low_met(map: &DefectMap, here: &Kept) -> bool
     requires lift { here.now.place.lift ≡ 0 }
-    requires within { AreWithin 40000000 (late here.now) }
+    requires within { AreWithin MOST_LENGTH (late here.now) }
     ensures { IsTrue result ↔ ItemR3 map.now NewCell here.now.place.lift (late here.now) }
 {
     let k = &here.ends;
@@ -32,7 +33,7 @@ fn low_met(map: &DefectMap, here: &Kept) -> bool
 
 /// With its upper side at the upper side of the band.
 fn high_met(map: &DefectMap, here: &Kept) -> bool
-    requires within { AreWithin 40000000 (late here.now) }
+    requires within { AreWithin MOST_LENGTH (late here.now) }
     ensures { IsTrue result ↔ ItemR3 map.now Over here.now.place.lift (late here.now) }
 {
     let k = &here.ends;
@@ -47,7 +48,7 @@ fn high_met(map: &DefectMap, here: &Kept) -> bool
 
 /// That of a step that begins a cell.
 fn begun_met(map: &DefectMap, here: &Kept) -> bool
-    requires within { AreWithin 40000000 (late here.now) }
+    requires within { AreWithin MOST_LENGTH (late here.now) }
     ensures { IsTrue result ↔ ItemR3 map.now NewCell here.now.place.lift (late here.now) }
 {
     if here.place.lift == 0 {
@@ -59,7 +60,7 @@ fn begun_met(map: &DefectMap, here: &Kept) -> bool
 
 /// Whether the item meets one defect at every place of its ranges.
 pub fn item_met(map: &DefectMap, here: &Kept) -> bool
-    requires within { AreWithin 40000000 (late here.now) }
+    requires within { AreWithin MOST_LENGTH (late here.now) }
     ensures { IsTrue result ↔ ItemR3 map.now here.now.level here.now.place.lift (late here.now) }
 {
     match here.level {
@@ -102,7 +103,7 @@ fn band_met(params: &Params, map: &DefectMap, here: &Kept) -> bool
 
 /// The sides of the item's cell.
 fn cell_met(map: &DefectMap, here: &Kept) -> bool
-    requires within { AreWithin 40000000 (late here.now) }
+    requires within { AreWithin MOST_LENGTH (late here.now) }
     ensures { IsTrue result ↔ CellMet map.now (late here.now) }
 {
     let k = &here.ends;
@@ -116,7 +117,7 @@ fn cell_met(map: &DefectMap, here: &Kept) -> bool
 /// The line above an item that does not fill its cell.
 fn upper_met(map: &DefectMap, here: &Kept) -> bool
     requires lift { here.now.place.lift ≡ 0 }
-    requires within { AreWithin 40000000 (late here.now) }
+    requires within { AreWithin MOST_LENGTH (late here.now) }
     ensures { IsTrue result ↔ LiftR4 map.now NewCell here.now.place.lift (late here.now) }
 {
     let k = &here.ends;
@@ -133,7 +134,7 @@ fn upper_met(map: &DefectMap, here: &Kept) -> bool
 /// The line below an item that is lifted.
 fn lower_met(map: &DefectMap, here: &Kept) -> bool
     requires lift { 1 ≤ here.now.place.lift }
-    requires within { AreWithin 40000000 (late here.now) }
+    requires within { AreWithin MOST_LENGTH (late here.now) }
     ensures begun { IsTrue result ↔ LiftR4 map.now NewCell here.now.place.lift (late here.now) }
     ensures over { IsTrue result ↔ LiftR4 map.now Over here.now.place.lift (late here.now) }
 {
@@ -149,7 +150,7 @@ fn lower_met(map: &DefectMap, here: &Kept) -> bool
 
 /// The line of a step that begins a cell.
 fn begun_line_met(map: &DefectMap, here: &Kept) -> bool
-    requires within { AreWithin 40000000 (late here.now) }
+    requires within { AreWithin MOST_LENGTH (late here.now) }
     ensures { IsTrue result ↔ LiftR4 map.now NewCell here.now.place.lift (late here.now) }
 {
     if here.place.lift == 0 {
@@ -161,7 +162,7 @@ fn begun_line_met(map: &DefectMap, here: &Kept) -> bool
 
 /// The line of a step over another one.
 fn over_line_met(map: &DefectMap, here: &Kept) -> bool
-    requires within { AreWithin 40000000 (late here.now) }
+    requires within { AreWithin MOST_LENGTH (late here.now) }
     ensures { IsTrue result ↔ LiftR4 map.now Over here.now.place.lift (late here.now) }
 {
     if here.place.lift == 0 {
@@ -173,7 +174,7 @@ fn over_line_met(map: &DefectMap, here: &Kept) -> bool
 
 /// The line above or below the item.
 fn line_met(map: &DefectMap, here: &Kept) -> bool
-    requires within { AreWithin 40000000 (late here.now) }
+    requires within { AreWithin MOST_LENGTH (late here.now) }
     ensures { IsTrue result ↔ LiftR4 map.now here.now.level here.now.place.lift (late here.now) }
 {
     match here.level {
@@ -187,7 +188,7 @@ fn line_met(map: &DefectMap, here: &Kept) -> bool
 
 /// Whether a cut of a step runs through one defect at every place of its ranges.
 pub fn cut_met(ground: Ground<'_>, last: &Kept, here: &Kept) -> bool
-    requires within { AreWithin 40000000 (late here.now) }
+    requires within { AreWithin MOST_LENGTH (late here.now) }
     ensures { let b = ground.entry.instance.now in
         (StripMet b b.defects (late here.now) ⊎ BandMet b.params b.defects (late here.now)
         ⊎ CellMet b.defects (late here.now)

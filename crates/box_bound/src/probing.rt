@@ -16,6 +16,7 @@ use crate::leasts::Leasts;
 use crate::walking::seen_in;
 use cut_model::{Step, Trace};
 use defect_map::{DefectMap, Ground};
+use glass_base::limits::MOST_ITEMS;
 use glass_base::{Instance, Run};
 use plan_box::PlanBox;
 use plan_trace::{TraceBroken, first_broken};
@@ -72,7 +73,7 @@ pub fn probe(instance: &Instance, map: &DefectMap, bx: &PlanBox, trace: &mut Tra
     let _items = instance.items();
     let _frame = bx.frame();
     let ground = Ground { instance, map };
-    let mut numbers = [least_step(&Kept::before_all(instance)); 800];
+    let mut numbers = [least_step(&Kept::before_all(instance)); MOST_ITEMS];
     let ranges = decided_ranges(instance, bx);
     let _seen = seen_in(ground, true, ranges, &mut numbers);
     overwrite(&numbers[..ranges.len()], &mut trace.steps);

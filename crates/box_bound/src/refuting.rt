@@ -22,6 +22,7 @@ use crate::walking::seen_in;
 use cut_model::Step;
 use defect_map::{DefectMap, Ground};
 use glass_base::Instance;
+use glass_base::limits::MOST_ITEMS;
 use plan_box::{PlanBox, Reason};
 use plan_trace::first_broken;
 
@@ -42,7 +43,7 @@ fn is_too_long(instance: &Instance, length: u64) -> bool
 
 /// Whether these steps break a rule.
 fn breaks(ground: Ground<'_>, steps: &[Step]) -> bool
-    requires few { length steps.now ≤ 800 }
+    requires few { length steps.now ≤ MOST_ITEMS }
     ensures { let b = ground.entry.instance.now in
         MatchBool result (¬ Meets b steps.now) (Meets b steps.now) }
 {
@@ -51,12 +52,12 @@ fn breaks(ground: Ground<'_>, steps: &[Step]) -> bool
 
 /// Whether the least steps of these decided steps, of which there are at most 800, break a rule.
 fn is_broken(ground: Ground<'_>, steps: &[Kept]) -> bool
-    requires few { length steps.now ≤ 800 }
+    requires few { length steps.now ≤ MOST_ITEMS }
     ensures { let b = ground.entry.instance.now in
         let numbers = mapped (λ k. least_step_of (late k)) steps.now in
         MatchBool result (¬ Meets b numbers) (Meets b numbers) }
 {
-    let mut numbers = [least_step(&Kept::before_all(ground.instance)); 800];
+    let mut numbers = [least_step(&Kept::before_all(ground.instance)); MOST_ITEMS];
     for (i, step) in steps.iter().enumerate() {
         numbers[i] = least_step(step);
     }
@@ -120,11 +121,11 @@ pub fn refuted_at(
 /// values.
 fn refuted_early(ground: Ground<'_>, bx: &PlanBox, numbers: &mut [Step]) -> Option<Reason>
     requires instance { bx.now.frame ≡ frame_of ground.instance.now }
-    requires room { length numbers.old ≡ 800 }
+    requires room { length numbers.old ≡ MOST_ITEMS }
     ensures first { IsFirstIfAny (AppliesEarly ground.entry.instance.now bx.now.ranges) result }
     ensures numbers { take (length (decided bx.now.ranges)) numbers.new
         ≡ least_steps (known ground.entry.instance.now bx.now.ranges) }
-    ensures room { length numbers.new ≡ 800 }
+    ensures room { length numbers.new ≡ MOST_ITEMS }
 {
     let _frame = bx.frame();
     let ranges = decided_ranges(ground.instance, bx);
@@ -139,7 +140,7 @@ fn refuted_early(ground: Ground<'_>, bx: &PlanBox, numbers: &mut [Step]) -> Opti
 /// Whether the box is a point whose numbers, which are these, break a rule.
 fn is_broken_point(ground: Ground<'_>, bx: &PlanBox, numbers: &[Step]) -> bool
     requires numbers { numbers.now ≡ least_steps (known ground.instance.now bx.now.ranges) }
-    requires few { length numbers.now ≤ 800 }
+    requires few { length numbers.now ≤ MOST_ITEMS }
     requires possible { ¬ Applies ReasonOf.R1 ground.instance.now bx.now.ranges }
     ensures { IsTrue result ↔ R7 ground.entry.instance.now bx.now.ranges }
 {
@@ -159,7 +160,7 @@ pub fn refuted(instance: &Instance, map: &DefectMap, bx: &PlanBox) -> Option<Rea
     let _items = instance.items();
     let _frame = bx.frame();
     let ground = Ground { instance, map };
-    let mut numbers = [least_step(&Kept::before_all(instance)); 800];
+    let mut numbers = [least_step(&Kept::before_all(instance)); MOST_ITEMS];
     if let Some(reason) = refuted_early(ground, bx, &mut numbers) {
         return Some(reason);
     }

@@ -16,6 +16,7 @@ use crate::kept::Kept;
 use crate::meetings::{cut_met, item_met};
 use crate::numbers::{breaks_a_rule, has_no_place, is_too_wide};
 use defect_map::Ground;
+use glass_base::limits::MOST_LENGTH;
 use glass_base::{Instance, Run};
 use plan_box::{Packed, Reason};
 
@@ -40,7 +41,7 @@ pub fn earlier(one: Option<Reason>, other: Option<Reason>) -> Option<Reason>
 
 /// Whether a cut of a step runs through one defect at every place of its ranges.
 fn is_cut_met(ground: Ground<'_>, last: &Kept, here: &Kept) -> bool
-    requires within { AreWithin 40000000 (late here.now) }
+    requires within { AreWithin MOST_LENGTH (late here.now) }
     ensures { IsTrue result ↔ StepR4 ground.entry.instance.now last.now.level
         (late last.now) here.now.level (late here.now) [] }
 {
@@ -55,7 +56,7 @@ pub fn seen_at(
     here: &Kept,
     later: &[Packed],
 ) -> Option<Reason>
-    requires within { AreWithin 40000000 (late here.now) }
+    requires within { AreWithin MOST_LENGTH (late here.now) }
     ensures { IsFirstIfAny (λ reason. FactOf ground.entry.instance.now whole reason last.now.level
         (late last.now) here.now.level (late here.now) (levels_of later.now)) result }
 {
@@ -112,7 +113,7 @@ pub fn look(
     start: usize,
     seen: &mut Run<Option<Reason>>,
 )
-    requires within { All (λ k. AreWithin 40000000 (late k)) steps.now }
+    requires within { All (λ k. AreWithin MOST_LENGTH (late k)) steps.now }
     requires many { length ranges.now ≡ length steps.now }
     requires levels { HaveLevels steps.now ranges.now }
     requires room { length steps.now ≤ length seen.old.items }

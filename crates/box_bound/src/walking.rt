@@ -19,6 +19,7 @@ use crate::seen::{earlier, seen_at};
 use cut_model::Step;
 use defect_map::Ground;
 use glass_base::Instance;
+use glass_base::limits::{MOST_ITEMS, MOST_LENGTH};
 use plan_box::{Packed, Reason, Var};
 
 /// What a walk over the decided steps from one on hands back.
@@ -56,7 +57,7 @@ fn seen_behind(
     ranges: &[Packed],
     behind: &Walked,
 ) -> Option<Reason>
-    requires within { IfSome behind.now.first (λ k. AreWithin 40000000 (late k)) }
+    requires within { IfSome behind.now.first (λ k. AreWithin MOST_LENGTH (late k)) }
     ensures { let b = ground.entry.instance.now in (ks : List Fixed) → IsHead behind.now.first ks
         → AreLevels ks ranges.now → IsFirstIfAny
         (λ reason. SomeBehind (FactOf b whole reason) ks) behind.now.seen
@@ -82,14 +83,14 @@ fn walk(
     last: &Kept,
     steps: &mut [Step],
 ) -> Walked
-    requires few { length ranges.now ≤ 800 }
+    requires few { length ranges.now ≤ MOST_ITEMS }
     requires room { length ranges.now ≤ length steps.old }
     requires inside { at ≤ length ranges.now }
     requires ranges { All (λ x. AreRangesWithin (unpacked x)) ranges.now }
     requires within { AreWithin (limit at) (early last.now) }
     ensures first { IsHead result.first (steps_from ground.entry.instance.now ranges.now at
         (early last.now)) }
-    ensures within { IfSome result.first (λ k. AreWithin 40000000 (late k)) }
+    ensures within { IfSome result.first (λ k. AreWithin MOST_LENGTH (late k)) }
     ensures seen { let b = ground.entry.instance.now in
         IsFirstIfAny (λ reason. SomeBehind (FactOf b whole reason)
         (steps_from b ranges.now at (early last.now))) result.seen }
@@ -124,7 +125,7 @@ pub fn seen_in(
     ranges: &[Packed],
     steps: &mut [Step],
 ) -> Option<Reason>
-    requires few { length ranges.now ≤ 800 }
+    requires few { length ranges.now ≤ MOST_ITEMS }
     requires room { length ranges.now ≤ length steps.old }
     requires ranges { All (λ x. AreRangesWithin (unpacked x)) ranges.now }
     ensures seen { let b = ground.entry.instance.now in

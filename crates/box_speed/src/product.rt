@@ -9,6 +9,7 @@ use cert_log::History;
 use cut_model::Trace;
 use defect_map::DefectMap;
 use first_plan::first_plan;
+use glass_base::limits::MOST_BUDGET;
 use glass_base::{Instance, Memory};
 use plan_draft::draft;
 use shared_best::{NONE, SharedBest};
@@ -55,7 +56,7 @@ fn history_of<R: Threads + Wait + Sync>(
 ) -> Result<History, Memory>
     requires map { map.now ≡ instance.now.defects }
     requires workers { (1 ≤ workers) × (workers ≤ 8) }
-    requires budget { (1 ≤ budget) × (budget ≤ 10000000) }
+    requires budget { (1 ≤ budget) × (budget ≤ MOST_BUDGET) }
 {
     let first = beginning_of(alloc, instance, map, beginning)?;
     let loss = first_loss(instance, &first);
@@ -79,7 +80,7 @@ pub fn search_by<R: Threads + Wait + Sync>(
 ) -> anyhow::Result<Count>
     requires map { map.now ≡ instance.now.defects }
     requires workers { (1 ≤ workers) × (workers ≤ 8) }
-    requires budget { (1 ≤ budget) × (budget ≤ 10000000) }
+    requires budget { (1 ≤ budget) × (budget ≤ MOST_BUDGET) }
 {
     let history = history_of(rt, alloc, instance, map, beginning, workers, budget)?;
     Ok(Count {

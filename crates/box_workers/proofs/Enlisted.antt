@@ -15,6 +15,7 @@ use Rattle.box_workers.specs.declared.member.Member.{Member}
 use Rattle.box_workers.specs.inner.Enlisting.{enough_for}
 use Rattle.box_workers.specs.inner.Hands as hands
 use Rattle.box_workers.specs.inner.Members.{IsUnused, IsNew, IsReady, arms_of, numbers_of, share_of}
+use Rattle.glass_base.specs.declared.limits.TheConstants.{MOST_BUDGET}
 
 pub enough_least : (n : ℕ) → 10000001 ≤ enough_for n
 enough_least zero = omega arith
@@ -51,7 +52,7 @@ pub record Enlists (b : Problem) (w : Words) (all arms : List ArmState) (ms : Li
   pub fresh : AllFresh arms
 
 -- one worker more
-module _ (b : Problem) (w : Words) (all arms rest : List ArmState) (ms more : List Member) (m : Member) (first s t : Seated) (last : arms ≡ rest ++ m.arm ∷ []) (pushed : more ≡ ms ++ m ∷ []) (budget : w.budget ≤ 10000000)
+module _ (b : Problem) (w : Words) (all arms rest : List ArmState) (ms more : List Member) (m : Member) (first s t : Seated) (last : arms ≡ rest ++ m.arm ∷ []) (pushed : more ≡ ms ++ m ∷ []) (budget : w.budget ≤ MOST_BUDGET)
     (of_t : IsSeatOf w t) (of_m : IsSeatOf w m.seat) (kept : t.view ≡ kept_half s.view) (half : m.seat.view ≡ new_half s.view) (hand : hands.IsFresh b m.hand) (left : m.hand.left.items ≡ []) (number : m.hand.worker ≡ length rest) (r : Enlists b w all arms ms first s) where
   enough : 2 * enough_for (length rest) ≤ s.view.allowance
   enough =

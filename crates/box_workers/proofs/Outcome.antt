@@ -43,6 +43,7 @@ use Rattle.box_workers.proofs.Lists.{ones, empty}
 use Rattle.box_workers.proofs.Progress.{all_sum, least_low}
 use Rattle.box_workers.proofs.Collected.{kept_share}
 use Rattle.box_workers.proofs.Stages.{stage_ended, none_left}
+use Rattle.glass_base.specs.declared.limits.TheConstants.{MOST_SIDE}
 
 -- a seat that was split and joined again
 pub joined_again : (v : View) → v.announced ≤ none_known → joined (kept_half v) (new_half v) ≡ v
@@ -59,7 +60,7 @@ bound_small b rs rules unrefuted =
     let a = b.params.accepted in
     let few : least_length b rs ≤ Before b b.params.plates = at_most (least_length b rs) (Before b b.params.plates) (λ above. unrefuted (Reason.R1, inr above)) in
     let w = before_within b b.params.plates rules in let p = a.few_plates in
-    let h = mul-le b.params.height (least_length b rs) 20000 20000000 a.height_limit (omega arith) in omega arith
+    let h = mul-le b.params.height (least_length b rs) MOST_SIDE 20000000 a.height_limit (omega arith) in omega arith
   where
     at_most : (m n : ℕ) → ¬ (n < m) → m ≤ n
     at_most m n h = omega arith

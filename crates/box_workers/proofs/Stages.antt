@@ -19,6 +19,7 @@ use Rattle.box_workers.specs.inner.Teamwork.{IsStage, HasBegun}
 use Rattle.box_workers.proofs.Lists.{nil_back, sum_reverse}
 use Rattle.box_workers.proofs.Progress.{all_sum}
 use Rattle.box_workers.proofs.Teamwork.{teamwork_none, teamwork_more}
+use Rattle.glass_base.specs.declared.limits.TheConstants.{MOST_BUDGET}
 
 pub newcomer_unused : (v : View) (first : ℕ) → v ≡ newcomer first → IsUnused v
 newcomer_unused v first e = record { tickets = ap (λ (u : View). u.tickets) e; looks = ap (λ (u : View). u.looks) e; announced = ap (λ (u : View). u.announced) e }
@@ -30,7 +31,7 @@ stage_none b w starts boxes v k unused fresh left = record {
   weighs = λ weight. (let a = all_sum weight [] (left_boxes k.left.items) in let e = ap (λ (ls : List Left). sum_by weight (left_boxes ls)) left in let turned = sum_reverse weight boxes in omega arith);
 }
 
-pub begun_none : (b : Problem) (w : Words) (starts : ℕ) (boxes : List PlainBox) (workers : ℕ) (s : Seated) (k : Hand) → s.view ≡ newcomer w.first → IsFresh b k → k.left.items ≡ [] → w.budget ≤ 10000000 → workers ≡ 1 → HasBegun b w starts boxes workers s s k k (reverse boxes)
+pub begun_none : (b : Problem) (w : Words) (starts : ℕ) (boxes : List PlainBox) (workers : ℕ) (s : Seated) (k : Hand) → s.view ≡ newcomer w.first → IsFresh b k → k.left.items ≡ [] → w.budget ≤ MOST_BUDGET → workers ≡ 1 → HasBegun b w starts boxes workers s s k k (reverse boxes)
 begun_none b w starts boxes workers s k new fresh left budget one = record {
   events = [];
   spent = [];

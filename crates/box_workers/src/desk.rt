@@ -1,6 +1,7 @@
 //! What all workers of a search share.
 
 ghost use Rattle.std.specs.Prelude.{◌≤◌};
+ghost use Rattle.glass_base.specs.declared.limits.TheConstants.{MOST_BUDGET, MOST_CERT_BYTES};
 
 use defect_map::Ground;
 use shared_best::SharedBest;
@@ -15,5 +16,5 @@ pub(crate) struct Desk<'a, G> {
     pub(crate) shared: &'a SharedBest,
     pub(crate) starts: u64,
     pub(crate) gate: &'a G,
-    ghost limits: { (starts ≤ 160000000) × (shared.now.budget ≤ 10000000) },
+    ghost limits: { (starts ≤ MOST_CERT_BYTES) × (shared.now.budget ≤ MOST_BUDGET) },
 }

@@ -12,6 +12,7 @@ use crate::hand::Hand;
 use crate::member::Member;
 use box_ring::Arm;
 use crossbeam_utils::CachePadded;
+use glass_base::limits::MOST_BUDGET;
 use glass_base::{Instance, Memory, Run};
 use shared_best::{Seat, SharedBest};
 use std::alloc::Global;
@@ -29,7 +30,7 @@ pub(crate) fn enlist(
     requires unused { IsUnused seat.old.view }
     requires few { length arms.items ≤ 8 }
     requires allowance { enough_for (length arms.items) ≤ seat.old.view.allowance }
-    requires budget { shared.now.budget ≤ 10000000 }
+    requires budget { shared.now.budget ≤ MOST_BUDGET }
     requires arms { AllOfFrame (frame_of instance.now) arms.items × AllFresh arms.items }
     ensures seat { OnOk result (IsSeatOf shared.now seat.new) }
     ensures unused { OnOk result (IsUnused seat.new.view) }

@@ -18,6 +18,7 @@ use box_bound::{Leasts, bound_at, broken_at, choose_at, refuted_at};
 use cert_log::{Act, Cause, Note, trace_loss};
 use cut_model::Trace;
 use defect_map::{DefectMap, Ground};
+use glass_base::limits::{MOST_BUDGET, MOST_CERT_BYTES};
 use glass_base::{Instance, Memory};
 use plan_box::{PlanBox, Var};
 use plan_trace::TraceBroken;
@@ -166,7 +167,7 @@ fn carry_out(
     requires free { SplitsFree bx.ranges act }
     requires log { 1 ≤ hand.old.log.spare }
     requires room { HasRoomFor bx hand.old.spares }
-    requires limits { (starts ≤ 160000000) × (ticket < 10000000) }
+    requires limits { (starts ≤ MOST_CERT_BYTES) × (ticket < MOST_BUDGET) }
     ensures noted { IsNoted record { id = bx.id; ticket = ticket; act = act } hand.old hand.new }
     ensures gives { (seen : ℕ) → (probed : ℕ) → Gives starts record
         { box = bx; ticket = ticket; seen = seen; probed = probed; act = act } result }
@@ -207,7 +208,7 @@ pub fn handle(
     requires frame { bx.frame ≡ frame_of instance.now }
     requires leasts { IsOf instance.now hand.old.leasts }
     requires scratch { length hand.old.scratch.steps.items ≡ length instance.now.items }
-    requires limits { (starts ≤ 160000000) × (shared.now.budget ≤ 10000000) }
+    requires limits { (starts ≤ MOST_CERT_BYTES) × (shared.now.budget ≤ MOST_BUDGET) }
     requires seat { IsSeatOf shared.now seat.old }
     requires allowance { 1 ≤ seat.old.view.allowance }
     ensures seat { IsSeatOf shared.now seat.new }

@@ -26,6 +26,7 @@ use crate::member::Member;
 use crate::poster::Poster;
 use crate::teaming::work_all;
 use box_ring::{gather, ring};
+use glass_base::limits::MOST_BUDGET;
 use glass_base::{Instance, Memory, Run};
 use plan_box::{Frame, PlanBox};
 use shared_best::{Seat, SharedBest};
@@ -45,7 +46,7 @@ fn set_up(
 ) -> Result<Vec<Member>, Memory>
     requires workers { (1 ≤ workers) × (workers ≤ 8) }
     requires frames { All (λ (x : PlainBox). x.frame ≡ frame_of instance.now) start.items }
-    requires budget { shared.now.budget ≤ 10000000 }
+    requires budget { shared.now.budget ≤ MOST_BUDGET }
     requires seat { IsSeatOf shared.now seat.old }
     requires newcomer { seat.old.view ≡ newcomer shared.now.first }
     ensures seat { OnOk result (IsSeatOf shared.now seat.new) }

@@ -21,6 +21,7 @@ use best_board::{Board, Entries, Entry, copy_trace, settle};
 use cert_log::History;
 use cut_model::Trace;
 use defect_map::{DefectMap, Ground};
+use glass_base::limits::{MOST_BUDGET, MOST_CERT_BYTES};
 use glass_base::{Instance, Memory, Run};
 use plan_box::PlanBox;
 use shared_best::{Seat, SharedBest};
@@ -125,13 +126,13 @@ pub fn search_watched<'d, R: Threads + Wait + Sync, G: Gate + Sync>(
     gate: &'d G,
 ) -> Result<(History, Run<Entry>), Memory>
     requires map { map.now ≡ instance.now.defects }
-    requires starts { (1 ≤ length start.items) × (length start.items ≤ 160000000) }
+    requires starts { (1 ≤ length start.items) × (length start.items ≤ MOST_CERT_BYTES) }
     requires ids { numbered 0 start.items }
     requires frames { All (λ (x : PlainBox). x.frame ≡ frame_of instance.now) start.items }
     requires first { IsFirst instance.now first }
     requires workers { (1 ≤ workers) × (workers ≤ 8) }
     requires loss { shared.now.first ≡ first_loss_of instance.now first }
-    requires budget { (1 ≤ shared.now.budget) × (shared.now.budget ≤ 10000000) }
+    requires budget { (1 ≤ shared.now.budget) × (shared.now.budget ≤ MOST_BUDGET) }
     requires seat { IsSeatOf shared.now seat.old }
     requires newcomer { seat.old.view ≡ newcomer shared.now.first }
     requires floor { IsFloor instance.now shared.now.floor }

@@ -19,6 +19,7 @@ use box_bound::bound_at;
 use box_ring::Arm;
 use cert_log::Left;
 use defect_map::{DefectMap, Ground};
+use glass_base::limits::{MOST_BUDGET, MOST_CERT_BYTES};
 use glass_base::{Instance, Memory};
 use plan_box::PlanBox;
 use shared_best::{Seat, SharedBest};
@@ -255,7 +256,7 @@ pub fn work<'d, R: Wait, G: Gate, Q: Poster>(
     requires misses { arm.old.misses ≡ 0 }
     requires leasts { IsOf instance.now hand.old.leasts }
     requires scratch { length hand.old.scratch.steps.items ≡ length instance.now.items }
-    requires limits { (starts ≤ 160000000) × (shared.now.budget ≤ 10000000) }
+    requires limits { (starts ≤ MOST_CERT_BYTES) × (shared.now.budget ≤ MOST_BUDGET) }
     requires seat { IsSeatOf shared.now seat.old }
     requires allowance { shared.now.budget < seat.old.view.allowance }
     ensures seat { IsSeatOf shared.now seat.new }

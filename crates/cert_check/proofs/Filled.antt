@@ -14,13 +14,14 @@ use Rattle.plan_box.proofs.Following.{known_follows}
 use Rattle.plan_box.proofs.Limits.{all_within, few_within}
 use Rattle.cert_check.specs.declared.steps.Decided.{Decided}
 use Rattle.cert_check.specs.inner.Knowns.{AreKnown, fixed_of, known_in}
+use Rattle.glass_base.specs.declared.limits.TheConstants.{MOST_ITEMS, MOST_LENGTH}
 
 -- no more steps are decided than there are
 pub few_decided : (ranges : List Packed) → length (decided (map unpacked ranges)) ≤ length ranges
 few_decided ranges = omega (arith, decided_few (map unpacked ranges), length-map ranges unpacked)
 
 -- what filling gives is of the box
-pub are_known : (b : Problem) (ranges : List Packed) (n : ℕ) (xs ys : List Decided) → IsProblem b → n ≡ length (decided (map unpacked ranges)) → n ≤ length ranges → length ranges ≤ 800 →
+pub are_known : (b : Problem) (ranges : List Packed) (n : ℕ) (xs ys : List Decided) → IsProblem b → n ≡ length (decided (map unpacked ranges)) → n ≤ length ranges → length ranges ≤ MOST_ITEMS →
     All (λ (x : Packed). AreRangesWithin (unpacked x)) (take n ranges) → map fixed_of (take n xs) ≡ follow b [] no_known (map unpacked (take n ranges)) →
     map fixed_of (take n ys) ≡ settle (map fixed_of (take n xs)) → AreKnown b (map unpacked ranges) (take n ys)
 are_known b ranges n xs ys rules count inside few within followed settled =
@@ -30,6 +31,6 @@ are_known b ranges n xs ys rules count inside few within followed settled =
     record {
       values = are ∙ ap (λ (qs : List Ranges). settle (follow b [] no_known qs)) same ∙ sym (known_follows b rs);
       within =
-          all_within (λ k. k.level) known_in 40000000 (take n ys)
-          (subst (AllFixed 40000000) (sym are) (few_within b rules (take n ranges) within (omega (arith, length-take-le n ranges inside, few, inside))));
+          all_within (λ k. k.level) known_in MOST_LENGTH (take n ys)
+          (subst (AllFixed MOST_LENGTH) (sym are) (few_within b rules (take n ranges) within (omega (arith, length-take-le n ranges inside, few, inside))));
     }

@@ -13,6 +13,7 @@ ghost use Rattle.plan_box.specs.Within.{AreWithin};
 
 use crate::filling::fill;
 use crate::steps::Decided;
+use glass_base::limits::{MOST_ITEMS, MOST_LENGTH};
 use glass_base::{Instance, Run};
 use plan_box::Packed;
 
@@ -30,7 +31,7 @@ fn ceil_div(n: u64, d: u64) -> u64
 /// Where the strip of the last decided step ends at least, in mm from the left side of the first plate.
 #[tactic(auto, using(glass_base::proofs::PlateLemmas::before_within))]
 fn end_of_strip(instance: &Instance, last: &Decided) -> u64
-    requires { AreWithin 40000000 (known_in last.now) }
+    requires { AreWithin MOST_LENGTH (known_in last.now) }
     ensures value { result ≡ end_of_strip_of instance.now (known_in last.now) }
     ensures small { result ≤ 60000000 }
 {
@@ -41,7 +42,7 @@ fn end_of_strip(instance: &Instance, last: &Decided) -> u64
 #[tactic(auto, using(plan_box::proofs::LeastLengths::product_small, glass_base::proofs::PlateLemmas::before_within))]
 fn end_of_items(instance: &Instance, total: u64, last: &Decided) -> u64
     requires total { total ≤ 320000000000 }
-    requires within { AreWithin 40000000 (known_in last.now) }
+    requires within { AreWithin MOST_LENGTH (known_in last.now) }
     ensures value { result ≡ end_of_items_of instance.now total (known_in last.now) }
     ensures small { result ≤ 810000000000000 }
 {
@@ -56,7 +57,7 @@ fn end_of_items(instance: &Instance, total: u64, last: &Decided) -> u64
 /// The least length by the last of these decided steps, for items of this area together.
 fn reached(instance: &Instance, total: u64, steps: &[Decided]) -> u64
     requires total { total ≤ 320000000000 }
-    requires within { All (λ k. AreWithin 40000000 (known_in k)) steps.now }
+    requires within { All (λ k. AreWithin MOST_LENGTH (known_in k)) steps.now }
     ensures value { result ≡ reached_of instance.now total (map fixed_of steps.now) }
     ensures small { result ≤ 810000000000000 }
 {
@@ -69,7 +70,7 @@ fn reached(instance: &Instance, total: u64, steps: &[Decided]) -> u64
 
 /// The least length of a trace in the box of which these are the decided steps.
 pub fn least_length(instance: &Instance, steps: &[Decided]) -> u64
-    requires { All (λ k. AreWithin 40000000 (known_in k)) steps.now }
+    requires { All (λ k. AreWithin MOST_LENGTH (known_in k)) steps.now }
     ensures value { (rs : List Ranges) → map fixed_of steps.now ≡ known instance.now rs
         → result ≡ least_length_of instance.now rs }
     ensures small { result ≤ 810000000000000 }
@@ -98,10 +99,10 @@ pub fn bound(
 ) -> u64
     requires stored { AreStored (frame_of instance.now) ranges.now }
     requires room { length ranges.now ≤ length steps.old.items }
-    requires taken { length taken.old.items ≡ 800 }
+    requires taken { length taken.old.items ≡ MOST_ITEMS }
     ensures value { result ≡ bound_of instance.now (map unpacked ranges.now) }
     ensures room { length steps.new.items ≡ length steps.old.items }
-    ensures taken { length taken.new.items ≡ 800 }
+    ensures taken { length taken.new.items ≡ MOST_ITEMS }
 {
     let count = fill(instance, ranges, steps, taken);
     let length = least_length(instance, &steps.as_slice()[..count]);

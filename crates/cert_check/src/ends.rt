@@ -8,6 +8,7 @@ ghost use Rattle.cert_check.specs.inner.Knowns.{fixed_of, known_in, place_in, wi
 
 use crate::steps::Decided;
 use glass_base::Instance;
+use glass_base::limits::{MOST_LENGTH, MOST_SIDE};
 use plan_box::{Packed, Var};
 use plan_trace::level::Level;
 
@@ -33,10 +34,10 @@ fn with_cell(instance: &Instance, step: Decided, from: u32, ranges: &Packed) -> 
 /// With a band whose lower side is at `from` at least, and its first cell.
 fn with_band(instance: &Instance, step: Decided, from: u32, ranges: &Packed) -> Decided
     requires ranges { AreRangesWithin (unpacked ranges.now) }
-    requires cell_w { step.cell_w ≤ 20000 }
-    requires a { step.least_a ≤ 40000000 }
-    requires from { from ≤ 40000000 }
-    requires cell_h { step.cell_h ≤ 40000000 }
+    requires cell_w { step.cell_w ≤ MOST_SIDE }
+    requires a { step.least_a ≤ MOST_LENGTH }
+    requires from { from ≤ MOST_LENGTH }
+    requires cell_h { step.cell_h ≤ MOST_LENGTH }
     ensures { fixed_of result ≡ fixed step.level
         (band_known instance.now (place_in step) (known_in step) from (unpacked ranges.now)) }
 {
@@ -56,9 +57,9 @@ fn with_band(instance: &Instance, step: Decided, from: u32, ranges: &Packed) -> 
 /// With a strip whose left side is at `from` at least, and its first band and cell.
 fn with_strip(instance: &Instance, step: Decided, from: u32, ranges: &Packed) -> Decided
     requires ranges { AreRangesWithin (unpacked ranges.now) }
-    requires cell_w { step.cell_w ≤ 20000 }
-    requires from { from ≤ 40000000 }
-    requires cell_h { step.cell_h ≤ 40000000 }
+    requires cell_w { step.cell_w ≤ MOST_SIDE }
+    requires from { from ≤ MOST_LENGTH }
+    requires cell_h { step.cell_h ≤ MOST_LENGTH }
     ensures { fixed_of result ≡ fixed step.level
         (strip_known instance.now (place_in step) (known_in step) from (unpacked ranges.now)) }
 {
@@ -79,13 +80,13 @@ fn with_strip(instance: &Instance, step: Decided, from: u32, ranges: &Packed) ->
 /// A step in its place behind `last`, whose cuts it still has, with its own.
 pub fn with_cuts(instance: &Instance, last: &Decided, step: Decided, ranges: &Packed) -> Decided
     requires ranges { AreRangesWithin (unpacked ranges.now) }
-    requires cell_w { step.cell_w ≤ 20000 }
-    requires cell_h { step.cell_h ≤ 40000000 }
-    requires a { last.now.least_a ≤ 40000000 }
-    requires b { last.now.least_b ≤ 40000000 }
-    requires d { last.now.least_d ≤ 40000000 }
-    requires e { last.now.least_e + last.now.cell_w ≤ 40000000 }
-    requires c { last.now.least_c ≤ 40000000 }
+    requires cell_w { step.cell_w ≤ MOST_SIDE }
+    requires cell_h { step.cell_h ≤ MOST_LENGTH }
+    requires a { last.now.least_a ≤ MOST_LENGTH }
+    requires b { last.now.least_b ≤ MOST_LENGTH }
+    requires d { last.now.least_d ≤ MOST_LENGTH }
+    requires e { last.now.least_e + last.now.cell_w ≤ MOST_LENGTH }
+    requires c { last.now.least_c ≤ MOST_LENGTH }
     requires behind { known_in step ≡ with_place (known_in last.now) (place_in step) }
     ensures { fixed_of result ≡ fixed step.level
         (next_known instance.now step.level (place_in step) (known_in last.now)

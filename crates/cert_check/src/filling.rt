@@ -16,6 +16,7 @@ use crate::free::count_decided;
 use crate::placed::next_place;
 use crate::steps::Decided;
 use crate::taken::{clear, draw};
+use glass_base::limits::MOST_ITEMS;
 use glass_base::{Instance, Run};
 use plan_box::{Packed, Var};
 use plan_trace::laid::level_of;
@@ -43,7 +44,7 @@ fn next(
     ranges: &Packed,
 ) -> Decided
     requires taken { taken ≡ drawn_of (draws_of before.now) (unpacked ranges.now).stack.low }
-    requires few { length before.now < 800 }
+    requires few { length before.now < MOST_ITEMS }
     requires ranges { AreRangesWithin (unpacked ranges.now) }
     requires within { AreWithin (limit (length before.now)) (known_in last.now) }
     ensures { fixed_of result ≡ next_fixed instance.now (draws_of before.now) (known_in last.now)
@@ -57,11 +58,11 @@ fn next(
 /// Writes the decided steps of these ranges, each as it and the earlier ones give it.
 fn follow(instance: &Instance, ranges: &[Packed], steps: &mut Run<Decided>, taken: &mut Run<u32>)
     requires room { length ranges.now ≤ length steps.old.items }
-    requires few { length ranges.now ≤ 800 }
+    requires few { length ranges.now ≤ MOST_ITEMS }
     requires within { All (λ x. AreRangesWithin (unpacked x)) ranges.now }
-    requires taken { length taken.old.items ≡ 800 }
+    requires taken { length taken.old.items ≡ MOST_ITEMS }
     ensures many { length steps.new.items ≡ length steps.old.items }
-    ensures taken { length taken.new.items ≡ 800 }
+    ensures taken { length taken.new.items ≡ MOST_ITEMS }
     ensures steps { map fixed_of (take (length ranges.now) steps.new.items)
         ≡ follow_of instance.now [] no_known (map unpacked ranges.now) }
 {
@@ -110,9 +111,9 @@ pub fn fill(
 ) -> usize
     requires stored { AreStored (frame_of instance.now) ranges.now }
     requires room { length ranges.now ≤ length steps.old.items }
-    requires taken { length taken.old.items ≡ 800 }
+    requires taken { length taken.old.items ≡ MOST_ITEMS }
     ensures many { length steps.new.items ≡ length steps.old.items }
-    ensures taken { length taken.new.items ≡ 800 }
+    ensures taken { length taken.new.items ≡ MOST_ITEMS }
     ensures count { result ≡ length (decided (map unpacked ranges.now)) }
     ensures inside { result ≤ length ranges.now }
     ensures known { AreKnown instance.now (map unpacked ranges.now) (take result steps.new.items) }

@@ -11,12 +11,13 @@ ghost use Rattle.plan_box.specs.Within.{AreWithin};
 
 use crate::steps::Decided;
 use defect_map::{DefectMap, Ground};
+use glass_base::limits::MOST_LENGTH;
 use glass_base::{Instance, Params};
 use plan_trace::level::Level;
 
 /// Whether an item that hangs from the upper side of its band meets one defect everywhere.
 fn hanging_met(defects: &DefectMap, here: &Decided) -> bool
-    requires { AreWithin 40000000 (known_in here.now) }
+    requires { AreWithin MOST_LENGTH (known_in here.now) }
     ensures { IsTrue result ↔ ItemR3 defects.now Over here.now.lift (known_in here.now) }
 {
     let h = here.h;
@@ -31,7 +32,7 @@ fn hanging_met(defects: &DefectMap, here: &Decided) -> bool
 /// Whether an item that stands on the lower side of its band does.
 fn standing_met(defects: &DefectMap, here: &Decided) -> bool
     requires lift { here.now.lift ≡ 0 }
-    requires within { AreWithin 40000000 (known_in here.now) }
+    requires within { AreWithin MOST_LENGTH (known_in here.now) }
     ensures { IsTrue result ↔ ItemR3 defects.now NewCell here.now.lift (known_in here.now) }
 {
     let along = (here.least_e, here.high_e);
@@ -41,7 +42,7 @@ fn standing_met(defects: &DefectMap, here: &Decided) -> bool
 
 /// Whether the item meets one defect at every place of its ranges. It hangs where it is lifted, or lies over another one.
 pub fn item_met(defects: &DefectMap, here: &Decided) -> bool
-    requires { AreWithin 40000000 (known_in here.now) }
+    requires { AreWithin MOST_LENGTH (known_in here.now) }
     ensures { IsTrue result ↔ ItemR3 defects.now here.now.level here.now.lift (known_in here.now) }
 {
     if here.lift > 0 || matches!(here.level, Level::Over) {
@@ -92,7 +93,7 @@ fn band_met(params: &Params, defects: &DefectMap, here: &Decided) -> bool
 
 /// The sides of the item's cell.
 fn cell_met(defects: &DefectMap, here: &Decided) -> bool
-    requires { AreWithin 40000000 (known_in here.now) }
+    requires { AreWithin MOST_LENGTH (known_in here.now) }
     ensures { IsTrue result ↔ CellMet defects.now (known_in here.now) }
 {
     let w = here.w;
@@ -112,7 +113,7 @@ fn cell_met(defects: &DefectMap, here: &Decided) -> bool
 /// The line below an item that is lifted.
 fn lower_line_met(defects: &DefectMap, here: &Decided) -> bool
     requires lift { 1 ≤ here.now.lift }
-    requires within { AreWithin 40000000 (known_in here.now) }
+    requires within { AreWithin MOST_LENGTH (known_in here.now) }
     ensures { IsTrue result ↔ LiftR4 defects.now NewCell here.now.lift (known_in here.now) }
 {
     let h = here.h;
@@ -126,7 +127,7 @@ fn lower_line_met(defects: &DefectMap, here: &Decided) -> bool
 /// The line above an item that is not lifted and does not fill its cell.
 fn upper_line_met(defects: &DefectMap, here: &Decided) -> bool
     requires lift { here.now.lift ≡ 0 }
-    requires within { AreWithin 40000000 (known_in here.now) }
+    requires within { AreWithin MOST_LENGTH (known_in here.now) }
     ensures { IsTrue result ↔ LiftR4 defects.now NewCell here.now.lift (known_in here.now) }
 {
     let h = here.h;
@@ -137,7 +138,7 @@ fn upper_line_met(defects: &DefectMap, here: &Decided) -> bool
 
 /// The line above or below the item.
 fn line_met(defects: &DefectMap, here: &Decided) -> bool
-    requires { AreWithin 40000000 (known_in here.now) }
+    requires { AreWithin MOST_LENGTH (known_in here.now) }
     ensures { IsTrue result ↔ LiftR4 defects.now here.now.level here.now.lift (known_in here.now) }
 {
     if here.lift > 0 {
@@ -149,7 +150,7 @@ fn line_met(defects: &DefectMap, here: &Decided) -> bool
 
 /// Whether a cut of the step runs through one defect at every place of its ranges.
 pub fn cut_met(ground: Ground<'_>, here: &Decided) -> bool
-    requires within { AreWithin 40000000 (known_in here.now) }
+    requires within { AreWithin MOST_LENGTH (known_in here.now) }
     ensures { (m : LevelOf) (j : Known) (later : List LevelOf) → IsTrue result
         ↔ StepR4 ground.entry.instance.now m j here.now.level (known_in here.now) later }
 {

@@ -12,6 +12,7 @@ ghost use Rattle.plan_box.specs.Within.{AreRangesWithin};
 ghost use Rattle.cert_check.specs.inner.Knowns.{fixed_of, known_in, place_in, with_place};
 
 use crate::steps::Decided;
+use glass_base::limits::{MOST_LENGTH, MOST_REACH, MOST_SIDE};
 use glass_base::{Instance, Item};
 use plan_box::{Packed, Var};
 use plan_trace::laid::{height_in, plates_behind, width_in};
@@ -33,21 +34,21 @@ fn next_item(instance: &Instance, stack: u32, taken: u32) -> Option<Item>
 /// The height that an item takes in its cell.
 #[tactic(auto, using(plan_box::proofs::Sizes::times_bit))]
 fn own_height(instance: &Instance, h: u32, lift: u32) -> u32
-    requires h { h ≤ 20000 }
+    requires h { h ≤ MOST_SIDE }
     requires lift { lift ≤ 1 }
     ensures value { result ≡ h + lift * instance.now.params.waste }
-    ensures small { result ≤ 40000 }
+    ensures small { result ≤ MOST_REACH }
 {
     h + lift * instance.params().waste
 }
 
 /// The step with the sizes of its cell, band and strip, and the areas.
 fn grown(last: &Decided, step: Decided, own: u32) -> Decided
-    requires w { step.w ≤ 20000 }
-    requires h { step.h ≤ 20000 }
-    requires own { own ≤ 40000 }
-    requires cell_h { last.now.cell_h ≤ 40000000 }
-    requires band_w { last.now.band_w ≤ 40000000 }
+    requires w { step.w ≤ MOST_SIDE }
+    requires h { step.h ≤ MOST_SIDE }
+    requires own { own ≤ MOST_REACH }
+    requires cell_h { last.now.cell_h ≤ MOST_LENGTH }
+    requires band_w { last.now.band_w ≤ MOST_LENGTH }
     requires band_area { last.now.band_area ≤ 1000000000000 }
     requires area { last.now.area ≤ 1000000000000 }
     ensures item { result.item ≡ step.item }
@@ -98,9 +99,9 @@ pub fn next_place(
     ranges: &Packed,
 ) -> Decided
     requires ranges { AreRangesWithin (unpacked ranges.now) }
-    requires plates { last.now.plates ≤ 40000000 }
-    requires cell_h { last.now.cell_h ≤ 40000000 }
-    requires band_w { last.now.band_w ≤ 40000000 }
+    requires plates { last.now.plates ≤ MOST_LENGTH }
+    requires cell_h { last.now.cell_h ≤ MOST_LENGTH }
+    requires band_w { last.now.band_w ≤ MOST_LENGTH }
     requires band_area { last.now.band_area ≤ 1000000000000 }
     requires area { last.now.area ≤ 1000000000000 }
     ensures value { (before : List Draw) → taken ≡ drawn_of before (unpacked ranges.now).stack.low

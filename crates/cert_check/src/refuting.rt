@@ -22,6 +22,7 @@ use crate::numbers::{breaks_a_rule, has_no_place, is_too_wide};
 use crate::steps::Decided;
 use cut_model::Step;
 use defect_map::Ground;
+use glass_base::limits::{MOST_ITEMS, MOST_LENGTH};
 use glass_base::{Instance, Run};
 use plan_box::{Packed, Reason};
 use plan_trace::first_broken;
@@ -35,7 +36,7 @@ fn is_fact_at(
     here: &Decided,
     later: &[Decided],
 ) -> bool
-    requires within { AreWithin 40000000 (known_in here.now) }
+    requires within { AreWithin MOST_LENGTH (known_in here.now) }
     ensures { IsTrue result ↔ FactOf ground.entry.instance.now whole reason last.now.level
         (known_in last.now) here.now.level (known_in here.now) (levels_in later.now) }
 {
@@ -53,7 +54,7 @@ fn is_fact_at(
 
 /// Whether a reason is a fact at one of these decided steps.
 fn is_fact_at_some(ground: Ground<'_>, whole: bool, reason: Reason, steps: &[Decided]) -> bool
-    requires within { All (λ k. AreWithin 40000000 (known_in k)) steps.now }
+    requires within { All (λ k. AreWithin MOST_LENGTH (known_in k)) steps.now }
     ensures { IsTrue result ↔ SomeFixed (FactOf ground.entry.instance.now whole reason) NewPlate
         no_known (map fixed_of steps.now) }
 {
@@ -126,7 +127,7 @@ fn is_broken_point(
     requires known { AreKnown ground.instance.now (map unpacked ranges.now) steps.now }
     requires inside { length steps.now ≤ length ranges.now }
     requires room { length ranges.now ≤ length numbers.old.items }
-    requires few { length ranges.now ≤ 800 }
+    requires few { length ranges.now ≤ MOST_ITEMS }
     requires possible { ¬ R1 ground.instance.now (map unpacked ranges.now) }
     ensures broken { IsTrue result ↔ R7 ground.entry.instance.now (map unpacked ranges.now) }
     ensures room { length numbers.new.items ≡ length numbers.old.items }
@@ -148,7 +149,7 @@ fn first_of(
     requires known { AreKnown ground.instance.now (map unpacked ranges.now) steps.now }
     requires inside { length steps.now ≤ length ranges.now }
     requires room { length ranges.now ≤ length numbers.old.items }
-    requires few { length ranges.now ≤ 800 }
+    requires few { length ranges.now ≤ MOST_ITEMS }
     ensures first { let b = ground.entry.instance.now in
         MatchOption result (¬ IsRefuted b (map unpacked ranges.now))
         (λ r. IsFirstReason b (map unpacked ranges.now) r) }
@@ -189,13 +190,13 @@ pub fn first_reason(
 ) -> Option<Reason>
     requires stored { AreStored (frame_of ground.instance.now) ranges.now }
     requires steps { length ranges.now ≤ length steps.old.items }
-    requires taken { length taken.old.items ≡ 800 }
+    requires taken { length taken.old.items ≡ MOST_ITEMS }
     requires numbers { length ranges.now ≤ length numbers.old.items }
     ensures first { let b = ground.entry.instance.now in
         MatchOption result (¬ IsRefuted b (map unpacked ranges.now))
         (λ r. IsFirstReason b (map unpacked ranges.now) r) }
     ensures steps { length steps.new.items ≡ length steps.old.items }
-    ensures taken { length taken.new.items ≡ 800 }
+    ensures taken { length taken.new.items ≡ MOST_ITEMS }
     ensures numbers { length numbers.new.items ≡ length numbers.old.items }
 {
     let count = fill(ground.instance, ranges, steps, taken);

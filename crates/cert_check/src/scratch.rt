@@ -5,6 +5,7 @@ ghost use Rattle.std.specs.Prelude.{◌≡◌, IfOk, length};
 use crate::refuting::least_step;
 use crate::steps::Decided;
 use cut_model::Step;
+use glass_base::limits::MOST_ITEMS;
 use glass_base::{Memory, Run, append};
 use std::alloc::Global;
 
@@ -18,10 +19,10 @@ pub struct Scratch {
 
 /// A count for each stack that there can be.
 fn zeros(alloc: Global) -> Result<Run<u32>, Memory>
-    ensures { IfOk result (λ run. length run.items ≡ 800) }
+    ensures { IfOk result (λ run. length run.items ≡ MOST_ITEMS) }
 {
     let mut run = Run::new(alloc);
-    for _ in 0..800u32 {
+    for _ in 0..MOST_ITEMS {
         append(&mut run, 0)?;
     }
     Ok(run)

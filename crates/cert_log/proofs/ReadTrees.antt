@@ -20,6 +20,7 @@ use Rattle.cert_log.specs.Follow.{MayCome, Follow, behind, behind_all, start, no
 use Rattle.cert_log.specs.ReadAgain.{ReadIsText}
 use Rattle.cert_log.specs.inner.LineForms.{body}
 use Rattle.cert_log.proofs.Spelling.{line_ends, lines_later}
+use Rattle.glass_base.specs.declared.limits.TheConstants.{MOST_ITEMS}
 
 -- the nodes are of so many trees
 record IsForest (k : ℕ) (ns : List Node) : Type 0 where
@@ -71,19 +72,19 @@ fits_in version at (closes (Cause.Reason r)) m = All-cons (FitsVersion version) 
 fits_in version at opens_one m = All-cons (FitsVersion version) Node.Left [] tt (All-nil (FitsVersion version))
 fits_in version at (opens n) m = All-replicate (FitsVersion version) n Node.Left tt
 
-steps_in : (version : ℕ) (at : Place) (l : Line) → MayCome version at l → All (StepBelow 800) (nodes_in l)
-steps_in version at (splits s v) m = All-cons (StepBelow 800) (Node.Split s v) [] m (All-nil (StepBelow 800))
-steps_in version at (closes k) m = All-cons (StepBelow 800) (Node.Closed k) [] tt (All-nil (StepBelow 800))
-steps_in version at opens_one m = All-cons (StepBelow 800) Node.Left [] tt (All-nil (StepBelow 800))
-steps_in version at (opens n) m = All-replicate (StepBelow 800) n Node.Left tt
+steps_in : (version : ℕ) (at : Place) (l : Line) → MayCome version at l → All (StepBelow MOST_ITEMS) (nodes_in l)
+steps_in version at (splits s v) m = All-cons (StepBelow MOST_ITEMS) (Node.Split s v) [] m (All-nil (StepBelow MOST_ITEMS))
+steps_in version at (closes k) m = All-cons (StepBelow MOST_ITEMS) (Node.Closed k) [] tt (All-nil (StepBelow MOST_ITEMS))
+steps_in version at opens_one m = All-cons (StepBelow MOST_ITEMS) Node.Left [] tt (All-nil (StepBelow MOST_ITEMS))
+steps_in version at (opens n) m = All-replicate (StepBelow MOST_ITEMS) n Node.Left tt
 
 all_fit : (version : ℕ) (at : Place) (ls : List Line) → Follow version at ls → All (FitsVersion version) (nodes_in_all ls)
 all_fit version at [] f = All-nil (FitsVersion version)
 all_fit version at (l ∷ ls) f = All-append (FitsVersion version) (nodes_in l) (nodes_in_all ls) (fits_in version at l f.1) (all_fit version (behind at l) ls f.2)
 
-all_steps : (version : ℕ) (at : Place) (ls : List Line) → Follow version at ls → All (StepBelow 800) (nodes_in_all ls)
-all_steps version at [] f = All-nil (StepBelow 800)
-all_steps version at (l ∷ ls) f = All-append (StepBelow 800) (nodes_in l) (nodes_in_all ls) (steps_in version at l f.1) (all_steps version (behind at l) ls f.2)
+all_steps : (version : ℕ) (at : Place) (ls : List Line) → Follow version at ls → All (StepBelow MOST_ITEMS) (nodes_in_all ls)
+all_steps version at [] f = All-nil (StepBelow MOST_ITEMS)
+all_steps version at (l ∷ ls) f = All-append (StepBelow MOST_ITEMS) (nodes_in l) (nodes_in_all ls) (steps_in version at l f.1) (all_steps version (behind at l) ls f.2)
 
 -- a line has two bytes at least
 two_bytes : (l : Line) (rest : List ℕ) → 2 + length rest ≤ length (line_text l ++ rest)
@@ -149,7 +150,7 @@ read_is_text text c small w =
     record {
       tree = subst IsTree (sym w.nodes) (one_tree (nodes_in_all w.lines) t.trees t.count t.nodes);
       version = (w.begins.head.version, (refl, fits, w.begins.head.floor.1));
-      steps = subst (All (StepBelow 800)) (sym w.nodes) (all_steps c.version start w.lines f);
+      steps = subst (All (StepBelow MOST_ITEMS)) (sym w.nodes) (all_steps c.version start w.lines f);
       numbers = record { loss = w.begins.head.loss; bound = w.begins.head.bound; left = w.begins.head.left; floor = w.begins.head.floor.0; nodes = omega arith };
       text_is = w.begins.text_is
           ∙ ap (λ (s : List ℕ). first_line (head_of c) ++ s) (append-nil (lines_text w.lines))

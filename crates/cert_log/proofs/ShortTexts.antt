@@ -26,6 +26,7 @@ use Rattle.cert_log.proofs.GoodNodes.{one, shut}
 use Rattle.cert_log.proofs.Marks.{reason_range}
 use Rattle.cert_log.proofs.Naming.{good_steps}
 use Rattle.cert_log.proofs.Spelling.{letter_is, lines_later}
+use Rattle.glass_base.specs.declared.limits.TheConstants.{MOST_ITEMS}
 
 -- so many digits are written before a text at the most
 onto_few : (k n : ℕ) (text : List ℕ) → length (digits_onto k 10 false n text) ≤ k + length text
@@ -108,7 +109,7 @@ abbrev nodes_size : List Node → ℕ
 nodes_size nodes = sum_by node_size nodes
 
 -- the lines of nodes at few steps
-nodes_short : (steps : ℕ) (nodes : List Node) → steps ≤ 800 → All (StepBelow steps) nodes → lines_size (grouped nodes) ≤ nodes_size nodes
+nodes_short : (steps : ℕ) (nodes : List Node) → steps ≤ MOST_ITEMS → All (StepBelow steps) nodes → lines_size (grouped nodes) ≤ nodes_size nodes
 nodes_short steps [] few h = omega arith
 nodes_short steps (Node.Split step v ∷ later) few h =
     let below : step < steps = All-head (StepBelow steps) (Node.Split step v) later h in

@@ -18,6 +18,7 @@ use Rattle.cert_log.specs.Values.{IsVersionNumber}
 use Rattle.cert_log.specs.ReadAgain.{WrittenIsRead}
 use Rattle.cert_log.proofs.OneText.{head_fits, nodes_again}
 use Rattle.cert_log.proofs.Spelling.{later_is}
+use Rattle.glass_base.specs.declared.limits.TheConstants.{MOST_ITEMS}
 
 abbrev place : ℕ → Bool → Place
 place k after = record { places = k; after_open = after }
@@ -28,7 +29,7 @@ Done version at ls = Follow version at ls × ((behind_all at ls).places ≡ 0)
 
 -- what nodes of a version need
 abbrev Fits : ℕ → Node → Type 0
-Fits version n = FitsVersion version n × StepBelow 800 n
+Fits version n = FitsVersion version n × StepBelow MOST_ITEMS n
 
 closes_may : (version : ℕ) (at : Place) (k : Cause) → FitsVersion version (Node.Closed k) → MayCome version at (closes k)
 closes_may version at Cause.Unsaid f = f
@@ -85,7 +86,7 @@ open_node_done : (version : ℕ) (first : Bool) (k : ℕ) (ns : List Node) → I
 open_node_done version true k ns is d = one_done version k (map single_line ns) is d
 open_node_done version false k ns is d = open_done version k (grouped ns) is d
 
-split_done : (version : ℕ) (first : Bool) (s : ℕ) (v : Var) (k : ℕ) (ns : List Node) → s < 800 → Done version (place (k + 1 + 1) false) (lines_in first ns) → Done version (place (k + 1) false) (lines_in first (Node.Split s v ∷ ns))
+split_done : (version : ℕ) (first : Bool) (s : ℕ) (v : Var) (k : ℕ) (ns : List Node) → s < MOST_ITEMS → Done version (place (k + 1 + 1) false) (lines_in first ns) → Done version (place (k + 1) false) (lines_in first (Node.Split s v ∷ ns))
 split_done version true s v k ns f d = ((omega arith, f, d.0), d.1)
 split_done version false s v k ns f d = ((omega arith, f, d.0), d.1)
 
@@ -104,7 +105,7 @@ tree_done version b (halved s v lower upper) k ns is a d =
 tree_done version b (closed c) k ns is a d = let fits = All-head (Fits version) (Node.Closed c) ns a in closed_node_done version b c k ns fits.0 d
 tree_done version b waiting k ns is a d = open_node_done version b k ns is d
 
-all_both : (version : ℕ) (ns : List Node) → All (FitsVersion version) ns → All (StepBelow 800) ns → All (Fits version) ns
+all_both : (version : ℕ) (ns : List Node) → All (FitsVersion version) ns → All (StepBelow MOST_ITEMS) ns → All (Fits version) ns
 all_both version ns a b = λ i d within. (a i d within, b i d within)
 
 pub written_is_read : WrittenIsRead

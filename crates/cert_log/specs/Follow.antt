@@ -5,11 +5,12 @@ use Rattle.cert_log.specs.declared.history.Cause.{Cause}
 use Rattle.cert_log.specs.declared.certificate.Node.{Node}
 use Rattle.cert_log.specs.declared.place.Place.{Place}
 use Rattle.cert_log.specs.Texts.{Line, splits, closes, opens_one, opens, line_text}
+use Rattle.glass_base.specs.declared.limits.TheConstants.{MOST_ITEMS}
 
 -- the line is one of this version, and may come where so many places are left in the tree:
 -- it has no more open nodes, and open nodes with their number follow no such line
 abbrev pub MayCome : ℕ → Place → Line → Type 0
-MayCome version at (splits step v) = step < 800
+MayCome version at (splits step v) = step < MOST_ITEMS
 MayCome version at (closes Cause.Unsaid) = version ≡ 1
 MayCome version at (closes Cause.Floor) = 3 ≤ version
 MayCome version at (closes Cause.Bound) = 2 ≤ version

@@ -5,10 +5,8 @@ ghost use Rattle.cert_log.specs.Follow.{MayCome, behind};
 ghost use Rattle.cert_log.specs.inner.LineForms.{ComesIn, said};
 
 use crate::history::Cause;
+use glass_base::limits::MOST_ITEMS;
 use plan_box::Var;
-
-/// A trace has a step for each item, and an instance has at most so many items.
-const STEP_LIMIT: u32 = 800;
 
 /// A line for a node, or for open nodes in a row.
 #[derive(Clone, Copy)]
@@ -33,7 +31,7 @@ pub(crate) fn may_come(version: u32, at: Place, line: TextLine) -> bool
     ensures { IsTrue result ↔ MayCome version at (said line) }
 {
     match line {
-        TextLine::Split { step, .. } => step < STEP_LIMIT,
+        TextLine::Split { step, .. } => step < MOST_ITEMS as u32,
         TextLine::Closed(Cause::Unsaid) | TextLine::Open => version == 1,
         TextLine::Closed(Cause::Bound | Cause::Reason(_)) => version >= 2,
         TextLine::Closed(Cause::Floor) => version >= 3,

@@ -18,6 +18,7 @@ use Rattle.command_line.specs.declared.grammar.Product.{Product}
 use Rattle.command_line.specs.declared.grammar.Product.TheVariants as product
 use Rattle.command_line.specs.declared.grammar.Verb.{Verb}
 use Rattle.command_line.specs.declared.grammar.Verb.TheVariants as verb
+use Rattle.glass_base.specs.declared.limits.TheConstants.{MOST_BUDGET, MOST_DEFECTS, MOST_ITEMS, MOST_PLATES}
 
 -- what the words of a command are: its own word, then a number for each of these, a name for each file that it reads and for each that
 -- it stores, in this order, and then options, which name further files that it reads, set numbers, or are words of their own; a dash may
@@ -148,8 +149,8 @@ pub record Setting : Type 0 where
 -- usually no plates are cut already, and no more work is done than for the usual first plan; the least that can be set is 1
 abbrev pub setting_of : Count → Setting
 setting_of count.Workers = record { front = codes "--workers="; least = 1; most = 8; usual = 4; needs = None }
-setting_of count.Budget = record { front = codes "--budget="; least = 1; most = 10000000; usual = 100000; needs = None }
-setting_of count.Frozen = record { front = codes "--frozen="; least = 0; most = 1000; usual = 0; needs = Some role.Plan }
+setting_of count.Budget = record { front = codes "--budget="; least = 1; most = MOST_BUDGET; usual = 100000; needs = None }
+setting_of count.Frozen = record { front = codes "--frozen="; least = 0; most = MOST_PLATES; usual = 0; needs = Some role.Plan }
 setting_of count.Effort = record { front = codes "--effort="; least = 0; most = 1000000; usual = 0; needs = None }
 
 -- the word of an option that has no value
@@ -185,9 +186,9 @@ is_lead of other = lead_place of == lead_place other
 -- the least and the greatest number that can stand before the names
 abbrev pub lead_range : Lead → ℕ × ℕ
 lead_range lead.Start = (0, 4294967295)
-lead_range lead.Items = (1, 800)
-lead_range lead.Defects = (0, 20000)
-lead_range lead.Frozen = (1, 1000)
+lead_range lead.Items = (1, MOST_ITEMS)
+lead_range lead.Defects = (0, MOST_DEFECTS)
+lead_range lead.Frozen = (1, MOST_PLATES)
 
 -- the number that a word before the names is
 abbrev pub lead_value : Lead → List ℕ → Option ℕ

@@ -4,6 +4,7 @@ ghost use Rattle.std.specs.Prelude.{◌≡◌};
 ghost use Rattle.command_line.specs.Grammar.{fetch_order, option_front as option_front_of, role_word as role_word_of, flag_word as flag_word_of, verbs, setting_of, lead_range};
 
 use glass_base::Role;
+use glass_base::limits::{MOST_BUDGET, MOST_DEFECTS, MOST_ITEMS, MOST_PLATES};
 
 /// A command.
 #[derive(Clone, Copy, Debug, PartialEq, Eq)]
@@ -339,8 +340,8 @@ pub(crate) fn count_most(count: Count) -> u32
 {
     match count {
         Count::Workers => 8,
-        Count::Budget => 10_000_000,
-        Count::Frozen => 1000,
+        Count::Budget => MOST_BUDGET,
+        Count::Frozen => MOST_PLATES,
         Count::Effort => 1_000_000,
     }
 }
@@ -397,8 +398,8 @@ pub(crate) fn lead_most(lead: Lead) -> u32
 {
     match lead {
         Lead::Start => u32::MAX,
-        Lead::Items => 800,
-        Lead::Defects => 20_000,
-        Lead::Frozen => 1000,
+        Lead::Items => MOST_ITEMS as u32,
+        Lead::Defects => MOST_DEFECTS as u32,
+        Lead::Frozen => MOST_PLATES,
     }
 }

@@ -14,6 +14,7 @@ use Rattle.csv_table.specs.Numbers.{digits, is_blank, is_point, number_at, trimm
 use Rattle.csv.specs.Writing.{needs_byte}
 use Rattle.csv_table.specs.Lines.{IsPlain, semicolons}
 use Rattle.csv_table.proofs.DigitFacts.{digit_code}
+use Rattle.glass_base.specs.declared.limits.TheConstants.{MOST_NUMBER}
 
 -- bytes that all pass a test pass each weaker one
 all_weaker : (p q : ℕ → Bool) (xs : List ℕ) → ((x : ℕ) → p x ≡ true → q x ≡ true) → list_all p xs ≡ true → list_all q xs ≡ true
@@ -114,15 +115,15 @@ pub record IsFew (n : ℕ) : Type 0 where
   pub few : length (decimal n) ≤ 9
 
 -- a number up to nine nines is written with one to nine digits
-pub few_digits : (n : ℕ) → n ≤ 999999999 → IsFew n
+pub few_digits : (n : ℕ) → n ≤ MOST_NUMBER → IsFew n
 few_digits n h = let small : n < 2 ^ 64 = omega arith in record { some = decimal_nonempty n small; few = length-decimal-le 9 n (omega arith) (omega arith) small }
 
 -- the value of what is written of a number is that number
-pub value_of_decimal : (n : ℕ) → n ≤ 999999999 → digits_value 10 (decimal n) ≡ n
+pub value_of_decimal : (n : ℕ) → n ≤ MOST_NUMBER → digits_value 10 (decimal n) ≡ n
 value_of_decimal n h = (decimal_is_IsNumeral n (omega arith)).1
 
 -- what is written of a number is read as that number
-pub number_of_decimal : (n : ℕ) → n ≤ 999999999 → number_at (decimal n) (position is_point (decimal n)) ≡ Some (record { whole = n; millionths = 0 })
+pub number_of_decimal : (n : ℕ) → n ≤ MOST_NUMBER → number_at (decimal n) (position is_point (decimal n)) ≡ Some (record { whole = n; millionths = 0 })
 number_of_decimal n h =
     let few = few_digits n h in
     number_of_digits (decimal n) (digits_of_decimal n) few.some few.few ∙ ap (λ (whole : ℕ). Some (record { whole = whole; millionths = 0 })) (value_of_decimal n h)

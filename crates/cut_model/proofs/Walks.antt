@@ -10,6 +10,7 @@ use Rattle.cut_model.specs.Fits.{InRange}
 use Rattle.cut_model.specs.inner.Room.{FitsIn}
 use Rattle.cut_model.specs.Visits.{Tells}
 use Rattle.cut_model.specs.inner.Walks.{Walked, IsStart, NextWithin}
+use Rattle.glass_base.specs.declared.limits.TheConstants.{MOST_ROWS, MOST_SIDE}
 
 pub tells_none : {S : Type 0} {HasSeen : S → S → List Family → Type 0} (it : S) → Tells HasSeen it it []
 tells_none {HasSeen = HasSeen} it = record { after = λ start seen h. subst (HasSeen start it) (sym (append-nil seen)) h }
@@ -69,15 +70,15 @@ walking_end {HasSeen = HasSeen} {old} {new} {whole} {end} {at} {first} {node} is
 pub record Within (level node : ℕ) (at : Area) (left : Forest) : Type 0 where
   pub cut : at.cut ≡ level
   pub plate : at.plate ≤ node
-  pub x : at.x + total_size left ≤ 20000 * level + 20000
-  pub y : at.y + total_size left ≤ 20000 * level + 20000
-  pub width : at.width ≤ 20000
-  pub height : at.height ≤ 20000
-  pub total : total_size left ≤ 20000
+  pub x : at.x + total_size left ≤ MOST_SIDE * level + MOST_SIDE
+  pub y : at.y + total_size left ≤ MOST_SIDE * level + MOST_SIDE
+  pub width : at.width ≤ MOST_SIDE
+  pub height : at.height ≤ MOST_SIDE
+  pub total : total_size left ≤ MOST_SIDE
   pub in_range : InRange left
-  pub few : count left ≤ 2000000000
+  pub few : count left ≤ MOST_ROWS
 
-pub within_start : {level node : ℕ} {at : Area} {left : Forest} → IsStart level node at → FitsIn 20000 2000000000 left → Within level node at left
+pub within_start : {level node : ℕ} {at : Area} {left : Forest} → IsStart level node at → FitsIn MOST_SIDE MOST_ROWS left → Within level node at left
 within_start s f = record {
   cut = s.cut;
   plate = s.plate;
@@ -128,12 +129,12 @@ within_more {level} {node} {next} {size} {at} {at'} {sort} {inner} {later} is mo
       few = omega (arith, h'.few);
     })
 
-width_small : (along : Along) (size width : ℕ) → size ≤ 20000 → width ≤ 20000 → width_at along size width ≤ 20000
+width_small : (along : Along) (size width : ℕ) → size ≤ MOST_SIDE → width ≤ MOST_SIDE → width_at along size width ≤ MOST_SIDE
 width_small Along.Plates size width a b = a
 width_small Along.X size width a b = a
 width_small Along.Y size width a b = b
 
-height_small : (along : Along) (size height : ℕ) → size ≤ 20000 → height ≤ 20000 → height_at along size height ≤ 20000
+height_small : (along : Along) (size height : ℕ) → size ≤ MOST_SIDE → height ≤ MOST_SIDE → height_at along size height ≤ MOST_SIDE
 height_small Along.Plates size height a b = b
 height_small Along.X size height a b = b
 height_small Along.Y size height a b = a
@@ -176,9 +177,9 @@ pub record OnStock (node : ℕ) (at : Area) (left : Forest) : Type 0 where
   pub plate : at.plate ≤ node
   pub x : at.x ≡ 0
   pub y : at.y ≡ 0
-  pub height : at.height ≤ 20000
+  pub height : at.height ≤ MOST_SIDE
   pub in_range : InRange left
-  pub few : node + count left ≤ 2000000000
+  pub few : node + count left ≤ MOST_ROWS
 
 pub stock_more : {node next size : ℕ} {at at' : Area} {sort : Sort} {inner later left : Forest} →
     left ≡ piece size sort inner later → at' ≡ behind at size → OnStock node at left → next ≡ node + 1 + count inner → OnStock next at' later
@@ -202,8 +203,8 @@ pub stock_next : {node size : ℕ} {at : Area} (first ends : Bool) {sort : Sort}
 stock_next {node} {size} {at} first ends {sort} {inner} {later} is h =
     let P : Forest → Type 0 = λ t. OnStock node at t in
     let h' : OnStock node at (piece size sort inner later) = subst P is h in
-    let wide : width_at at.along size at.width ≤ 20000 = rw h'.along (h'.in_range.0) in
-    let high : height_at at.along size at.height ≤ 20000 = rw h'.along (h'.height) in
+    let wide : width_at at.along size at.width ≤ MOST_SIDE = rw h'.along (h'.in_range.0) in
+    let high : height_at at.along size at.height ≤ MOST_SIDE = rw h'.along (h'.height) in
     record {
       small = record {
         x = omega (arith, h'.x);

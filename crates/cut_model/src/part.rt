@@ -10,10 +10,7 @@ ghost use Rattle.cut_model.specs.declared.family.Sort.{Sort};
 
 use crate::family::{Area, Children, Family, Sort};
 use crate::visitor::Visitor;
-
-const SIZE_LIMIT: u32 = 20_000;
-
-const NUMBER_LIMIT: u32 = 999_999_999;
+use glass_base::limits::{MOST_NUMBER, MOST_ROWS, MOST_SIDE};
 
 /// A piece of one of the levels.
 pub trait Part {
@@ -33,18 +30,18 @@ pub trait Part {
         ensures { result ≡ sort self.now };
 
     fn children(&self) -> Children
-        requires { total_size (inner self.now) ≤ 20000 }
+        requires { total_size (inner self.now) ≤ MOST_SIDE }
         ensures { result ≡ children_in (inner self.now) };
 
     /// What is left of `room` for rows by the pieces inside, if they are in range.
     fn room_after_inside(&self, room: u64) -> Option<u64>
-        ensures { MatchOption result (¬ FitsIn 20000 room (inner self.now)) (λ left. Leaves 20000 room (inner self.now) left) };
+        ensures { MatchOption result (¬ FitsIn MOST_SIDE room (inner self.now)) (λ left. Leaves MOST_SIDE room (inner self.now) left) };
 
     /// Tells the visitor the families inside.
     fn walk_inside<V: Visitor>(&self, visitor: &mut V, at: Area, node: u64) -> Result<u64, V::Stop>
         requires start { IsStart (level + 1) node at }
-        requires fits { FitsIn 20000 2000000000 (inner self.now) }
-        requires room { node + count (inner self.now) ≤ 2000000000 }
+        requires fits { FitsIn MOST_SIDE MOST_ROWS (inner self.now) }
+        requires room { node + count (inner self.now) ≤ MOST_ROWS }
         ensures { IfOk result (λ next. Walked V.has_seen visitor.old visitor.new (families at true node (inner self.now)) next (node + count (inner self.now))) };
 
     ghost shallow: { level ≤ 4 };
@@ -62,7 +59,7 @@ fn is_item(sort: Sort) -> bool
 
 /// What a piece that is cut into these pieces has for children.
 pub fn children_of<P: Part>(pieces: &[P]) -> Children
-    requires { total_size (neighbours P.size P.sort P.inner pieces.now) ≤ 20000 }
+    requires { total_size (neighbours P.size P.sort P.inner pieces.now) ≤ MOST_SIDE }
     ensures { result ≡ children_in (neighbours P.size P.sort P.inner pieces.now) }
 {
     let mut total = 0;
@@ -83,7 +80,7 @@ fn is_numbered(sort: Sort) -> bool
     ensures { IsTrue result ↔ IsNumbered sort }
 {
     match sort {
-        Sort::Item(number) => number <= NUMBER_LIMIT,
+        Sort::Item(number) => number <= MOST_NUMBER,
         Sort::Waste | Sort::Branch | Sort::Residual => true,
     }
 }
@@ -102,9 +99,9 @@ fn room_after_piece<P: Part>(room: u64, piece: &P) -> Option<u64>
 /// What is left of `room` for rows by these neighbours, if they are in range.
 pub fn room_after<P: Part>(room: u64, pieces: &[P]) -> Option<u64>
     ensures { let forest = neighbours P.size P.sort P.inner pieces.now in
-        MatchOption result (¬ FitsIn 20000 room forest) (λ left. Leaves 20000 room forest left) }
+        MatchOption result (¬ FitsIn MOST_SIDE room forest) (λ left. Leaves MOST_SIDE room forest left) }
 {
-    let mut length = SIZE_LIMIT;
+    let mut length = MOST_SIDE;
     let mut left = room;
     for piece in pieces {
         length = length.checked_sub(piece.size())?;
@@ -115,7 +112,7 @@ pub fn room_after<P: Part>(room: u64, pieces: &[P]) -> Option<u64>
 
 /// The family of a piece at this place.
 fn family_of<P: Part>(at: &Area, first: bool, ends: bool, node: u64, piece: &P) -> Family
-    requires { total_size (P.inner piece.now) ≤ 20000 }
+    requires { total_size (P.inner piece.now) ≤ MOST_SIDE }
     ensures { result ≡ family_with at.now first ends node (P.size piece.now) (P.sort piece.now)
         (children_in (P.inner piece.now)) }
 {
@@ -141,7 +138,7 @@ pub fn walk_piece<V: Visitor, P: Part>(
 ) -> Result<u64, V::Stop>
     requires next { NextWithin P.level node at.now first ends (P.size piece.now) (P.sort piece.now)
         (P.inner piece.now) }
-    requires room { node + 1 + count (P.inner piece.now) ≤ 2000000000 }
+    requires room { node + 1 + count (P.inner piece.now) ≤ MOST_ROWS }
     ensures { let f = family_with at.now first ends node (P.size piece.now) (P.sort piece.now)
         (children_in (P.inner piece.now)) in
         IfOk result (λ next. Walked V.has_seen visitor.old visitor.new
@@ -161,8 +158,8 @@ pub fn walk_neighbours<V: Visitor, P: Part>(
     pieces: &[P],
 ) -> Result<u64, V::Stop>
     requires start { IsStart P.level first_node at }
-    requires fits { FitsIn 20000 2000000000 (neighbours P.size P.sort P.inner pieces.now) }
-    requires room { first_node + count (neighbours P.size P.sort P.inner pieces.now) ≤ 2000000000 }
+    requires fits { FitsIn MOST_SIDE MOST_ROWS (neighbours P.size P.sort P.inner pieces.now) }
+    requires room { first_node + count (neighbours P.size P.sort P.inner pieces.now) ≤ MOST_ROWS }
     ensures { let forest = neighbours P.size P.sort P.inner pieces.now in
         IfOk result (λ next. Walked V.has_seen visitor.old visitor.new
         (families at true first_node forest) next (first_node + count forest)) }

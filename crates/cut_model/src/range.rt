@@ -6,8 +6,7 @@ ghost use Rattle.cut_model.specs.Tree.{neighbour_count, tree};
 
 use crate::part::room_after;
 use crate::plan::Plan;
-
-const ROW_LIMIT: u64 = 2_000_000_000;
+use glass_base::limits::MOST_ROWS;
 
 /// Whether every size, and the sum of every list of children, is at most 20,000 mm, every item number at most 999,999,999,
 /// and the plan has at most 2,000,000,000 rows. It takes no memory.
@@ -15,7 +14,7 @@ const ROW_LIMIT: u64 = 2_000_000_000;
 pub fn fits(plan: &Plan) -> bool
     ensures { IsTrue result ↔ Fits (tree plan.now) }
 {
-    room_after(ROW_LIMIT, plan.plates.as_slice()).is_some()
+    room_after(MOST_ROWS, plan.plates.as_slice()).is_some()
 }
 
 /// How many plates a plan uses.

@@ -14,6 +14,7 @@ ghost use Rattle.cut_rules.specs.inner.Tests.{Tests};
 use crate::cut_rule::CutRule;
 use cut_model::{Along, Family, Row, Sort, item_numbered};
 use defect_map::{DefectMap, Ground};
+use glass_base::limits::MOST_SIDE;
 use glass_base::{Instance, Item};
 
 /// The side of a piece that its children are to add up to.
@@ -169,8 +170,8 @@ fn is_in_place(family: &Family) -> Option<(u64, u64)>
 fn first_met(map: &DefectMap, row: &Row) -> Option<usize>
     requires x { row.now.x ≤ 100000 }
     requires y { row.now.y ≤ 100000 }
-    requires width { row.now.width ≤ 20000 }
-    requires height { row.now.height ≤ 20000 }
+    requires width { row.now.width ≤ MOST_SIDE }
+    requires height { row.now.height ≤ MOST_SIDE }
     ensures { MatchOption result (IsSound map.now row.now) (λ i. (¬ IsSound map.now row.now)
         × (position (meets_of row.now) map.now ≡ Some i)) }
 {
@@ -204,7 +205,7 @@ fn avoids_defects(ground: Ground<'_>, family: &Family) -> Option<(u64, u64)>
 /// none.
 fn first_crossing_upright(map: &DefectMap, row: &Row) -> Option<usize>
     requires y { row.now.y ≤ 100000 }
-    requires height { row.now.height ≤ 20000 }
+    requires height { row.now.height ≤ MOST_SIDE }
     ensures { MatchOption result (HasClearBorder map.now X row.now)
         (λ i. (¬ HasClearBorder map.now X row.now)
         × (position (crosses_of X row.now) map.now ≡ Some i)) }
@@ -218,7 +219,7 @@ fn first_crossing_upright(map: &DefectMap, row: &Row) -> Option<usize>
 /// The position of the first defect that crosses the level border below a row. One without a length is crossed by none.
 fn first_crossing_level(map: &DefectMap, row: &Row) -> Option<usize>
     requires x { row.now.x ≤ 100000 }
-    requires width { row.now.width ≤ 20000 }
+    requires width { row.now.width ≤ MOST_SIDE }
     ensures { MatchOption result (HasClearBorder map.now Y row.now)
         (λ i. (¬ HasClearBorder map.now Y row.now)
         × (position (crosses_of Y row.now) map.now ≡ Some i)) }
@@ -233,8 +234,8 @@ fn first_crossing_level(map: &DefectMap, row: &Row) -> Option<usize>
 fn first_crossing(map: &DefectMap, along: Along, row: &Row) -> Option<usize>
     requires x { row.now.x ≤ 100000 }
     requires y { row.now.y ≤ 100000 }
-    requires width { row.now.width ≤ 20000 }
-    requires height { row.now.height ≤ 20000 }
+    requires width { row.now.width ≤ MOST_SIDE }
+    requires height { row.now.height ≤ MOST_SIDE }
     ensures { MatchOption result (HasClearBorder map.now along row.now)
         (λ i. (¬ HasClearBorder map.now along row.now)
         × (position (crosses_of along row.now) map.now ≡ Some i)) }

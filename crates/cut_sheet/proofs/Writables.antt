@@ -7,8 +7,9 @@ use Rattle.cut_model.specs.Tree.{Forest, nothing, piece, is_nothing, neighbour_c
 use Rattle.cut_sheet.specs.declared.instr.Instr.{Instr}
 use Rattle.cut_sheet.specs.Sheets.{finished, parted, parts_sheet, plates_sheet}
 use Rattle.cut_sheet.specs.Texts.{IsWritable}
+use Rattle.glass_base.specs.declared.limits.TheConstants.{MOST_PLATES, MOST_SIDE}
 
-parted_writable : (last : Bool) (size : ℕ) → size ≤ 20000 → IsWritable (parted last size)
+parted_writable : (last : Bool) (size : ℕ) → size ≤ MOST_SIDE → IsWritable (parted last size)
 parted_writable true size few = tt
 parted_writable false size few = few
 
@@ -25,7 +26,7 @@ parts_writable (piece size sort inner later) range =
     All-cons IsWritable (parted (is_nothing later) size) (finished sort (parts_sheet inner) ++ parts_sheet later) (parted_writable (is_nothing later) size range.0)
     (All-append IsWritable (finished sort (parts_sheet inner)) (parts_sheet later) inside (parts_writable later range.4))
 
-pub plates_writable : (plate : ℕ) (plan : Forest) → plate + neighbour_count plan ≤ 1000 → InRange plan → All IsWritable (plates_sheet plate plan)
+pub plates_writable : (plate : ℕ) (plan : Forest) → plate + neighbour_count plan ≤ MOST_PLATES → InRange plan → All IsWritable (plates_sheet plate plan)
 plates_writable plate nothing few range = All-nil IsWritable
 plates_writable plate (piece size sort strips later) few range =
     All-cons IsWritable (Instr.Load plate) (parts_sheet strips ++ plates_sheet (plate + 1) later) (omega arith)

@@ -2,6 +2,7 @@
 use Rattle.std.specs.Prelude.{ℕ, ℤ, ◌+◌, ◌-◌, ◌%◌, ◌==◌, ◌≤◌, Bool, true, false, if◌then◌else◌}
 use Rattle.cut_sheet.specs.declared.instr.Made.{Made}
 use Rattle.cut_sheet.specs.declared.piece.Piece.{Piece}
+use Rattle.glass_base.specs.declared.limits.TheConstants.{MOST_SIDE}
 
 -- a piece is cut vertically at the levels 0 and 2, horizontally at 1 and 3
 abbrev pub is_upright : ℕ → Bool
@@ -31,6 +32,6 @@ made_as kind p = record { plate = p.plate; x = p.x; y = p.y; width = p.width; he
 
 -- a piece lies on its plate, and has one of the five levels
 pub record IsOnPlate (p : Piece) : Type 0 where
-  pub right : p.x + p.width ≤ 20000
-  pub top : p.y + p.height ≤ 20000
+  pub right : p.x + p.width ≤ MOST_SIDE
+  pub top : p.y + p.height ≤ MOST_SIDE
   pub level : p.level ≤ 4

@@ -3,6 +3,7 @@ use Rattle.std.specs.Prelude.{ℕ, ℤ, pos, negsuc, ◌≡◌, ◌⊎◌, ◌�
 use Rattle.std.specs.Fmt.{signed_decimal}
 use Rattle.std.specs.List.{flat_map}
 use Rattle.cut_sheet.specs.declared.instr.Instr.{Instr}
+use Rattle.glass_base.specs.declared.limits.TheConstants.{MOST_NUMBER, MOST_SIDE}
 
 -- the first line
 abbrev pub head : List ℕ
@@ -28,12 +29,12 @@ sheet_text sheet = head ++ lines_text sheet
 
 -- a type that a piece on a sheet may have: an item's number, -1 for a waste, -3 for the residual
 abbrev pub IsPieceType : ℤ → Type 0
-IsPieceType (pos number) = number ≤ 999999999
+IsPieceType (pos number) = number ≤ MOST_NUMBER
 IsPieceType (negsuc below) = (below ≡ 0) ⊎ (below ≡ 2)
 
 -- an instruction whose number a text may have
 abbrev pub IsWritable : Instr → Type 0
 IsWritable (Instr.Load plate) = plate ≤ 999
-IsWritable (Instr.Off size) = size ≤ 20000
+IsWritable (Instr.Off size) = size ≤ MOST_SIDE
 IsWritable Instr.Whole = Unit {0}
 IsWritable (Instr.Done kind) = IsPieceType kind

@@ -5,13 +5,14 @@ ghost use Rattle.std.specs.Fmt.{signed_decimal};
 ghost use Rattle.cut_sheet.specs.Texts.{IsPieceType};
 ghost use Rattle.cut_sheet.specs.inner.Lines.{Counts, Says};
 
+use glass_base::limits::MOST_NUMBER;
 use itoa::Buffer;
 
 /// Whether a piece on a sheet may have this type. No line has another number.
 fn is_piece_type(number: i64) -> bool
     ensures { IsTrue result ↔ IsPieceType number }
 {
-    matches!(number, -3 | -1 | 0..=999_999_999)
+    matches!(number, -3 | -1) || (0 <= number && number <= i64::from(MOST_NUMBER))
 }
 
 /// Whether a text is that of this number.
@@ -37,7 +38,7 @@ pub(crate) fn piece_type(text: &[u8]) -> Option<i64>
 
 /// The number that a text says in the same way, if it is no more than this.
 pub(crate) fn count(text: &[u8], most: u32) -> Option<u32>
-    requires { most ≤ 999999999 }
+    requires { most ≤ MOST_NUMBER }
     ensures { Counts most text.now result }
 {
     let number = piece_type(text)?;

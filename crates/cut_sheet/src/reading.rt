@@ -7,6 +7,7 @@ ghost use Rattle.cut_sheet.specs.inner.Lines.{BeginsWithHead, BeginsWithLine, Br
 use crate::bad_sheet::BadSheet;
 use crate::instr::Instr;
 use crate::numbers::{count, piece_type};
+use glass_base::limits::MOST_SIDE;
 use glass_base::{Run, append};
 use std::alloc::Global;
 
@@ -58,7 +59,7 @@ fn load_in(text: &[u8]) -> Option<Instr>
 fn off_in(text: &[u8]) -> Option<Instr>
     ensures { SaysLine (75 ∷ 59 ∷ text.now) result }
 {
-    let size = count(text, 20_000)?;
+    let size = count(text, MOST_SIDE)?;
     Some(Instr::Off(size))
 }
 

@@ -8,6 +8,7 @@ ghost use Rattle.std.specs.Prelude.{◌≡◌, ◌≤◌, ◌<◌, ℕ, ◌^◌,
 ghost use Rattle.glass_base.specs.Items.{IsDefectInRange};
 ghost use Rattle.defect_map.specs.inner.Columns.{column_at as column_of, Stands, KeepsAll, StandsAcross, AllStand};
 
+use glass_base::limits::MOST_DEFECTS;
 use glass_base::{Defect, Memory, Run, append};
 use smallvec::SmallVec;
 use std::alloc::Global;
@@ -87,7 +88,7 @@ fn put_across(
 
 /// The columns of all plates: each defect's position stands in each column that the defect's inside meets.
 pub fn columns_of(alloc: Global, defects: &[Defect]) -> Result<Run<Column>, Memory>
-    requires few { length defects.now ≤ 20000 }
+    requires few { length defects.now ≤ MOST_DEFECTS }
     requires ranges { All IsDefectInRange defects.now }
     ensures { IfOk result (λ columns. AllStand defects.now columns.items (length defects.now)) }
 {

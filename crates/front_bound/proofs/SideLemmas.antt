@@ -23,6 +23,7 @@ use Rattle.front_bound.specs.inner.Sides.{EndsHeld, StripHeld, Placed, NextHeld,
 use Rattle.front_bound.proofs.PoolRows.{kept_at}
 use Rattle.front_bound.proofs.PlacedRows.{one_held}
 use Rattle.front_bound.proofs.StripRuns.{strip_down, strips_held}
+use Rattle.glass_base.specs.declared.limits.TheConstants.{MOST_PLATES}
 
 pub gap_behind : (waste from to : ℕ) → Gap waste from to → from ≤ to
 gap_behind waste from to (inl same) = omega (arith, same)
@@ -56,7 +57,7 @@ unfolding EndsHeld
 ends_offered b far most sides m plate from width each right gap within near = each right gap
 
 -- a label of a plate
-pub plate_only : (s : SizeSet) (plate plates : ℕ) → s.more ≡ 4294967295 → plates ≤ 1000 → Has s plate → plate < plates → plate ≡ s.least
+pub plate_only : (s : SizeSet) (plate plates : ℕ) → s.more ≡ 4294967295 → plates ≤ MOST_PLATES → Has s plate → plate < plates → plate ≡ s.least
 plate_only s plate plates more few (inl same) lt = same
 plate_only s plate plates more few (inr above) lt = absurd (omega (arith, more, few, above, lt))
 

@@ -1,6 +1,7 @@
 //! Where strips end.
 
 ghost use Rattle.std.specs.Prelude.{◌≤◌};
+ghost use Rattle.glass_base.specs.declared.limits.TheConstants.{MOST_PLATES};
 
 use glass_base::Instance;
 
@@ -15,5 +16,5 @@ pub struct Ending<'a> {
     pub far: u64,
     /// A right side, with what is to go behind it, is no more than this, in mm.
     pub most: u64,
-    ghost few: { plate ≤ 1000 },
+    ghost few: { plate ≤ MOST_PLATES },
 }

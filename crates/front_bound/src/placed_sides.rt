@@ -14,6 +14,7 @@ use crate::outset::Outset;
 use crate::pools::Pool;
 use crate::sets::SizeSet;
 use glass_base::Defect;
+use glass_base::limits::MOST_PLATES;
 
 /// Offers the right sides of the strips that a label stands for, behind `begin`.
 fn offer_placed(
@@ -90,7 +91,7 @@ pub fn offer_placed_ends(
 ) -> Result<(), Halt>
     requires sides { outset.now.row < length sides.old }
     requires pool { outset.now.row < length pool.now }
-    requires plate { plate ≤ 1000 }
+    requires plate { plate ≤ MOST_PLATES }
     ensures spreads { OnOk result (Spreads outset.now.row sides.old sides.new) }
     ensures held { OnOk result ((m : ℕ) → m < outset.now.row
         → EndsPlaced outset.now.instance.now holes.now

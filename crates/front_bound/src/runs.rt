@@ -24,10 +24,8 @@ use crate::strips::{Limits, strips_from};
 use crate::table::Fronts;
 use crate::watch::Watch;
 use glass_base::Instance;
+use glass_base::limits::MOST_PLATES;
 use std::alloc::Global;
-
-/// The most plates of an instance.
-const MOST_PLATES: u32 = 1000;
 
 /// Offers a begin of strips behind a side, and one on the next plate where this one can end there.
 fn offer_begin(
@@ -160,7 +158,7 @@ fn handle_plate(
 ) -> Result<(), Halt>
     requires space { IsRoomy outset.now.fronts.rows.now space.old }
     requires sides { length sides.old ≡ length outset.now.fronts.rows.now }
-    requires plate { plate ≤ 1000 }
+    requires plate { plate ≤ MOST_PLATES }
     ensures space { OnOk result (IsRoomy outset.now.fronts.rows.now space.new) }
     ensures spreads { OnOk result (Spreads outset.now.row sides.old sides.new) }
     ensures goes_on { OnOk result (PlateGoesOn outset.now.instance.now outset.now.fronts.rows.now

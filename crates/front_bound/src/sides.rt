@@ -15,6 +15,7 @@ use crate::levels::to_go;
 use crate::outset::Outset;
 use crate::pools::Pool;
 use crate::sets::SizeSet;
+use glass_base::limits::MOST_PLATES;
 
 /// Offers the right sides of a strip, whose widths a label stands for, behind what a label of the same plate stands for.
 fn offer_end(
@@ -141,7 +142,7 @@ pub fn offer_ends(
 ) -> Result<(), Halt>
     requires sides { outset.now.row < length sides.old }
     requires pool { outset.now.row < length pool.now }
-    requires plate { plate ≤ 1000 }
+    requires plate { plate ≤ MOST_PLATES }
     ensures spreads { OnOk result (Spreads outset.now.row sides.old sides.new) }
     ensures held { OnOk result ((m from width : ℕ) → m < outset.now.row → Held begins.now from plate
         → HeldAt pool.now m outset.now.instance.now.params.height width

@@ -8,6 +8,7 @@ use Rattle.glass_base.specs.Plates.{Width, Widest, Before}
 use Rattle.glass_base.specs.Problem.{Problem, IsProblem}
 use Rattle.glass_base.specs.Widths.{IsWidth}
 use Rattle.glass_base.specs.inner.Starts.{AreStarts}
+use Rattle.glass_base.specs.declared.limits.TheConstants.{MOST_SIDE}
 
 pub before-zero : (b : Problem) → Before b 0 ≡ 0
 unfolding Before
@@ -55,12 +56,12 @@ width_most b plate =
     ]
 
 -- the widest plate is at most 20,000 mm wide
-pub widest_within : (b : Problem) → IsProblem b → Widest b ≤ 20000
+pub widest_within : (b : Problem) → IsProblem b → Widest b ≤ MOST_SIDE
 unfolding Widest
 widest_within b h =
-    fold_max_most b.widths b.params.width 20000 b.params.accepted.width_limit (All-weaker IsWidth (λ x. x ≤ 20000) (λ x w. w.1) b.widths h.widths.each)
+    fold_max_most b.widths b.params.width MOST_SIDE b.params.accepted.width_limit (All-weaker IsWidth (λ x. x ≤ MOST_SIDE) (λ x w. w.1) b.widths h.widths.each)
 
-pub before_within : (b : Problem) (plate : ℕ) → IsProblem b → Before b plate ≤ 20000 * plate
+pub before_within : (b : Problem) (plate : ℕ) → IsProblem b → Before b plate ≤ MOST_SIDE * plate
 unfolding Before
 before_within b zero h = omega arith
 before_within b (suc plate) h = omega (arith, before_within b plate h, (width_within b plate h).1)

@@ -6,6 +6,7 @@ pub mod digits;
 pub mod instance;
 pub mod item;
 pub mod laws;
+pub mod limits;
 pub mod memory;
 pub mod params;
 mod plates;

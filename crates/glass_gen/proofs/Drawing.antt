@@ -7,6 +7,7 @@ use Rattle.glass_base.specs.declared.item.Defect.{Defect}
 use Rattle.glass_base.specs.declared.item.Item.{Item}
 use Rattle.glass_gen.specs.Draws.{drawn, next_state, number_of, state_after}
 use Rattle.glass_gen.specs.Drawn.{defect_from, defects_drawn, item_from, items_drawn}
+use Rattle.glass_base.specs.declared.limits.TheConstants.{MOST_DEFECTS, MOST_ITEMS}
 
 -- draws behind draws
 pub state_after-add : (x m n : ℕ) → state_after (state_after x m) n ≡ state_after x (m + n)
@@ -46,7 +47,7 @@ item_at x stacks n k d h = get_or-map-range_with_len (λ i. item_from (state_aft
 defect_at : (x n k : ℕ) (d : Defect) → k < n → get_or (defects_drawn x n) k d ≡ defect_from (state_after x (5 * k))
 defect_at x n k d h = get_or-map-range_with_len (λ i. defect_from (state_after x (5 * i))) 0 n k k d h (omega arith)
 
-item_from-range : (x stacks k : ℕ) → 0 < stacks → stacks ≤ 41 → k < 800 → IsItemInRange (item_from x stacks k)
+item_from-range : (x stacks k : ℕ) → 0 < stacks → stacks ≤ 41 → k < MOST_ITEMS → IsItemInRange (item_from x stacks k)
 unfolding item_from
 item_from-range x stacks k some few h =
     let a = drawn_below x 1 1300 (omega arith) in
@@ -63,7 +64,7 @@ defect_from-range x =
     let d = drawn_below x 5 20 (omega arith) in
     (omega arith, omega arith, omega arith, omega arith)
 
-pub items_in_range : (x stacks n : ℕ) → 0 < stacks → stacks ≤ 41 → n ≤ 800 → All IsItemInRange (items_drawn x stacks n)
+pub items_in_range : (x stacks n : ℕ) → 0 < stacks → stacks ≤ 41 → n ≤ MOST_ITEMS → All IsItemInRange (items_drawn x stacks n)
 items_in_range x stacks n some few h k d k_in =
     let in_list : k < n = omega (arith, k_in, length-items_drawn x stacks n) in
     rw (item_at x stacks n k d in_list) (item_from-range (state_after x (3 * k)) stacks k some few (omega arith))
@@ -105,7 +106,7 @@ drawn_sequences x stacks n i j d before j_in =
     (λ _ same. omega (arith, same, before, item_from-sequence (state_after x (3 * i)) stacks i, item_from-sequence (state_after x (3 * j)) stacks j))
 
 -- what is drawn keeps the rules of an instance
-pub drawn_makes : (x y stacks items defects : ℕ) → 1 ≤ items → items ≤ 800 → defects ≤ 20000 → MakesInstance (items_drawn x stacks items) (defects_drawn y defects)
+pub drawn_makes : (x y stacks items defects : ℕ) → 1 ≤ items → items ≤ MOST_ITEMS → defects ≤ MOST_DEFECTS → MakesInstance (items_drawn x stacks items) (defects_drawn y defects)
 drawn_makes x y stacks items defects some few_items few_defects = record {
   counted = record {
     some = omega (arith, length-items_drawn x stacks items);

@@ -6,6 +6,7 @@ ghost use Rattle.glass_gen.specs.Drawn.{defect_from, defects_drawn, item_from, i
 ghost use Rattle.glass_gen.specs.Draws.{state_after};
 
 use crate::draws::draw;
+use glass_base::limits::{MOST_DEFECTS, MOST_ITEMS};
 use glass_base::{BadInstance, Defect, Instance, Item, Memory, Params, Run, append};
 use std::alloc::Global;
 
@@ -50,7 +51,7 @@ fn draw_defect(state: &mut u32) -> Defect
 
 /// Draws the items.
 fn draw_items(alloc: Global, state: &mut u32, count: u32) -> Result<Run<Item>, Memory>
-    requires { count ≤ 800 }
+    requires { count ≤ MOST_ITEMS }
     ensures state { OnOk result (state.new ≡ state_after state.old (3 * count)) }
     ensures items { IfOk result (λ items. items.items
         ≡ items_drawn state.old (1 + count / 20) count) }
@@ -65,7 +66,7 @@ fn draw_items(alloc: Global, state: &mut u32, count: u32) -> Result<Run<Item>, M
 
 /// Draws the defects.
 fn draw_defects(alloc: Global, state: &mut u32, count: u32) -> Result<Run<Defect>, Memory>
-    requires { count ≤ 20000 }
+    requires { count ≤ MOST_DEFECTS }
     ensures { IfOk result (λ defects. defects.items ≡ defects_drawn state.old count) }
 {
     let mut defects = Run::new(alloc);
@@ -91,8 +92,8 @@ fn only_memory(bad: BadInstance) -> Memory
 /// memory runs out.
 pub fn generate(alloc: Global, start: u32, items: u32, defects: u32) -> Result<Instance, Memory>
     requires some { 1 ≤ items }
-    requires few_items { items ≤ 800 }
-    requires few_defects { defects ≤ 20000 }
+    requires few_items { items ≤ MOST_ITEMS }
+    requires few_defects { defects ≤ MOST_DEFECTS }
     ensures { IfOk result (λ instance. IsDrawn instance start items defects) }
 {
     let mut state = start;

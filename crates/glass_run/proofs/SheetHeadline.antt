@@ -38,6 +38,7 @@ use Rattle.run_frame.proofs.Stores.{one_stored, unchanged}
 use Rattle.glass_run.proofs.Headlines.{Says, completed_says, rules_of}
 use Rattle.run_frame.proofs.Statuses.{IsRefused, Refuses}
 use Rattle.run_plans.proofs.Statuses.{plan_refused}
+use Rattle.glass_base.specs.declared.limits.TheConstants.{MOST_PLATES}
 
 -- an answer that refuses nothing is one to the plan that was said
 said_sheeted : (b : Problem) (name : List ℕ) (said : Result Forest BadPlan) (answer : Answer) → ¬ Refuses answer → SheetsSaid b name said answer → (plan : Forest) × (said ≡ Ok plan) × Sheets b name plan answer
@@ -67,7 +68,7 @@ stores_sheet line held old new answer of is s stored prints =
           let rules = rules_of line.verb line s.texts s.b s.reads.instance_is in
           let can = lawful_cuttable s.b plan rules l.0 in
           let makes = sheet_made s.b plan l.0.shape can in
-          let few : 0 + neighbour_count plan ≤ 1000 = omega (arith, can.few, s.b.params.accepted.few_plates) in
+          let few : 0 + neighbour_count plan ≤ MOST_PLATES = omega (arith, can.few, s.b.params.accepted.few_plates) in
           let fits = plates_writable 0 plan few (read_fits s.b (text_or_empty s.texts role.Plan) plan said.1).0.in_range in
           record {
             texts = s.texts;

@@ -10,11 +10,12 @@ use Rattle.plan_trace.specs.declared.level.Level.{Level}
 use Rattle.plan_box.specs.Bounds.{reached, end_of_strip, end_of_items}
 use Rattle.plan_box.specs.Leasts.{Fixed, fixed, Known, last_known, no_known}
 use Rattle.plan_box.proofs.Sizes.{area_small}
+use Rattle.glass_base.specs.declared.limits.TheConstants.{MOST_LENGTH}
 
 pub ceil_small : (n d : ℕ) → 1 ≤ d → (n + (d - 1)) / d ≤ n + d
 ceil_small n d some = omega (arith, div-le_self (n + (d - 1)) d)
 
-pub product_small : (wide c : ℕ) → wide ≤ 20000000 → c ≤ 40000000 → wide * c ≤ 800000000000000
+pub product_small : (wide c : ℕ) → wide ≤ 20000000 → c ≤ MOST_LENGTH → wide * c ≤ 800000000000000
 product_small wide c w h = omega (arith, mul-le-mul_left wide h)
 
 pub area_most : (b : Problem) → IsProblem b → area_of b.items ≤ 320000000000

@@ -21,6 +21,7 @@ use Rattle.plan_box.specs.Ranges.{AreInFrame, Ranges}
 use Rattle.plan_box.specs.Follows.{follow}
 use Rattle.plan_box.specs.Within.{AllFixed, AreRangesWithin, AreWithin, limit}
 use Rattle.plan_box.proofs.Sizes.{next_within, within_more, within_same}
+use Rattle.glass_base.specs.declared.limits.TheConstants.{MOST_ITEMS, MOST_LENGTH, MOST_REACH, MOST_SIDE}
 
 got_within : (items : List Item) (i : ℕ) → All IsItemInRange items → IfSome (slice_get items i) IsItemInRange
 got_within [] i h = tt
@@ -35,16 +36,16 @@ item_within b rules stack place = by (slice_get (stack_at b stack) place)
     by (Some position) = got_within b.items position rules.items_in_range
 
 -- the last of steps that follow one another is within the limit behind them
-last_within : (b : Problem) → IsProblem b → (before : List Draw) (k : Known) (n : ℕ) (rs : List Ranges) → AreWithin n k → 20000 ≤ n → All AreRangesWithin rs →
-    AreWithin (n + 40000 * length rs) (last_known k (follow b before k rs))
+last_within : (b : Problem) → IsProblem b → (before : List Draw) (k : Known) (n : ℕ) (rs : List Ranges) → AreWithin n k → MOST_SIDE ≤ n → All AreRangesWithin rs →
+    AreWithin (n + MOST_REACH * length rs) (last_known k (follow b before k rs))
 last_within b rules before k n [] h some ranges = within_same _ _ _ _ refl (omega arith) h
 last_within b rules before k n (r ∷ rs) h some ranges =
     let d : Draw = draw_at r in
     let here = All-head AreRangesWithin r rs ranges in
     let next = next_within b rules n before d k r h here some here.lift (item_within b rules d.stack (drawn before d.stack)) in
-    within_same _ _ _ _ refl (omega arith) (last_within b rules (d ∷ before) (next_known b (begins before d.kind) (place_of b before k.place d) k r) (n + 40000) rs next (omega arith) (All-tail AreRangesWithin r rs ranges))
+    within_same _ _ _ _ refl (omega arith) (last_within b rules (d ∷ before) (next_known b (begins before d.kind) (place_of b before k.place d) k r) (n + MOST_REACH) rs next (omega arith) (All-tail AreRangesWithin r rs ranges))
 
-no_within : AreWithin 20000 no_known
+no_within : AreWithin MOST_SIDE no_known
 no_within = record {
   w = omega arith;
   h = omega arith;
@@ -72,19 +73,19 @@ pub known_within : (b : Problem) → IsProblem b → (ranges : List Packed) (i :
     All (λ x. AreRangesWithin (unpacked x)) ranges → AreWithin (limit (length (take i ranges))) k
 known_within b rules ranges i k last within =
     let rs : List Ranges = map unpacked (take i ranges) in
-    let count : limit (length (take i ranges)) ≡ 20000 + 40000 * length rs = omega (arith, length-map (take i ranges) unpacked) in
+    let count : limit (length (take i ranges)) ≡ MOST_SIDE + MOST_REACH * length rs = omega (arith, length-map (take i ranges) unpacked) in
     let each : All AreRangesWithin rs = All-map AreRangesWithin unpacked (take i ranges) (All-take (λ x. AreRangesWithin (unpacked x)) i ranges within) in
-    within_same _ _ _ _ last count (last_within b rules [] no_known 20000 rs no_within (omega arith) each)
+    within_same _ _ _ _ last count (last_within b rules [] no_known MOST_SIDE rs no_within (omega arith) each)
 
-pub follow_within : (b : Problem) → IsProblem b → (before : List Draw) (k : Known) (n m : ℕ) (rs : List Ranges) → AreWithin n k → 20000 ≤ n → All AreRangesWithin rs → n + 40000 * length rs ≤ m → AllFixed m (follow b before k rs)
+pub follow_within : (b : Problem) → IsProblem b → (before : List Draw) (k : Known) (n m : ℕ) (rs : List Ranges) → AreWithin n k → MOST_SIDE ≤ n → All AreRangesWithin rs → n + MOST_REACH * length rs ≤ m → AllFixed m (follow b before k rs)
 follow_within b rules before k n m [] h some ranges le = tt
 follow_within b rules before k n m (r ∷ rs) h some ranges le =
     let d : Draw = draw_at r in
     let here = All-head AreRangesWithin r rs ranges in
     let l : Level = begins before d.kind in
     let next = next_within b rules n before d k r h here some here.lift (item_within b rules d.stack (drawn before d.stack)) in (
-      within_more (n + 40000) m (next_known b l (place_of b before k.place d) k r) (omega (arith, le)) next,
-      follow_within b rules (d ∷ before) (next_known b l (place_of b before k.place d) k r) (n + 40000) m rs next (omega (arith, some)) (All-tail AreRangesWithin r rs ranges) (omega (arith, le)),
+      within_more (n + MOST_REACH) m (next_known b l (place_of b before k.place d) k r) (omega (arith, le)) next,
+      follow_within b rules (d ∷ before) (next_known b l (place_of b before k.place d) k r) (n + MOST_REACH) m rs next (omega (arith, some)) (All-tail AreRangesWithin r rs ranges) (omega (arith, le)),
     )
 
 -- with another least `b`, and with another least `d`
@@ -150,10 +151,10 @@ settle_within n [] h = tt
 settle_within n (fixed l k ∷ ks) h = let later = settle_within n ks h.1 in (settle_at_within n k (settle ks) h.0 later, later)
 
 -- 800 steps are within the last limit
-pub few_within : (b : Problem) → IsProblem b → (ranges : List Packed) → All (λ x. AreRangesWithin (unpacked x)) ranges → length ranges ≤ 800 → AllFixed 40000000 (settle (follow b [] no_known (map unpacked ranges)))
+pub few_within : (b : Problem) → IsProblem b → (ranges : List Packed) → All (λ x. AreRangesWithin (unpacked x)) ranges → length ranges ≤ MOST_ITEMS → AllFixed MOST_LENGTH (settle (follow b [] no_known (map unpacked ranges)))
 few_within b rules ranges within few =
-    settle_within 40000000 (follow b [] no_known (map unpacked ranges))
-    (follow_within b rules [] no_known 20000 40000000 (map unpacked ranges) no_within (omega arith) (All-map AreRangesWithin unpacked ranges within) (omega (arith, length-map ranges unpacked, few)))
+    settle_within MOST_LENGTH (follow b [] no_known (map unpacked ranges))
+    (follow_within b rules [] no_known MOST_SIDE MOST_LENGTH (map unpacked ranges) no_within (omega arith) (All-map AreRangesWithin unpacked ranges within) (omega (arith, length-map ranges unpacked, few)))
 
 -- the same of steps that code keeps, each with its level and what is known of it
 pub all_within : {X : Type 0} (level : X → Level) (known : X → Known) (n : ℕ) (steps : List X) → AllFixed n (map (λ x. fixed (level x) (known x)) steps) → All (λ x. AreWithin n (known x)) steps

@@ -12,19 +12,20 @@ use Rattle.plan_box.specs.Leasts.{Known, next_known}
 use Rattle.plan_box.specs.Ranges.{Ranges}
 use Rattle.plan_box.specs.Follows.{grown_place}
 use Rattle.plan_box.specs.Within.{AreRangesWithin, AreWithin}
+use Rattle.glass_base.specs.declared.limits.TheConstants.{MOST_LENGTH, MOST_REACH, MOST_SIDE}
 
 pub times_bit : (bit n : ℕ) → bit ≤ 1 → bit * n ≤ n
 times_bit bit n le = omega (arith, mul-le-mul_right n le)
 
-pub area_small : (w h : ℕ) → w ≤ 20000 → h ≤ 20000 → w * h ≤ 400000000
+pub area_small : (w h : ℕ) → w ≤ MOST_SIDE → h ≤ MOST_SIDE → w * h ≤ 400000000
 area_small w h small low = omega (arith, mul-le-mul_left w low)
 
-pub width_small : (turn : ℕ) (item : Option Item) → IfSome item IsItemInRange → item_width turn item ≤ 20000
+pub width_small : (turn : ℕ) (item : Option Item) → IfSome item IsItemInRange → item_width turn item ≤ MOST_SIDE
 width_small turn None h = omega arith
 width_small zero (Some item) h = h.0
 width_small (suc turn) (Some item) h = h.1
 
-pub height_small : (turn : ℕ) (item : Option Item) → IfSome item IsItemInRange → item_height turn item ≤ 20000
+pub height_small : (turn : ℕ) (item : Option Item) → IfSome item IsItemInRange → item_height turn item ≤ MOST_SIDE
 height_small turn None h = omega arith
 height_small zero (Some item) h = h.1
 height_small (suc turn) (Some item) h = h.0
@@ -34,8 +35,8 @@ plates_more zero before = omega arith
 plates_more (suc kind) before = omega arith
 
 -- a step of these sizes behind one that is within a limit
-grown_within : (b : Problem) → IsProblem b → (n : ℕ) (l : Level) (q : Place) (own : ℕ) (k : Known) (r : Ranges) → AreWithin n k → AreRangesWithin r → 20000 ≤ n →
-    q.w ≤ 20000 → q.h ≤ 20000 → own ≤ 40000 → q.plates ≤ k.plates + 1 → q.w * q.h ≤ 400000000 → AreWithin (n + 40000) (next_known b l (grown_place l k.place q own) k r)
+grown_within : (b : Problem) → IsProblem b → (n : ℕ) (l : Level) (q : Place) (own : ℕ) (k : Known) (r : Ranges) → AreWithin n k → AreRangesWithin r → MOST_SIDE ≤ n →
+    q.w ≤ MOST_SIDE → q.h ≤ MOST_SIDE → own ≤ MOST_REACH → q.plates ≤ k.plates + 1 → q.w * q.h ≤ 400000000 → AreWithin (n + MOST_REACH) (next_known b l (grown_place l k.place q own) k r)
 grown_within b rules n NewPlate q own k r h ranges some w high small plates area =
     let min1 = b.params.accepted.min1_max1 in
     let max1 = b.params.accepted.max1_limit in
@@ -156,8 +157,8 @@ grown_within b rules n Over q own k r h ranges some w high small plates area = r
 }
 
 -- the next step is within the next limit
-pub next_within : (b : Problem) → IsProblem b → (n : ℕ) (before : List Draw) (d : Draw) (k : Known) (r : Ranges) → AreWithin n k → AreRangesWithin r → 20000 ≤ n → d.lift ≤ 1 →
-    IfSome (item_at b d.stack (drawn before d.stack)) IsItemInRange → AreWithin (n + 40000) (next_known b (begins before d.kind) (place_of b before k.place d) k r)
+pub next_within : (b : Problem) → IsProblem b → (n : ℕ) (before : List Draw) (d : Draw) (k : Known) (r : Ranges) → AreWithin n k → AreRangesWithin r → MOST_SIDE ≤ n → d.lift ≤ 1 →
+    IfSome (item_at b d.stack (drawn before d.stack)) IsItemInRange → AreWithin (n + MOST_REACH) (next_known b (begins before d.kind) (place_of b before k.place d) k r)
 next_within b rules n before d k r h ranges some lift item =
     let i : Option Item = item_at b d.stack (drawn before d.stack) in
     let w = width_small d.turn i item in
@@ -168,7 +169,7 @@ next_within b rules n before d k r h ranges some lift item =
     grown_within b rules n (begins before d.kind) (place_of b before k.place d) (item_height d.turn i + d.lift * b.params.waste) k r h ranges some w high
     (omega (arith, times_bit d.lift b.params.waste lift)) (plates_more d.kind k.plates) (area_small _ _ w high)
 
-pub cell_high : (l : Level) (before own : ℕ) → before + own ≤ 40000000 → cell_height l before own ≤ 40000000
+pub cell_high : (l : Level) (before own : ℕ) → before + own ≤ MOST_LENGTH → cell_height l before own ≤ MOST_LENGTH
 cell_high NewPlate before own h = omega arith
 cell_high NewStrip before own h = omega arith
 cell_high NewBand before own h = omega arith
@@ -179,7 +180,7 @@ pub within_same : (n m : ℕ) (k j : Known) → k ≡ j → n ≡ m → AreWithi
 within_same n m k j e f h = rw (e, f) h
 
 pub item_small : (b : Problem) (before : List Draw) (d : Draw) → d.lift ≤ 1 → IfSome (item_at b d.stack (drawn before d.stack)) IsItemInRange →
-    item_height d.turn (item_at b d.stack (drawn before d.stack)) + d.lift * b.params.waste ≤ 40000
+    item_height d.turn (item_at b d.stack (drawn before d.stack)) + d.lift * b.params.waste ≤ MOST_REACH
 item_small b before d lift item =
     let high = height_small d.turn (item_at b d.stack (drawn before d.stack)) item in
     let waste = b.params.accepted.waste_min2 in

@@ -23,6 +23,7 @@ use Rattle.plan_csv.proofs.PlateRows.{plate_rows-append, no_plates}
 use Rattle.plan_csv.proofs.Refusals.{same, IsNextPiece, IsNextPlate, piece_row_passes, plate_row_passes}
 use Rattle.plan_csv.proofs.RowsBefore.{IsUnder, IsNext, IsElder, IsBefore, before_none, before_whole, next_passes, under_inside, next_inside, under_behind, next_behind}
 use Rattle.plan_csv.proofs.WrittenRows.{rows_after}
+use Rattle.glass_base.specs.declared.limits.TheConstants.{MOST_SIDE}
 
 -- rows of which none is refused behind these, whatever its number in the text
 abbrev pub IsAccepted : Problem → List Row → List Row → Type 0
@@ -49,7 +50,7 @@ elder e at node filled rows h next n le =
 
 -- the pieces of a row are accepted behind the rows before them
 pieces_accepted : (b : Problem) (rows : List Row) (e : Row) (filled : ℕ) (at : Area) (first : Bool) (node : ℕ) (forest : Forest) →
-    IsUnder e at → IsNext e at node filled rows → IsShaped at.cut forest → InRange forest → filled + total_size forest ≤ 20000 →
+    IsUnder e at → IsNext e at node filled rows → IsShaped at.cut forest → InRange forest → filled + total_size forest ≤ MOST_SIDE →
     IsAccepted b rows (rows_at at first node forest)
 pieces_accepted b rows e filled at first node nothing h next shape range le = rw (rows_nothing at first node) tt
 pieces_accepted b rows e filled at first node (piece size sort inner later) h next shape range le =

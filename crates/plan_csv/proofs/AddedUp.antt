@@ -18,6 +18,7 @@ use Rattle.cut_model.specs.Rules.{AddsUp}
 use Rattle.plan_csv.specs.PlanTexts.{IsWithin}
 use Rattle.cut_model.proofs.Shapes.{tree_shaped}
 use Rattle.plan_csv.proofs.Told.{rows_at, place_in, rows_nothing, behind_next, hold_all, all_of_each}
+use Rattle.glass_base.specs.declared.limits.TheConstants.{MOST_SIDE}
 
 -- the family of a piece
 abbrev family_at : Area → Bool → ℕ → ℕ → Sort → Forest → Forest → Family
@@ -41,11 +42,11 @@ families_hold P at first node size sort inner later h =
 -- there is room at a place, within 20,000 mm, for these neighbours that lie so
 abbrev IsRoomy : Along → Area → Forest → Type 0
 IsRoomy Along.Plates at forest = ⊥
-IsRoomy Along.X at forest = (at.x + total_size forest ≤ 20000) × (at.y + at.height ≤ 20000)
-IsRoomy Along.Y at forest = (at.x + at.width ≤ 20000) × (at.y + total_size forest ≤ 20000)
+IsRoomy Along.X at forest = (at.x + total_size forest ≤ MOST_SIDE) × (at.y + at.height ≤ MOST_SIDE)
+IsRoomy Along.Y at forest = (at.x + at.width ≤ MOST_SIDE) × (at.y + total_size forest ≤ MOST_SIDE)
 
 -- a place with room begins within 20,000 mm
-roomy_within : (along : Along) (at : Area) (forest : Forest) → IsRoomy along at forest → (at.x ≤ 20000) × (at.y ≤ 20000)
+roomy_within : (along : Along) (at : Area) (forest : Forest) → IsRoomy along at forest → (at.x ≤ MOST_SIDE) × (at.y ≤ MOST_SIDE)
 roomy_within Along.Plates at forest h = absurd h
 roomy_within Along.X at forest h = (omega (arith, h.0), omega (arith, h.1))
 roomy_within Along.Y at forest h = (omega (arith, h.0), omega (arith, h.1))
@@ -102,7 +103,7 @@ record IsCorner (at : Area) : Type 0 where
   along : at.along ≡ Along.Plates
   x : at.x ≡ 0
   y : at.y ≡ 0
-  height : at.height ≤ 20000
+  height : at.height ≤ MOST_SIDE
 
 -- behind a plate is the corner of the next one
 corner_behind : (at : Area) (size : ℕ) → IsCorner at → IsCorner (behind at size)
@@ -116,7 +117,7 @@ corner_behind at size h =
     }
 
 -- there is room inside a plate
-roomy_plate : (at : Area) (first : Bool) (node size : ℕ) (sort : Sort) (inner later : Forest) → IsCorner at → total_size inner ≤ 20000 →
+roomy_plate : (at : Area) (first : Bool) (node size : ℕ) (sort : Sort) (inner later : Forest) → IsCorner at → total_size inner ≤ MOST_SIDE →
     IsRoomy (turned at.along) (place_in at first node size sort inner later) inner
 roomy_plate at first node size sort inner later h le =
     let high : height_at at.along size at.height ≡ at.height = ap (λ a. height_at a size at.height) h.along in

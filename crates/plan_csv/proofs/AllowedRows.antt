@@ -17,6 +17,7 @@ use Rattle.plan_csv.specs.PlanTexts.{child_refusal, filled_by, first_refusal, li
 use Rattle.cut_model.specs.Tree.{IsRowType}
 use Rattle.plan_csv.specs.inner.ReadNodes.{GoesWith, MayFollow, IsPlaced, IsUnder, row_with}
 use Rattle.plan_csv.proofs.CheckFacts.{any-find}
+use Rattle.glass_base.specs.declared.limits.TheConstants.{MOST_SIDE}
 
 -- each of these refusals is none
 abbrev AreNone : List (Option BadPlan) → Type 0
@@ -67,29 +68,29 @@ plate_branch b row before r h =
     holds (names_branch r.kind) (bad.Kind row) all.1.0
 
 -- a piece beside its neighbours that is not refused has room
-room_beside : (row filled : ℕ) (e r : Row) → side_refusal row filled e r Along.X ≡ None → filled + r.width ≤ 20000
+room_beside : (row filled : ℕ) (e r : Row) → side_refusal row filled e r Along.X ≡ None → filled + r.width ≤ MOST_SIDE
 room_beside row filled e r h =
     let all = all_none (
     unless (r.x == e.x + filled) (bad.Size row 3)
     ∷ unless (r.y == e.y) (bad.Size row 4)
     ∷ unless (r.height == e.height) (bad.Size row 6)
-    ∷ unless (nat_le (filled + r.width) 20000) (bad.Size row 5)
+    ∷ unless (nat_le (filled + r.width) MOST_SIDE) (bad.Size row 5)
     ∷ []) h in
-    leb-true (filled + r.width) 20000 (holds (nat_le (filled + r.width) 20000) (bad.Size row 5) all.1.1.1.0)
+    leb-true (filled + r.width) MOST_SIDE (holds (nat_le (filled + r.width) MOST_SIDE) (bad.Size row 5) all.1.1.1.0)
 
 -- and so has a piece over them
-room_over : (row filled : ℕ) (e r : Row) → side_refusal row filled e r Along.Y ≡ None → filled + r.height ≤ 20000
+room_over : (row filled : ℕ) (e r : Row) → side_refusal row filled e r Along.Y ≡ None → filled + r.height ≤ MOST_SIDE
 room_over row filled e r h =
     let all = all_none (
     unless (r.x == e.x) (bad.Size row 3)
     ∷ unless (r.y == e.y + filled) (bad.Size row 4)
     ∷ unless (r.width == e.width) (bad.Size row 5)
-    ∷ unless (nat_le (filled + r.height) 20000) (bad.Size row 6)
+    ∷ unless (nat_le (filled + r.height) MOST_SIDE) (bad.Size row 6)
     ∷ []) h in
-    leb-true (filled + r.height) 20000 (holds (nat_le (filled + r.height) 20000) (bad.Size row 6) all.1.1.1.0)
+    leb-true (filled + r.height) MOST_SIDE (holds (nat_le (filled + r.height) MOST_SIDE) (bad.Size row 6) all.1.1.1.0)
 
 -- a piece whose sides are not refused has room
-room : (row filled cut : ℕ) (e r : Row) → side_refusal row filled e r (lies (suc cut)) ≡ None → filled + side_along (lies (suc cut)) r ≤ 20000
+room : (row filled cut : ℕ) (e r : Row) → side_refusal row filled e r (lies (suc cut)) ≡ None → filled + side_along (lies (suc cut)) r ≤ MOST_SIDE
 room row filled zero e r h = room_beside row filled e r h
 room row filled (suc zero) e r h = room_over row filled e r h
 room row filled (suc (suc zero)) e r h = room_beside row filled e r h
@@ -133,8 +134,8 @@ under row cut parent before r (Some e) level found h =
     let number : e.node ≡ parent = eqb-true e.node parent (found_passes (λ x. x.node == parent) before e found) in
     let pass = piece_passes row (filled_by r.cut before e.node) e r h in
     let sides : side_refusal row (filled_by r.cut before e.node) e r (lies (suc cut)) ≡ None = ap (λ n. side_refusal row (filled_by r.cut before e.node) e r (lies n)) (sym level) ∙ pass.sides in
-    let fits : filled_by r.cut before e.node + side_along (lies (suc cut)) r ≤ 20000 = room row (filled_by r.cut before e.node) cut e r sides in
-    let P : ℕ → ℕ → Type 0 = λ number level. filled_by r.cut before number + side_along (lies level) r ≤ 20000 in
+    let fits : filled_by r.cut before e.node + side_along (lies (suc cut)) r ≤ MOST_SIDE = room row (filled_by r.cut before e.node) cut e r sides in
+    let P : ℕ → ℕ → Type 0 = λ number level. filled_by r.cut before number + side_along (lies level) r ≤ MOST_SIDE in
     record {
       above = e;
       found = found;

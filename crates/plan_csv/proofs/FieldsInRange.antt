@@ -18,6 +18,7 @@ use Rattle.plan_csv.specs.declared.bad_plan.BadPlan.{BadPlan}
 use Rattle.plan_csv.specs.declared.bad_plan.BadPlan.TheVariants as bad
 use Rattle.plan_csv.specs.PlanRows.{◌>>=◌, item_type, number_in, or_refused, parent_in, row_in, signed_type, type_in, type_or_refused, type_text, whole_text, without_decimals}
 use Rattle.plan_csv.proofs.WrittenNumbers.{IsParent, IsRowInRange, IsType}
+use Rattle.glass_base.specs.declared.limits.TheConstants.{MOST_NUMBER, MOST_SIDE}
 
 -- what was read before
 pub read_behind : {A B : Type 0} (x : Result A BadPlan) (f : A → Result B BadPlan) (z : B) → (x >>= f) ≡ Ok z → (y : A) × (x ≡ Ok y) × (f y ≡ Ok z)
@@ -41,7 +42,7 @@ number_at_most row column most n None h = cc h
 number_at_most row column most n (Some field) h = whole_at_most row column most n (decimal field) h
 
 -- one to nine digits
-digits_most : (text : List ℕ) (n : ℕ) → digits 9 text ≡ Some n → n ≤ 999999999
+digits_most : (text : List ℕ) (n : ℕ) → digits 9 text ≡ Some n → n ≤ MOST_NUMBER
 digits_most text n h =
     let k = cond_some (nat_lt 0 (length text) && nat_le (length text) 9 && list_all is_ascii_digit text) (digits_value 10 text) n h in
     let a = and_parts (nat_lt 0 (length text) && nat_le (length text) 9) (list_all is_ascii_digit text) k.0 in
@@ -51,17 +52,17 @@ digits_most text n h =
     omega (arith, value_below text a.1, power, k.1)
 
 -- a whole number of one to nine digits, with decimals that are 0 or without
-whole_most : (text : List ℕ) (point : Option ℕ) (n : ℕ) → without_decimals (number_at text point) ≡ Some n → n ≤ 999999999
+whole_most : (text : List ℕ) (point : Option ℕ) (n : ℕ) → without_decimals (number_at text point) ≡ Some n → n ≤ MOST_NUMBER
 whole_most text None n h = by (digits 9 text) (digits_most text) h
   where
-    by : (said : Option ℕ) → ((m : ℕ) → said ≡ Some m → m ≤ 999999999) → without_decimals (without_point said) ≡ Some n → n ≤ 999999999
+    by : (said : Option ℕ) → ((m : ℕ) → said ≡ Some m → m ≤ MOST_NUMBER) → without_decimals (without_point said) ≡ Some n → n ≤ MOST_NUMBER
     by None small k = cc k
     by (Some m) small k = let same : m ≡ n = cc k in omega (arith, small m refl)
 whole_most text (Some point) n h =
     by (digits 9 (take point text)) (digits 6 (drop (point + 1) text)) (digits_most (take point text)) h
   where
-    by : (said behind : Option ℕ) → ((m : ℕ) → said ≡ Some m → m ≤ 999999999)
-        → without_decimals (around_point (length (drop (point + 1) text)) said behind) ≡ Some n → n ≤ 999999999
+    by : (said behind : Option ℕ) → ((m : ℕ) → said ≡ Some m → m ≤ MOST_NUMBER)
+        → without_decimals (around_point (length (drop (point + 1) text)) said behind) ≡ Some n → n ≤ MOST_NUMBER
     by None behind small k = cc k
     by (Some m) None small k = cc k
     by (Some m) (Some f) small k =
@@ -69,7 +70,7 @@ whole_most text (Some point) n h =
         omega (arith, small m refl, same.1)
 
 -- a type without a minus sign
-item_type_is : (said : Option ℕ) (kind : ℤ) → ((m : ℕ) → said ≡ Some m → m ≤ 999999999) → item_type said ≡ Some kind → IsType kind
+item_type_is : (said : Option ℕ) (kind : ℤ) → ((m : ℕ) → said ≡ Some m → m ≤ MOST_NUMBER) → item_type said ≡ Some kind → IsType kind
 item_type_is None kind small h = cc h
 item_type_is (Some m) kind small h = let same : pos m ≡ kind = cc h in subst IsType same (small m refl)
 
@@ -104,9 +105,9 @@ parent_is : (row : ℕ) (parent : Option ℕ) (field : Option (List ℕ)) → pa
 parent_is row parent None h = cc h
 parent_is row parent (Some []) h = let same : None ≡ parent = cc h in subst IsParent same tt
 parent_is row parent (Some (byte ∷ text)) h =
-    let read = read_behind (number_in row 9 999999999 (Some (byte ∷ text))) (λ n. Ok (Some n)) parent h in
+    let read = read_behind (number_in row 9 MOST_NUMBER (Some (byte ∷ text))) (λ n. Ok (Some n)) parent h in
     let same : Some read.0 ≡ parent = cc read.2 in
-    subst IsParent same (number_at_most row 9 999999999 read.0 (Some (byte ∷ text)) read.1)
+    subst IsParent same (number_at_most row 9 MOST_NUMBER read.0 (Some (byte ∷ text)) read.1)
 
 -- what is read where a test passes, and was read
 passed : (test : Bool) (said : Result Row BadPlan) (refusal : BadPlan) (r : Row) → (if test then said else Err refusal) ≡ Ok r → said ≡ Ok r
@@ -122,12 +123,12 @@ pub row_in_range : (row : ℕ) (fields : List (List ℕ)) (r : Row) → row_in r
 unfolding row_in
 row_in_range row fields r h =
     let nine = passed (length fields == 9) _ (bad.Record row (length fields)) r h in
-    let plate = read_behind (number_in row 1 999999999 (field_at fields 0)) _ r nine in
-    let node = read_behind (number_in row 2 999999999 (field_at fields 1)) _ r plate.2 in
-    let x = read_behind (number_in row 3 20000 (field_at fields 2)) _ r node.2 in
-    let y = read_behind (number_in row 4 20000 (field_at fields 3)) _ r x.2 in
-    let width = read_behind (number_in row 5 20000 (field_at fields 4)) _ r y.2 in
-    let height = read_behind (number_in row 6 20000 (field_at fields 5)) _ r width.2 in
+    let plate = read_behind (number_in row 1 MOST_NUMBER (field_at fields 0)) _ r nine in
+    let node = read_behind (number_in row 2 MOST_NUMBER (field_at fields 1)) _ r plate.2 in
+    let x = read_behind (number_in row 3 MOST_SIDE (field_at fields 2)) _ r node.2 in
+    let y = read_behind (number_in row 4 MOST_SIDE (field_at fields 3)) _ r x.2 in
+    let width = read_behind (number_in row 5 MOST_SIDE (field_at fields 4)) _ r y.2 in
+    let height = read_behind (number_in row 6 MOST_SIDE (field_at fields 5)) _ r width.2 in
     let kind = read_behind (type_in row (field_at fields 6)) _ r height.2 in
     let cut = read_behind (number_in row 8 4 (field_at fields 7)) _ r kind.2 in
     let parent = read_behind (parent_in row (field_at fields 8)) _ r cut.2 in
@@ -143,12 +144,12 @@ row_in_range row fields r h =
       parent = parent.0;
     } in
     subst IsRowInRange (same_row read r parent.2) (record {
-      plate = number_at_most row 1 999999999 plate.0 (field_at fields 0) plate.1;
-      node = number_at_most row 2 999999999 node.0 (field_at fields 1) node.1;
-      x = number_at_most row 3 20000 x.0 (field_at fields 2) x.1;
-      y = number_at_most row 4 20000 y.0 (field_at fields 3) y.1;
-      width = number_at_most row 5 20000 width.0 (field_at fields 4) width.1;
-      height = number_at_most row 6 20000 height.0 (field_at fields 5) height.1;
+      plate = number_at_most row 1 MOST_NUMBER plate.0 (field_at fields 0) plate.1;
+      node = number_at_most row 2 MOST_NUMBER node.0 (field_at fields 1) node.1;
+      x = number_at_most row 3 MOST_SIDE x.0 (field_at fields 2) x.1;
+      y = number_at_most row 4 MOST_SIDE y.0 (field_at fields 3) y.1;
+      width = number_at_most row 5 MOST_SIDE width.0 (field_at fields 4) width.1;
+      height = number_at_most row 6 MOST_SIDE height.0 (field_at fields 5) height.1;
       kind = type_is row kind.0 (field_at fields 6) kind.1;
       cut = number_at_most row 8 4 cut.0 (field_at fields 7) cut.1;
       parent = parent_is row parent.0 (field_at fields 8) parent.1;

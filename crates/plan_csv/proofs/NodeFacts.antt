@@ -14,6 +14,7 @@ use Rattle.plan_csv.specs.PlanTexts.{lies}
 use Rattle.cut_model.specs.Tree.{IsRowType}
 use Rattle.plan_csv.specs.inner.ReadNodes.{Gained, GoesWith, IsChild, IsNamed, IsUnder, row_with, side_filled}
 use Rattle.plan_csv.specs.declared.nodes.Node.{Node}
+use Rattle.glass_base.specs.declared.limits.TheConstants.{MOST_SIDE}
 
 -- two numbers that differ are not equal to the order of numbers
 pub number_differs : (k q : ℕ) → k ≢ q → is_eq (nat_cmp k q) ≡ false
@@ -82,7 +83,7 @@ named_gained rows r parent (Some node) (Some more) new p typed under gained n =
     rw children (All-push (IsChild (rows ++ r ∷ []) node.row) (rows_in parent rows) r (All-weaker (IsChild rows node.row) (IsChild (rows ++ r ∷ []) node.row) (child_more rows (r ∷ []) node.row) (rows_in parent rows) n.sound) child) in
     let filled : more.filled ≡ sum_along (lies (node.row.cut + 1)) (rows_in parent (rows ++ r ∷ [])) =
     rw (children, sum_along-push (lies (node.row.cut + 1)) (rows_in parent rows) r, ← level) (gained.filled_is ∙ ap (λ x. x + side_filled r) (n.filled_is ∙ ap (λ x. sum_along (lies x) (rows_in parent rows)) (sym level))) in
-    let room : node.filled + side_filled r ≤ 20000 = rw (n.filled_is, ← level) under.room in
+    let room : node.filled + side_filled r ≤ MOST_SIDE = rw (n.filled_is, ← level) under.room in
     record {
       found = rw is_node (found_more parent rows (r ∷ []) node.row n.found);
       number_is = rw is_node n.number_is;

@@ -10,6 +10,7 @@ use Rattle.cut_model.specs.declared.family.Along.{Along}
 use Rattle.cut_model.specs.Lawful.{plate_rows}
 use Rattle.cut_model.specs.Loss.{names_residual}
 use Rattle.plan_csv.specs.PlanTexts.{lies, names_branch, plate_refusal, side_refusal, piece_refusal, filled_by, child_refusal, place_refusal, row_refusal}
+use Rattle.glass_base.specs.declared.limits.TheConstants.{MOST_SIDE}
 
 -- equal numbers pass the test
 pub same : (a b : ℕ) → a ≡ b → (a == b) ≡ true
@@ -36,8 +37,8 @@ plate_passes b row before r h =
 -- a row whose sides are those of the piece behind so much of its parent
 abbrev pub IsBeside : ℕ → Row → Row → Along → Type 0
 IsBeside filled e r Along.Plates = ⊥
-IsBeside filled e r Along.X = (r.x ≡ e.x + filled) × (r.y ≡ e.y) × (r.height ≡ e.height) × (filled + r.width ≤ 20000)
-IsBeside filled e r Along.Y = (r.x ≡ e.x) × (r.y ≡ e.y + filled) × (r.width ≡ e.width) × (filled + r.height ≤ 20000)
+IsBeside filled e r Along.X = (r.x ≡ e.x + filled) × (r.y ≡ e.y) × (r.height ≡ e.height) × (filled + r.width ≤ MOST_SIDE)
+IsBeside filled e r Along.Y = (r.x ≡ e.x) × (r.y ≡ e.y + filled) × (r.width ≡ e.width) × (filled + r.height ≤ MOST_SIDE)
 
 -- its sides are not refused
 sides_pass : (row filled : ℕ) (e r : Row) (along : Along) → IsBeside filled e r along → side_refusal row filled e r along ≡ None

@@ -19,11 +19,12 @@ use Rattle.plan_csv.specs.PlanTexts.{child_refusal, filled_by, first_refusal, li
 use Rattle.plan_csv.proofs.RowsGrown.{AreApart, has_number}
 use Rattle.plan_csv.proofs.FieldsInRange.{read_behind, row_in_range}
 use Rattle.plan_csv.proofs.WrittenNumbers.{IsRowInRange}
+use Rattle.glass_base.specs.declared.limits.TheConstants.{MOST_SIDE}
 
 -- the rows that are cut from a row are one level below it, and fit into 20,000 mm
 pub record IsHead (rows : List Row) (e : Row) : Type 0 where
   pub below : All (λ r. r.cut ≡ e.cut + 1) (rows_in e.node rows)
-  pub filled : filled_by (e.cut + 1) rows e.node ≤ 20000
+  pub filled : filled_by (e.cut + 1) rows e.node ≤ MOST_SIDE
 
 -- rows that were accepted: each is in range and fits what is cut from it, their numbers differ, and each parent is one of them
 pub record AreAccepted (rows : List Row) : Type 0 where
@@ -36,7 +37,7 @@ pub record AreAccepted (rows : List Row) : Type 0 where
 abbrev HasPlace : List Row → Row → Option ℕ → Type 0
 HasPlace before r None = Unit {0}
 HasPlace before r (Some n) =
-    (e : Row) × (find (λ x. x.node == n) before ≡ Some e) × (r.cut ≡ e.cut + 1) × (filled_by r.cut before e.node + side_along (lies r.cut) r ≤ 20000)
+    (e : Row) × (find (λ x. x.node == n) before ≡ Some e) × (r.cut ≡ e.cut + 1) × (filled_by r.cut before e.node + side_along (lies r.cut) r ≤ MOST_SIDE)
 
 -- where nothing is refused, the last of four facts holds
 last_holds : (a b c d : Bool) (v x y z : BadPlan) → first_refusal (unless a v ∷ unless b x ∷ unless c y ∷ unless d z ∷ []) ≡ None → d ≡ true
@@ -66,18 +67,18 @@ lies_cut (suc (suc (suc level))) h = cc h
 
 -- a piece whose sides are not refused fits beside what fills its parent
 side_fits : (row filled : ℕ) (e r : Row) (along : Along) → (along ≡ Along.Plates → ⊥) → side_refusal row filled e r along ≡ None
-    → filled + side_along along r ≤ 20000
+    → filled + side_along along r ≤ MOST_SIDE
 side_fits row filled e r Along.Plates cut h = absurd (cut refl)
 side_fits row filled e r Along.X cut h =
-    leb-true (filled + r.width) 20000
-    (last_holds (r.x == e.x + filled) (r.y == e.y) (r.height == e.height) (nat_le (filled + r.width) 20000) (bad.Size row 3) (bad.Size row 4) (bad.Size row 6) (bad.Size row 5) h)
+    leb-true (filled + r.width) MOST_SIDE
+    (last_holds (r.x == e.x + filled) (r.y == e.y) (r.height == e.height) (nat_le (filled + r.width) MOST_SIDE) (bad.Size row 3) (bad.Size row 4) (bad.Size row 6) (bad.Size row 5) h)
 side_fits row filled e r Along.Y cut h =
-    leb-true (filled + r.height) 20000
-    (last_holds (r.x == e.x) (r.y == e.y + filled) (r.width == e.width) (nat_le (filled + r.height) 20000) (bad.Size row 3) (bad.Size row 4) (bad.Size row 5) (bad.Size row 6) h)
+    leb-true (filled + r.height) MOST_SIDE
+    (last_holds (r.x == e.x) (r.y == e.y + filled) (r.width == e.width) (nat_le (filled + r.height) MOST_SIDE) (bad.Size row 3) (bad.Size row 4) (bad.Size row 5) (bad.Size row 6) h)
 
 -- so does a piece that is not refused, one level below its parent
 piece_fits : (row filled level : ℕ) (e r : Row) → r.cut ≡ suc level → piece_refusal row filled e r ≡ None
-    → (r.cut ≡ e.cut + 1) × (filled + side_along (lies r.cut) r ≤ 20000)
+    → (r.cut ≡ e.cut + 1) × (filled + side_along (lies r.cut) r ≤ MOST_SIDE)
 piece_fits row filled level e r is h =
     let holds =
     second_holds (r.plate == e.plate) (r.cut == e.cut + 1) (names_branch e.kind) (not (names_residual r.kind) || (r.cut == 1)) (not (names_branch r.kind) || not (r.cut == 4))
@@ -148,14 +149,14 @@ sum_push along (e ∷ rows) r = omega (arith, sum_push along rows r)
 
 -- a row that names this one as its parent is the next that is cut from it
 next_of : (before : List Row) (r e : Row) (parent : Option ℕ) → find (λ x. x.node == e.node) before ≡ Some e → HasPlace before r parent
-    → is_number e.node parent ≡ true → (r.cut ≡ e.cut + 1) × (filled_by (e.cut + 1) before e.node + side_along (lies (e.cut + 1)) r ≤ 20000)
+    → is_number e.node parent ≡ true → (r.cut ≡ e.cut + 1) × (filled_by (e.cut + 1) before e.node + side_along (lies (e.cut + 1)) r ≤ MOST_SIDE)
 next_of before r e None is place named = cc named
 next_of before r e (Some n) is place named =
     let same : place.0 ≡ e = same_Some place.0 e (sym place.1 ∙ ap (λ (k : ℕ). find (λ x. x.node == k) before) (eqb-true n e.node named) ∙ is) in
     let level : r.cut ≡ e.cut + 1 = place.2 ∙ ap (λ (x : Row). x.cut + 1) same in
-    let fits : filled_by r.cut before e.node + side_along (lies r.cut) r ≤ 20000 =
-    subst (λ (x : Row). filled_by r.cut before x.node + side_along (lies r.cut) r ≤ 20000) same place.3 in
-    (level, subst (λ (c : ℕ). filled_by c before e.node + side_along (lies c) r ≤ 20000) level fits)
+    let fits : filled_by r.cut before e.node + side_along (lies r.cut) r ≤ MOST_SIDE =
+    subst (λ (x : Row). filled_by r.cut before x.node + side_along (lies r.cut) r ≤ MOST_SIDE) same place.3 in
+    (level, subst (λ (c : ℕ). filled_by c before e.node + side_along (lies c) r ≤ MOST_SIDE) level fits)
 
 -- a row before keeps what was cut from it, and may get this row
 head_more : (before : List Row) (r e : Row) → find (λ x. x.node == e.node) before ≡ Some e → HasPlace before r r.parent → IsHead before e
@@ -175,9 +176,9 @@ head_more before r e is place head =
     more true rows h k = All-push (λ x. x.cut ≡ e.cut + 1) rows r h (k refl)
     more false rows h k = rw (append-nil rows) h
 
-    fits : (b : Bool) (rows : List Row) → sum_along (lies (e.cut + 1)) rows ≤ 20000
-        → (b ≡ true → sum_along (lies (e.cut + 1)) rows + side_along (lies (e.cut + 1)) r ≤ 20000)
-        → sum_along (lies (e.cut + 1)) (rows ++ cond b (r ∷ []) []) ≤ 20000
+    fits : (b : Bool) (rows : List Row) → sum_along (lies (e.cut + 1)) rows ≤ MOST_SIDE
+        → (b ≡ true → sum_along (lies (e.cut + 1)) rows + side_along (lies (e.cut + 1)) r ≤ MOST_SIDE)
+        → sum_along (lies (e.cut + 1)) (rows ++ cond b (r ∷ []) []) ≤ MOST_SIDE
     fits true rows h k = rw (sum_push (lies (e.cut + 1)) rows r) (k refl)
     fits false rows h k = rw (append-nil rows) h
 

@@ -18,6 +18,7 @@ use Rattle.plan_csv.specs.PlanTexts.{lies, names_branch, filled_by}
 use Rattle.cut_model.specs.Shape.{IsOfLevel}
 use Rattle.plan_csv.proofs.Told.{rows_at, place_in, rows_below, rows_past, rows_nothing, rows_piece, behind_next, fresh_past}
 use Rattle.plan_csv.proofs.Refusals.{IsBeside, IsNextPiece, same}
+use Rattle.glass_base.specs.declared.limits.TheConstants.{MOST_SIDE}
 
 -- the rows that name n as their parent, of two lists
 pub rows_in-append : (n : ℕ) (xs ys : List Row) → rows_in n (xs ++ ys) ≡ rows_in n xs ++ rows_in n ys
@@ -154,7 +155,7 @@ branch_at level Sort.Branch inner h =
 branch_at level Sort.Residual inner h = refl
 
 -- the sides of a piece are those that its place gives
-beside : (filled node size : ℕ) (sort : Sort) (e : Row) (at : Area) (along : Along) → at.along ≡ along → IsUnder e at → IsPlaced filled e at along → filled + size ≤ 20000 → IsBeside filled e (row_at at node size sort) along
+beside : (filled node size : ℕ) (sort : Sort) (e : Row) (at : Area) (along : Along) → at.along ≡ along → IsUnder e at → IsPlaced filled e at along → filled + size ≤ MOST_SIDE → IsBeside filled e (row_at at node size sort) along
 beside filled node size sort e at Along.Plates is h place le = absurd place
 beside filled node size sort e at Along.X is h place le =
     let width : width_at at.along size at.width ≡ size = ap (λ a. width_at a size at.width) is in
@@ -166,7 +167,7 @@ beside filled node size sort e at Along.Y is h place le =
     (place.0, place.1, width ∙ h.width, omega (arith, le, height))
 
 -- so the next piece passes
-pub next_passes : (filled node size : ℕ) (sort : Sort) (inner : Forest) (e : Row) (at : Area) → IsUnder e at → IsPlaced filled e at at.along → IsOfLevel at.cut sort inner → filled + size ≤ 20000 → IsNextPiece filled e (row_at at node size sort)
+pub next_passes : (filled node size : ℕ) (sort : Sort) (inner : Forest) (e : Row) (at : Area) → IsUnder e at → IsPlaced filled e at at.along → IsOfLevel at.cut sort inner → filled + size ≤ MOST_SIDE → IsNextPiece filled e (row_at at node size sort)
 next_passes filled node size sort inner e at h place level le = record {
   plate = h.plate;
   cut = h.cut;

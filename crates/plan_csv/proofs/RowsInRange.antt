@@ -19,6 +19,7 @@ use Rattle.plan_csv.specs.PlanTexts.{IsWithin, IsWritable}
 use Rattle.cut_model.proofs.Shapes.{tree_shaped}
 use Rattle.plan_csv.proofs.Told.{rows_at, place_in, rows_nothing, behind_next, hold_all, all_hold}
 use Rattle.plan_csv.proofs.WrittenNumbers.{IsParent, IsRowInRange, IsType}
+use Rattle.glass_base.specs.declared.limits.TheConstants.{MOST_NUMBER, MOST_SIDE}
 
 -- the type of a sort whose item number is in range
 kind_in_range : (sort : Sort) → IsNumbered sort → IsType (type_number sort)
@@ -35,13 +36,13 @@ level_in_range level Sort.Branch inner h = omega (arith, h.shallow)
 level_in_range level Sort.Residual inner h = omega (arith, h.strip)
 
 -- the width of a piece is at most as long as its size and its place allow
-width_in_range : (along : Along) (size width : ℕ) → size ≤ 20000 → width ≤ 20000 → width_at along size width ≤ 20000
+width_in_range : (along : Along) (size width : ℕ) → size ≤ MOST_SIDE → width ≤ MOST_SIDE → width_at along size width ≤ MOST_SIDE
 width_in_range Along.Plates size width a b = a
 width_in_range Along.X size width a b = a
 width_in_range Along.Y size width a b = b
 
 -- so is its height
-height_in_range : (along : Along) (size height : ℕ) → size ≤ 20000 → height ≤ 20000 → height_at along size height ≤ 20000
+height_in_range : (along : Along) (size height : ℕ) → size ≤ MOST_SIDE → height ≤ MOST_SIDE → height_at along size height ≤ MOST_SIDE
 height_in_range Along.Plates size height a b = b
 height_in_range Along.X size height a b = b
 height_in_range Along.Y size height a b = a
@@ -49,13 +50,13 @@ height_in_range Along.Y size height a b = a
 -- a place from this node number on whose numbers are in range
 record IsPlaceInRange (node : ℕ) (at : Area) : Type 0 where
   plate : at.plate ≤ node
-  width : at.width ≤ 20000
-  height : at.height ≤ 20000
+  width : at.width ≤ MOST_SIDE
+  height : at.height ≤ MOST_SIDE
   parent : IsParent at.parent
 
 -- the row of a piece there is in range
 row_in_range : (at : Area) (node size : ℕ) (sort : Sort) (inner : Forest) →
-    IsPlaceInRange node at → IsOfLevel at.cut sort inner → size ≤ 20000 → IsNumbered sort → node ≤ 999999999 → IsWithin (row_at at node size sort) →
+    IsPlaceInRange node at → IsOfLevel at.cut sort inner → size ≤ MOST_SIDE → IsNumbered sort → node ≤ MOST_NUMBER → IsWithin (row_at at node size sort) →
     IsRowInRange (row_at at node size sort)
 row_in_range at node size sort inner h level small numbered few within = record {
   plate = omega (arith, h.plate, few);
@@ -70,7 +71,7 @@ row_in_range at node size sort inner h level small numbered few within = record 
 }
 
 -- the place of the first piece inside a piece
-inside_in_range : (at : Area) (first : Bool) (node size : ℕ) (sort : Sort) (inner later : Forest) → IsPlaceInRange node at → size ≤ 20000 → node ≤ 999999999 →
+inside_in_range : (at : Area) (first : Bool) (node size : ℕ) (sort : Sort) (inner later : Forest) → IsPlaceInRange node at → size ≤ MOST_SIDE → node ≤ MOST_NUMBER →
     IsPlaceInRange (node + 1) (place_in at first node size sort inner later)
 inside_in_range at first node size sort inner later h small few = record {
   plate = omega (arith, h.plate);
@@ -115,7 +116,7 @@ plates_in_range b plate at first node (piece size sort inner plan) rules h shape
     let wide : ℕ = Width b plate in
     let later : Forest = sized b (plate + 1) plan in
     let parts = all_hold IsWithin at first node wide sort inner later within in
-    let small : wide ≤ 20000 = (width_within b plate rules).1 in
+    let small : wide ≤ MOST_SIDE = (width_within b plate rules).1 in
     hold_all IsRowInRange at first node wide sort inner later
     (record {
       here = row_in_range at node wide sort inner h shape.1 small range.1 (omega (arith, few)) parts.here;

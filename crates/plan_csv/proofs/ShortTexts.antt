@@ -20,6 +20,7 @@ use Rattle.plan_csv.specs.PlanTexts.{IsWritable}
 use Rattle.plan_csv.specs.Solutions.{header, row_fields, row_line, rows_text, solution_text}
 use Rattle.plan_csv.proofs.RowsInRange.{plan_rows_in_range}
 use Rattle.plan_csv.proofs.WrittenNumbers.{IsParent, IsRowInRange, IsType}
+use Rattle.glass_base.specs.declared.limits.TheConstants.{MOST_NUMBER}
 
 -- each of these fields has at most nine bytes
 abbrev AreShort : List (List ℕ) → Type 0
@@ -27,7 +28,7 @@ AreShort [] = Unit {0}
 AreShort (field ∷ fields) = (length field ≤ 9) × AreShort fields
 
 -- a number of at most nine digits
-short_number : (n : ℕ) → n ≤ 999999999 → length (decimal n) ≤ 9
+short_number : (n : ℕ) → n ≤ MOST_NUMBER → length (decimal n) ≤ 9
 short_number n h = (few_digits n h).few
 
 -- the type of a row

@@ -23,13 +23,14 @@ use Rattle.plan_csv.proofs.RowsAccepted.{AreAccepted, IsHead, accepted_all, acce
 use Rattle.plan_csv.proofs.FieldsInRange.{read_behind}
 use Rattle.plan_csv.proofs.RowsGrown.{few_grow, few_rows}
 use Rattle.plan_csv.proofs.WrittenNumbers.{IsRowInRange, IsType}
+use Rattle.glass_base.specs.declared.limits.TheConstants.{MOST_SIDE}
 
 -- neighbours are in range where each of them and what is inside it is
 neighbours_in_range : (size : Row → ℕ) (sort : Row → Sort) (inner : Row → Forest) (rows : List Row)
-    → All (λ r. (size r ≤ 20000) × IsNumbered (sort r) × (total_size (inner r) ≤ 20000) × InRange (inner r)) rows → InRange (neighbours size sort inner rows)
+    → All (λ r. (size r ≤ MOST_SIDE) × IsNumbered (sort r) × (total_size (inner r) ≤ MOST_SIDE) × InRange (inner r)) rows → InRange (neighbours size sort inner rows)
 neighbours_in_range size sort inner [] h = tt
 neighbours_in_range size sort inner (r ∷ rows) h =
-    let P : Row → Type 0 = λ x. (size x ≤ 20000) × IsNumbered (sort x) × (total_size (inner x) ≤ 20000) × InRange (inner x) in
+    let P : Row → Type 0 = λ x. (size x ≤ MOST_SIDE) × IsNumbered (sort x) × (total_size (inner x) ≤ MOST_SIDE) × InRange (inner x) in
     let here = All-head P r rows h in
     (here.0, here.1, here.2, here.3, neighbours_in_range size sort inner rows (All-tail P r rows h))
 
@@ -48,7 +49,7 @@ size_of zero level rows some h = size_along level (λ r. sort_named r.kind) (λ 
 size_of (suc depth) level rows some h = size_along level (λ r. sort_named r.kind) (λ r. grown depth rows (rows_in r.node rows)) some h
 
 -- the size of a row
-side_small : (along : Along) (r : Row) → IsRowInRange r → side_along along r ≤ 20000
+side_small : (along : Along) (r : Row) → IsRowInRange r → side_along along r ≤ MOST_SIDE
 side_small Along.Plates r h = omega arith
 side_small Along.X r h = h.width
 side_small Along.Y r h = h.height
@@ -69,11 +70,11 @@ IsKnown rows r = IsRowInRange r × IsHead rows r
 range_of : (depth : ℕ) (rows some : List Row) → All (IsKnown rows) rows → All (IsKnown rows) some → InRange (grown depth rows some)
 range_of zero rows some all h =
     neighbours_in_range (λ r. side_along (lies r.cut) r) (λ r. sort_named r.kind) (λ r. nothing) some
-    (All-weaker (IsKnown rows) (λ r. (side_along (lies r.cut) r ≤ 20000) × IsNumbered (sort_named r.kind) × (0 ≤ 20000) × Unit {0})
+    (All-weaker (IsKnown rows) (λ r. (side_along (lies r.cut) r ≤ MOST_SIDE) × IsNumbered (sort_named r.kind) × (0 ≤ MOST_SIDE) × Unit {0})
     (λ r k. (side_small (lies r.cut) r k.0, item_small r.kind k.0.kind, omega arith, tt)) some h)
 range_of (suc depth) rows some all h =
     neighbours_in_range (λ r. side_along (lies r.cut) r) (λ r. sort_named r.kind) (λ r. grown depth rows (rows_in r.node rows)) some
-    (All-weaker (IsKnown rows) (λ r. (side_along (lies r.cut) r ≤ 20000) × IsNumbered (sort_named r.kind) × (total_size (grown depth rows (rows_in r.node rows)) ≤ 20000) × InRange (grown depth rows (rows_in r.node rows)))
+    (All-weaker (IsKnown rows) (λ r. (side_along (lies r.cut) r ≤ MOST_SIDE) × IsNumbered (sort_named r.kind) × (total_size (grown depth rows (rows_in r.node rows)) ≤ MOST_SIDE) × InRange (grown depth rows (rows_in r.node rows)))
     (λ r k. (
       side_small (lies r.cut) r k.0,
       item_small r.kind k.0.kind,

@@ -11,14 +11,15 @@ use Rattle.csv_table.specs.Lines.{number_or_none}
 use Rattle.csv_table.proofs.DigitTexts.{blanks_in_digits, digit_other, digits_of_decimal, few_digits, number_of_decimal, trimmed_digits, trimmed_none}
 use Rattle.plan_csv.specs.PlanRows.{item_type, number_in, parent_in, row_in, type_in, type_text, whole_text}
 use Rattle.plan_csv.specs.Solutions.{row_fields}
+use Rattle.glass_base.specs.declared.limits.TheConstants.{MOST_NUMBER, MOST_SIDE}
 
 -- the number in a column
-pub number_read : (row column most n : ℕ) → n ≤ most → most ≤ 999999999 → number_in row column most (Some (decimal n)) ≡ Ok n
+pub number_read : (row column most n : ℕ) → n ≤ most → most ≤ MOST_NUMBER → number_in row column most (Some (decimal n)) ≡ Ok n
 number_read row column most n h k =
     rw (trimmed_digits (decimal n) (digits_of_decimal n), number_of_decimal n (omega arith), le-leb n most h) refl
 
 -- a number without a sign and blanks
-whole_read : (n : ℕ) → n ≤ 999999999 → whole_text (decimal n) ≡ Some n
+whole_read : (n : ℕ) → n ≤ MOST_NUMBER → whole_text (decimal n) ≡ Some n
 whole_read n h = rw (number_of_decimal n h) refl
 
 -- digits are the type of an item
@@ -30,7 +31,7 @@ type_of_digits (c ∷ text) h some =
 
 -- a type that rows have: the number of an item, or -1, -2 or -3
 abbrev pub IsType : ℤ → Type 0
-IsType (pos n) = n ≤ 999999999
+IsType (pos n) = n ≤ MOST_NUMBER
 IsType (negsuc n) = n ≤ 2
 
 -- a written type is read as that type
@@ -44,26 +45,26 @@ type_read row (negsuc n) h =
 -- the parent of a row, if it has one
 abbrev pub IsParent : Option ℕ → Type 0
 IsParent None = Unit {0}
-IsParent (Some n) = n ≤ 999999999
+IsParent (Some n) = n ≤ MOST_NUMBER
 
 -- a number that is read in one byte or more is the parent
-parent_of_digits : (row n : ℕ) (text : List ℕ) → 0 < length text → number_in row 9 999999999 (Some text) ≡ Ok n → parent_in row (Some text) ≡ Ok (Some n)
+parent_of_digits : (row n : ℕ) (text : List ℕ) → 0 < length text → number_in row 9 MOST_NUMBER (Some text) ≡ Ok n → parent_in row (Some text) ≡ Ok (Some n)
 parent_of_digits row n [] some e = absurd (omega arith)
 parent_of_digits row n (c ∷ text) some e = rw e refl
 
 -- a written parent is read as that parent
 pub parent_read : (row : ℕ) (parent : Option ℕ) → IsParent parent → parent_in row (Some (number_or_none parent)) ≡ Ok parent
 parent_read row None h = refl
-parent_read row (Some n) h = parent_of_digits row n (decimal n) (few_digits n h).some (number_read row 9 999999999 n h (omega arith))
+parent_read row (Some n) h = parent_of_digits row n (decimal n) (few_digits n h).some (number_read row 9 MOST_NUMBER n h (omega arith))
 
 -- a row whose fields can be read again
 pub record IsRowInRange (r : Row) : Type 0 where
-  pub plate : r.plate ≤ 999999999
-  pub node : r.node ≤ 999999999
-  pub x : r.x ≤ 20000
-  pub y : r.y ≤ 20000
-  pub width : r.width ≤ 20000
-  pub height : r.height ≤ 20000
+  pub plate : r.plate ≤ MOST_NUMBER
+  pub node : r.node ≤ MOST_NUMBER
+  pub x : r.x ≤ MOST_SIDE
+  pub y : r.y ≤ MOST_SIDE
+  pub width : r.width ≤ MOST_SIDE
+  pub height : r.height ≤ MOST_SIDE
   pub kind : IsType r.kind
   pub cut : r.cut ≤ 4
   pub parent : IsParent r.parent
@@ -73,12 +74,12 @@ pub row_read : (row : ℕ) (r : Row) → IsRowInRange r → row_in row (row_fiel
 unfolding row_in field_at
 row_read row r h =
     rw (
-      number_read row 1 999999999 r.plate h.plate (omega arith),
-      number_read row 2 999999999 r.node h.node (omega arith),
-      number_read row 3 20000 r.x h.x (omega arith),
-      number_read row 4 20000 r.y h.y (omega arith),
-      number_read row 5 20000 r.width h.width (omega arith),
-      number_read row 6 20000 r.height h.height (omega arith),
+      number_read row 1 MOST_NUMBER r.plate h.plate (omega arith),
+      number_read row 2 MOST_NUMBER r.node h.node (omega arith),
+      number_read row 3 MOST_SIDE r.x h.x (omega arith),
+      number_read row 4 MOST_SIDE r.y h.y (omega arith),
+      number_read row 5 MOST_SIDE r.width h.width (omega arith),
+      number_read row 6 MOST_SIDE r.height h.height (omega arith),
       type_read row r.kind h.kind,
       number_read row 8 4 r.cut h.cut (omega arith),
       parent_read row r.parent h.parent,

@@ -8,6 +8,7 @@ use Rattle.csv_table.specs.Numbers.{is_point, number_at, trimmed}
 use Rattle.csv_table.specs.Readings.{whole_in}
 use Rattle.plan_csv.specs.declared.bad_plan.BadPlan.{BadPlan}
 use Rattle.plan_csv.specs.declared.bad_plan.BadPlan.TheVariants as bad
+use Rattle.glass_base.specs.declared.limits.TheConstants.{MOST_NUMBER, MOST_SIDE}
 
 -- what is read next is read from this, unless it was refused
 infixl 10 ◌>>=◌
@@ -60,18 +61,18 @@ type_in row (Some field) = type_or_refused row (type_text (trimmed field))
 abbrev pub parent_in : ℕ → Option (List ℕ) → Result (Option ℕ) BadPlan
 parent_in row None = Err (bad.Number row 9)
 parent_in row (Some []) = Ok None
-parent_in row (Some (byte ∷ text)) = number_in row 9 999999999 (Some (byte ∷ text)) >>= λ n. Ok (Some n)
+parent_in row (Some (byte ∷ text)) = number_in row 9 MOST_NUMBER (Some (byte ∷ text)) >>= λ n. Ok (Some n)
 
 -- a row: nine fields, in the order of the columns
 unfoldable pub row_in : ℕ → List (List ℕ) → Result Row BadPlan
 row_in row fields =
     if length fields == 9 then (do
-      plate ← number_in row 1 999999999 (field_at fields 0)
-      node ← number_in row 2 999999999 (field_at fields 1)
-      x ← number_in row 3 20000 (field_at fields 2)
-      y ← number_in row 4 20000 (field_at fields 3)
-      width ← number_in row 5 20000 (field_at fields 4)
-      height ← number_in row 6 20000 (field_at fields 5)
+      plate ← number_in row 1 MOST_NUMBER (field_at fields 0)
+      node ← number_in row 2 MOST_NUMBER (field_at fields 1)
+      x ← number_in row 3 MOST_SIDE (field_at fields 2)
+      y ← number_in row 4 MOST_SIDE (field_at fields 3)
+      width ← number_in row 5 MOST_SIDE (field_at fields 4)
+      height ← number_in row 6 MOST_SIDE (field_at fields 5)
       kind ← type_in row (field_at fields 6)
       cut ← number_in row 8 4 (field_at fields 7)
       parent ← parent_in row (field_at fields 8)

@@ -18,6 +18,7 @@ use Rattle.csv_table.specs.Rows.{table_rows}
 use Rattle.plan_csv.specs.declared.bad_plan.BadPlan.{BadPlan}
 use Rattle.plan_csv.specs.declared.bad_plan.BadPlan.TheVariants as bad
 use Rattle.plan_csv.specs.PlanRows.{◌>>=◌, row_in}
+use Rattle.glass_base.specs.declared.limits.TheConstants.{MOST_SIDE}
 
 -- a refusal, unless this holds
 abbrev pub unless : Bool → BadPlan → Option BadPlan
@@ -62,14 +63,14 @@ side_refusal row filled e r Along.X =
     unless (r.x == e.x + filled) (bad.Size row 3)
     ∷ unless (r.y == e.y) (bad.Size row 4)
     ∷ unless (r.height == e.height) (bad.Size row 6)
-    ∷ unless (nat_le (filled + r.width) 20000) (bad.Size row 5)
+    ∷ unless (nat_le (filled + r.width) MOST_SIDE) (bad.Size row 5)
     ∷ [])
 side_refusal row filled e r Along.Y =
     first_refusal (
     unless (r.x == e.x) (bad.Size row 3)
     ∷ unless (r.y == e.y + filled) (bad.Size row 4)
     ∷ unless (r.width == e.width) (bad.Size row 5)
-    ∷ unless (nat_le (filled + r.height) 20000) (bad.Size row 6)
+    ∷ unless (nat_le (filled + r.height) MOST_SIDE) (bad.Size row 6)
     ∷ [])
 
 -- why a piece is refused whose parent is the row `e`, and whose neighbours before it fill so much of their parent
@@ -153,7 +154,7 @@ Reads (Err (bad.Kind row)) said = said ≡ Err (bad.Kind row)
 
 -- a row that begins within 20,000 mm of its plate's corner
 abbrev pub IsWithin : Row → Type 0
-IsWithin r = (r.x ≤ 20000) × (r.y ≤ 20000)
+IsWithin r = (r.x ≤ MOST_SIDE) × (r.y ≤ MOST_SIDE)
 
 -- a plan whose text can be read again
 pub record IsWritable (b : Problem) (plan : Forest) : Type 0 where

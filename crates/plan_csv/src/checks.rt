@@ -9,9 +9,7 @@ use crate::bad_plan::BadPlan;
 use crate::nodes::Nodes;
 use cut_model::{Along, Row, Sort};
 use glass_base::Instance;
-
-/// The greatest size of a piece and of the pieces that are cut from it, in mm.
-const SIDE_LIMIT: u64 = 20_000;
+use glass_base::limits::MOST_SIDE;
 
 /// Whether a type is that of a plate or a piece that is cut.
 pub fn is_branch(kind: i64) -> bool
@@ -79,7 +77,7 @@ fn width_refusal(row: u64, filled: u32, e: &Row, r: &Row) -> Option<BadPlan>
     if r.height != e.height {
         return Some(BadPlan::Size(row, 6));
     }
-    if u64::from(filled) + u64::from(r.width) > SIDE_LIMIT {
+    if u64::from(filled) + u64::from(r.width) > u64::from(MOST_SIDE) {
         return Some(BadPlan::Size(row, 5));
     }
     None
@@ -98,7 +96,7 @@ fn height_refusal(row: u64, filled: u32, e: &Row, r: &Row) -> Option<BadPlan>
     if r.width != e.width {
         return Some(BadPlan::Size(row, 5));
     }
-    if u64::from(filled) + u64::from(r.height) > SIDE_LIMIT {
+    if u64::from(filled) + u64::from(r.height) > u64::from(MOST_SIDE) {
         return Some(BadPlan::Size(row, 6));
     }
     None

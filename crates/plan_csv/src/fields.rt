@@ -9,12 +9,7 @@ use crate::bad_plan::BadPlan;
 use csv::ByteRecord;
 use csv_table::{plain_number, trim, whole_at};
 use cut_model::Row;
-
-/// The greatest number of a plate or a node.
-const NUMBER_LIMIT: u32 = 999_999_999;
-
-/// The greatest place or side, in mm.
-const SIDE_LIMIT: u32 = 20_000;
+use glass_base::limits::{MOST_NUMBER, MOST_SIDE};
 
 /// The greatest level of a cut.
 const LEVEL_LIMIT: u32 = 4;
@@ -111,7 +106,7 @@ fn parent_at(row: u64, fields: &ByteRecord) -> Result<Option<u64>, BadPlan>
     match fields.get(8) {
         None => Err(BadPlan::Number(row, 9)),
         Some([]) => Ok(None),
-        Some(_) => Ok(Some(u64::from(number_at(row, 9, NUMBER_LIMIT, fields)?))),
+        Some(_) => Ok(Some(u64::from(number_at(row, 9, MOST_NUMBER, fields)?))),
     }
 }
 
@@ -124,12 +119,12 @@ pub fn row_of(row: u64, fields: &ByteRecord) -> Result<Row, BadPlan>
     if fields.len() != 9 {
         return Err(BadPlan::Record(row, fields.len() as u64));
     }
-    let plate = number_at(row, 1, NUMBER_LIMIT, fields)?;
-    let node = number_at(row, 2, NUMBER_LIMIT, fields)?;
-    let x = number_at(row, 3, SIDE_LIMIT, fields)?;
-    let y = number_at(row, 4, SIDE_LIMIT, fields)?;
-    let width = number_at(row, 5, SIDE_LIMIT, fields)?;
-    let height = number_at(row, 6, SIDE_LIMIT, fields)?;
+    let plate = number_at(row, 1, MOST_NUMBER, fields)?;
+    let node = number_at(row, 2, MOST_NUMBER, fields)?;
+    let x = number_at(row, 3, MOST_SIDE, fields)?;
+    let y = number_at(row, 4, MOST_SIDE, fields)?;
+    let width = number_at(row, 5, MOST_SIDE, fields)?;
+    let height = number_at(row, 6, MOST_SIDE, fields)?;
     let kind = type_at(row, fields)?;
     let cut = level_at(row, fields)?;
     let parent = parent_at(row, fields)?;

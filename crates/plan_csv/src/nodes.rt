@@ -6,6 +6,7 @@ ghost use Rattle.std.specs.Ordering.{nat_cmp};
 ghost use Rattle.plan_csv.specs.inner.ReadNodes.{AreNodes, HasGained, HasNewChild, HasSpace, MayFollow, IsAttached, side_filled};
 
 use cut_model::Row;
+use glass_base::limits::MOST_SIDE;
 use glass_base::{Memory, Run, append};
 use std::alloc::Global;
 use std::collections::BTreeMap;
@@ -44,7 +45,7 @@ pub fn side_of(row: &Row) -> u32
 
 /// Adds a child to a node.
 fn add(node: &mut Node, row: &Row) -> Result<(), Memory>
-    requires { node.old.filled + side_filled row.now ≤ 20000 }
+    requires { node.old.filled + side_filled row.now ≤ MOST_SIDE }
     ensures { OnOk result (HasGained row.now node.old node.new) }
 {
     append(&mut node.children, *row)?;

@@ -12,6 +12,7 @@ use Rattle.plan_draft.specs.inner.Least.{IsSkip}
 use Rattle.plan_draft.specs.inner.Places.{HasNoPlace, IsBestBefore, IsFirstOf, IsLeft, IsPlace, IsUpright, StandsAt, end_of, lesser}
 use Rattle.plan_draft.proofs.Bottoms.{skip_stronger}
 use Rattle.plan_draft.proofs.Standing.{lesser_first, same_places}
+use Rattle.glass_base.specs.declared.limits.TheConstants.{MOST_SIDE}
 
 -- behind the plate's side
 pub line_found : (b : Problem) (plate left : ℕ) (found : Option ℕ) → ¬ (left ≡ 0) → MatchOption found (CrossesNoneX b.defects plate left 0 b.params.height) (IsSkip (λ m. CrossesNoneX b.defects plate m 0 b.params.height) left) →
@@ -33,7 +34,7 @@ left_found b plate from left None gap line = record { before = gap; line = line 
 left_found b plate from left (Some next) gap skip = skip_stronger (left_line b plate from) skip
 
 -- in a gap that is too narrow no strip begins
-pub left_narrow : (b : Problem) (plate from left : ℕ) → from ≤ left → ¬ (left ≡ from) → left < from + b.params.waste → from ≤ 20000 → IsSkip (IsLeft b plate from) left (from + b.params.waste)
+pub left_narrow : (b : Problem) (plate from left : ℕ) → from ≤ left → ¬ (left ≡ from) → left < from + b.params.waste → from ≤ MOST_SIDE → IsSkip (IsLeft b plate from) left (from + b.params.waste)
 left_narrow b plate from left le apart lt near = record {
   further = lt;
   near = omega (arith, near, b.params.accepted.waste_min1, b.params.accepted.min1_max1, b.params.accepted.max1_limit);

@@ -11,6 +11,7 @@ use Rattle.glass_base.specs.Defects.{crosses_x, crosses_y, hits}
 use Rattle.glass_base.specs.Items.{IsDefectInRange}
 use Rattle.defect_map.specs.Queries.{CrossesNoneX, CrossesNoneY, HitsNone}
 use Rattle.plan_draft.specs.inner.Least.{IsSkip}
+use Rattle.glass_base.specs.declared.limits.TheConstants.{MOST_REACH}
 
 more_x : (plate x m y0 y1 : ℕ) (d : Defect) → crosses_x plate x y0 y1 d ≡ true → x ≤ m → m < d.x1 → crosses_x plate m y0 y1 d ≡ true
 more_x plate x m y0 y1 d hit le lt = grind (arith, nat_tests)
@@ -40,7 +41,7 @@ none_found p xs e k d lt hit =
 
 -- a defect that is found stands in the way up to its far side
 skipped : (p : ℕ → Defect → Bool) (far : Defect → ℕ) (defects : List Defect) (from i : ℕ) (d : Defect) → position (p from) defects ≡ Some i →
-    ((x : Defect) → p from x ≡ true → from < far x) → ((x : Defect) (m : ℕ) → p from x ≡ true → from ≤ m → m < far x → p m x ≡ true) → All (λ x. far x ≤ 40000) defects →
+    ((x : Defect) → p from x ≡ true → from < far x) → ((x : Defect) (m : ℕ) → p from x ≡ true → from ≤ m → m < far x → p m x ≡ true) → All (λ x. far x ≤ MOST_REACH) defects →
     IsSkip (λ m. All (λ x. ¬ IsTrue (p m x)) defects) from (far (slice_index_or defects i d))
 skipped p far defects from i d found further more near =
     let at = position-Some (p from) defects i d found in

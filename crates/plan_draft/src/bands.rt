@@ -7,6 +7,7 @@ ghost use Rattle.plan_draft.specs.inner.Places.{HasBand, IsBeside, IsBottomOf, I
 use crate::lines::{blocked_item, blocked_level, level_from};
 use crate::place::{Band, Sides};
 use crate::site::Site;
+use glass_base::limits::MOST_REACH;
 
 /// The least upper side of a band from `least` on, in a strip from `left` to `right`.
 fn top_from(site: Site, left: u32, right: u32, least: u32) -> Option<u32>
@@ -40,7 +41,7 @@ fn is_top(site: Site, left: u32, right: u32, top: u32) -> bool
 
 /// Whether the line beside an item at `left`, from c to d, runs through no defect, where the strip goes on behind the item.
 fn is_beside(site: Site, left: u32, right: u32, item: Sides, c: u32, d: u32) -> bool
-    requires left { left ≤ 40000 }
+    requires left { left ≤ MOST_REACH }
     requires band { c < d }
     ensures { IsTrue result ↔ IsBeside site.entry.ground.instance.now site.entry.plate left
         right item.w c d }
@@ -51,8 +52,8 @@ fn is_beside(site: Site, left: u32, right: u32, item: Sides, c: u32, d: u32) -> 
 /// Whether a band from c on that the item fills may stand, in a strip from `left` to `right`.
 fn fills(site: Site, left: u32, right: u32, item: Sides, c: u32) -> bool
     requires strip { left < right }
-    requires left { left ≤ 40000 }
-    requires low { c ≤ 40000 }
+    requires left { left ≤ MOST_REACH }
+    requires low { c ≤ MOST_REACH }
     ensures { IsTrue result ↔ IsTopOf site.entry.ground.instance.now site.entry.plate left right
         item.w item.h c (c + item.h) }
 {
@@ -65,8 +66,8 @@ fn fills(site: Site, left: u32, right: u32, item: Sides, c: u32) -> bool
 /// The least upper side of a band from c on that leaves a waste over the item.
 fn top_over(site: Site, left: u32, right: u32, item: Sides, c: u32) -> Option<u32>
     requires strip { left < right }
-    requires left { left ≤ 40000 }
-    requires low { c ≤ 40000 }
+    requires left { left ≤ MOST_REACH }
+    requires low { c ≤ MOST_REACH }
     ensures { let b = site.entry.ground.instance.now in
         MatchOption result (HasNone (IsOver b site.entry.plate left right item.w item.h c) 0)
         (IsLeast (IsOver b site.entry.plate left right item.w item.h c) 0) }
@@ -95,8 +96,8 @@ fn top_over(site: Site, left: u32, right: u32, item: Sides, c: u32) -> Option<u3
 /// The least upper side of the band of an item that stands at (left, c), in a strip from `left` to `right`.
 fn top_of(site: Site, left: u32, right: u32, item: Sides, c: u32) -> Option<u32>
     requires strip { left < right }
-    requires left { left ≤ 40000 }
-    requires low { c ≤ 40000 }
+    requires left { left ≤ MOST_REACH }
+    requires low { c ≤ MOST_REACH }
     ensures { let b = site.entry.ground.instance.now in
         MatchOption result (HasNone (IsTopOf b site.entry.plate left right item.w item.h c) 0)
         (IsLeast (IsTopOf b site.entry.plate left right item.w item.h c) 0) }
@@ -111,8 +112,8 @@ fn top_of(site: Site, left: u32, right: u32, item: Sides, c: u32) -> Option<u32>
 /// The next place above c where the lower side of the item's band may stand, if it may not stand at c.
 fn blocked_bottom(site: Site, left: u32, right: u32, item: Sides, c: u32) -> Option<u32>
     requires strip { left < right }
-    requires left { left ≤ 40000 }
-    requires low { c ≤ 40000 }
+    requires left { left ≤ MOST_REACH }
+    requires low { c ≤ MOST_REACH }
     ensures { let b = site.entry.ground.instance.now in
         MatchOption result (IsBottomOf b site.entry.plate left right item.w item.h c)
         (IsSkip (IsBottomOf b site.entry.plate left right item.w item.h) c) }
@@ -133,7 +134,7 @@ fn blocked_bottom(site: Site, left: u32, right: u32, item: Sides, c: u32) -> Opt
 /// The least band of an item that stands at the left side of a strip from `left` to `right`, from this lower side on.
 pub fn band_from(site: Site, left: u32, right: u32, item: Sides) -> Option<Band>
     requires strip { left < right }
-    requires left { left ≤ 40000 }
+    requires left { left ≤ MOST_REACH }
     ensures { let b = site.entry.ground.instance.now in
         MatchOption result (HasNone (HasBand b site.entry.plate left right item.w item.h) 0)
         (IsLeastBand b site.entry.plate left right item.w item.h 0) }

@@ -11,6 +11,7 @@ use crate::place::{Place, first_of};
 use crate::places::place_at;
 use crate::site::Site;
 use glass_base::Item;
+use glass_base::limits::MOST_SIDE;
 
 /// The right side of a defect through which the left side of a strip at `left` would run, if there is one.
 fn blocked_line(site: Site, left: u32) -> Option<u32>
@@ -28,7 +29,7 @@ fn blocked_line(site: Site, left: u32) -> Option<u32>
 /// The next place behind `left` where the left side of a strip may stand behind what ends at `from`, if it may not stand at `left`.
 fn blocked_left(site: Site, from: u32, left: u32) -> Option<u32>
     requires from { from ≤ left }
-    requires left { left ≤ 20000 }
+    requires left { left ≤ MOST_SIDE }
     ensures { let b = site.entry.ground.instance.now in
         MatchOption result (IsLeft b site.entry.plate from left)
         (IsSkip (IsLeft b site.entry.plate from) left) }

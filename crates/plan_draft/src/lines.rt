@@ -6,6 +6,7 @@ ghost use Rattle.plan_draft.specs.inner.Least.{IsLeast, IsSkip};
 
 use crate::place::Sides;
 use crate::site::Site;
+use glass_base::limits::MOST_REACH;
 
 /// The right side of a defect through which the upright line at x runs, if there is one. All lines from x to there run through it.
 pub fn blocked_upright(site: Site, x: u32) -> Option<u32>
@@ -61,8 +62,8 @@ pub fn level_from(site: Site, y: u32, x0: u32, x1: u32) -> u32
 
 /// The upper side of a defect that an item at (x, y) meets, if there is one. The item meets it from y to there.
 pub fn blocked_item(site: Site, x: u32, y: u32, item: Sides) -> Option<u32>
-    requires right { x ≤ 40000 }
-    requires upper { y ≤ 40000 }
+    requires right { x ≤ MOST_REACH }
+    requires upper { y ≤ MOST_REACH }
     ensures { let b = site.entry.ground.instance.now in
         MatchOption result (HitsNone b.defects site.entry.plate x y (x + item.w) (y + item.h))
         (IsSkip (λ m. HitsNone b.defects site.entry.plate x m (x + item.w) (m + item.h)) y) }

@@ -2,6 +2,7 @@
 
 ghost use Rattle.std.specs.Prelude.{◌≡◌, ◌≤◌};
 ghost use Rattle.plan_draft.specs.inner.Places.{lesser, not_after, rank_of};
+ghost use Rattle.glass_base.specs.declared.limits.TheConstants.{MOST_SIDE};
 
 /// The sides of an item's strip and band, in mm, and the item's turn. The item stands at (a, c).
 #[derive(Clone, Copy)]
@@ -23,8 +24,8 @@ pub struct Place {
 pub struct Sides {
     pub w: u32,
     pub h: u32,
-    ghost wide: { (1 ≤ w) × (w ≤ 20000) },
-    ghost high: { (1 ≤ h) × (h ≤ 20000) },
+    ghost wide: { (1 ≤ w) × (w ≤ MOST_SIDE) },
+    ghost high: { (1 ≤ h) × (h ≤ MOST_SIDE) },
 }
 
 /// The lower and the upper side of a band, in mm.

@@ -10,8 +10,9 @@ use Rattle.cut_model.specs.Loss.{area_wasted, waste_of}
 use Rattle.cut_model.specs.Visits.{IsSmall}
 use Rattle.loss_area.proofs.Wasting.{waste_of-append}
 use Rattle.plan_freeze.specs.inner.Wasted.{IsWasted, wasted}
+use Rattle.glass_base.specs.declared.limits.TheConstants.{MOST_ROWS, MOST_SIDE}
 
-area_small : (kind : ℤ) (r : Row) → r.width ≤ 20000 → r.height ≤ 20000 → area_wasted kind r ≤ 400000000
+area_small : (kind : ℤ) (r : Row) → r.width ≤ MOST_SIDE → r.height ≤ MOST_SIDE → area_wasted kind r ≤ 400000000
 area_small (negsuc zero) r w h = mul-le-mul w h
 area_small (negsuc (suc n)) r w h = omega arith
 area_small (pos n) r w h = omega arith
@@ -50,5 +51,5 @@ pub wasted_none : {k start : ℕ} → IsWasted k start start []
 wasted_none = record { small = omega arith; exact = λ fits. omega arith }
 
 -- few pieces have little waste, so the sum is exact
-pub wasted_end : {k now count : ℕ} {seen : List Family} → IsWasted k 0 now seen → length seen ≡ count → count ≤ 2000000000 → now ≡ wasted k seen
+pub wasted_end : {k now count : ℕ} {seen : List Family} → IsWasted k 0 now seen → length seen ≡ count → count ≤ MOST_ROWS → now ≡ wasted k seen
 wasted_end {seen = seen} h is few = omega (arith, h.exact (omega (arith, h.small, is, few)))

@@ -14,6 +14,7 @@ use Rattle.cut_model.specs.Tree.{Forest, count, type_number}
 use Rattle.cut_model.proofs.Numbers.{length-families}
 use Rattle.cut_model.proofs.OnPlates.{count-on_plates}
 use Rattle.plan_picture.specs.inner.Surveys.{HasCounted, items_of}
+use Rattle.glass_base.specs.declared.limits.TheConstants.{MOST_ROWS}
 
 named : (sort : Sort) (row : Row) → row.kind ≡ type_number sort → length (cut_order (row ∷ [])) ≡ items_of sort
 named (Sort.Item number) row is = ap (λ (kind : ℤ). length (cut_order (record row { kind = kind } ∷ []))) is
@@ -43,9 +44,9 @@ order_short [] = omega arith
 order_short (row ∷ rows) = omega (arith, order_short rows, one_short (item_named row.kind) (cut_order rows))
 
 -- a plan that fits cuts fewer items than a number of 64 bits can tell
-few_cut : (b : Problem) (plan : Forest) → count plan ≤ 2000000000 → length (cut_order (rows_of b plan)) < 2 ^ 64
+few_cut : (b : Problem) (plan : Forest) → count plan ≤ MOST_ROWS → length (cut_order (rows_of b plan)) < 2 ^ 64
 few_cut b plan few =
     omega (arith, order_short (rows_of b plan), length-map (families_of b plan) (λ (f : Family). f.row), length-families (first_plate b) true 0 (on_plates b plan), count-on_plates b plan)
 
-pub all_counted : (b : Problem) (plan : Forest) (now : ℕ) → count plan ≤ 2000000000 → HasCounted 0 now (rows_of b plan) → now ≡ length (cut_order (rows_of b plan))
+pub all_counted : (b : Problem) (plan : Forest) (now : ℕ) → count plan ≤ MOST_ROWS → HasCounted 0 now (rows_of b plan) → now ≡ length (cut_order (rows_of b plan))
 all_counted b plan now few h = omega (arith, h.counted (omega (arith, few_cut b plan few)))

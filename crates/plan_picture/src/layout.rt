@@ -5,6 +5,7 @@ ghost use Rattle.plan_picture.specs.inner.Layouts.{IsLayout};
 
 use crate::mark::{Frame, Label, Words};
 use cut_model::Row;
+use glass_base::limits::MOST_SIDE;
 
 /// The width of a picture, as a multiple of the size of its text, and that of the glass that fits into it.
 const WIDTH: u64 = 60;
@@ -43,8 +44,8 @@ impl Layout {
 
     /// The layout of plates of this height, the widest of which is so wide. A page is never much higher than wide.
     pub fn new(widest: u32, height: u32) -> Layout
-        requires widest { widest ≤ 20000 }
-        requires height { height ≤ 20000 }
+        requires widest { widest ≤ MOST_SIDE }
+        requires height { height ≤ MOST_SIDE }
         ensures { result.height ≡ height }
     {
         let size = (u64::from(widest) / GLASS).max(u64::from(height) / HIGHEST) + 1;

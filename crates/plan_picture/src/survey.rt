@@ -6,6 +6,7 @@ ghost use Rattle.cut_model.specs.Fits.{Fits};
 ghost use Rattle.cut_model.specs.Order.{cut_order};
 ghost use Rattle.cut_model.specs.Tree.{tree};
 ghost use Rattle.plan_picture.specs.inner.Surveys.{HasCounted, items_of};
+ghost use Rattle.glass_base.specs.declared.limits.TheConstants.{MOST_SIDE};
 
 use cut_model::{Family, Plan, Row, Sort, Visitor, walk};
 use glass_base::Instance;
@@ -16,7 +17,7 @@ use std::convert::Infallible;
 pub(crate) struct Survey {
     pub items: u64,
     pub widest: u32,
-    ghost narrow: { widest ≤ 20000 },
+    ghost narrow: { widest ≤ MOST_SIDE },
 }
 
 /// One more than this number, where the piece is an item. It stops at the greatest number.
@@ -31,9 +32,9 @@ fn one_more(items: u64, sort: Sort) -> u64
 
 /// The greater width, where the row is a plate.
 fn wider(widest: u32, row: &Row) -> u32
-    requires widest { widest ≤ 20000 }
-    requires width { row.now.width ≤ 20000 }
-    ensures { result ≤ 20000 }
+    requires widest { widest ≤ MOST_SIDE }
+    requires width { row.now.width ≤ MOST_SIDE }
+    ensures { result ≤ MOST_SIDE }
 {
     if row.cut == 0 {
         widest.max(row.width)

@@ -25,6 +25,7 @@ use Rattle.plan_trace.proofs.UsedPlates.{all_used, holds_sized, plate_count}
 use Rattle.plan_trace.proofs.Shapes.{canonical_shaped, canonical_count, canonical_holds}
 use Rattle.plan_trace.proofs.Ranges.{plates_in_range}
 use Rattle.plan_trace.proofs.Losses.{canonical_loss, last_few, last_plates}
+use Rattle.glass_base.specs.declared.limits.TheConstants.{MOST_NUMBER, MOST_ROWS}
 
 -- no plate too many is begun
 pub few_begun : (b : Problem) (ss : List Step) → Meets b ss → neighbour_count (canonical b ss) ≤ b.params.plates
@@ -48,15 +49,15 @@ canonical_lawful b rules ss h = record {
 }
 
 -- the numbers of the batch's items are small
-small_numbers : (b : Problem) → IsProblem b → (plan : Forest) → IsLawful b plan → All (λ number. number ≤ 999999999) (items_in plan)
+small_numbers : (b : Problem) → IsProblem b → (plan : Forest) → IsLawful b plan → All (λ number. number ≤ MOST_NUMBER) (items_in plan)
 small_numbers b rules plan lawful =
     let cut : CutsEachOnce b.items (items_in plan) = subst (CutsEachOnce b.items) (rows_cut b plan) lawful.order.each_once in
-    let small : All (λ number. number ≤ 999999999) (map (λ item. item.id) b.items) =
-    All-map (λ number. number ≤ 999999999) (λ (item : Item). item.id) b.items (All-weaker IsItemInRange (λ (item : Item). item.id ≤ 999999999) (λ item h. h.2) b.items rules.items_in_range) in
-    All-weaker (Contains (map (λ item. item.id) b.items)) (λ number. number ≤ 999999999) (λ number has. All-contains (λ n. n ≤ 999999999) (map (λ item. item.id) b.items) number small has) (items_in plan) cut.known
+    let small : All (λ number. number ≤ MOST_NUMBER) (map (λ item. item.id) b.items) =
+    All-map (λ number. number ≤ MOST_NUMBER) (λ (item : Item). item.id) b.items (All-weaker IsItemInRange (λ (item : Item). item.id ≤ MOST_NUMBER) (λ item h. h.2) b.items rules.items_in_range) in
+    All-weaker (Contains (map (λ item. item.id) b.items)) (λ number. number ≤ MOST_NUMBER) (λ number has. All-contains (λ n. n ≤ MOST_NUMBER) (map (λ item. item.id) b.items) number small has) (items_in plan) cut.known
 
 -- a lawful plan is in range
-lawful_fits : (b : Problem) → IsProblem b → (plan : Forest) → IsLawful b plan → count plan ≤ 2000000000 → Fits plan
+lawful_fits : (b : Problem) → IsProblem b → (plan : Forest) → IsLawful b plan → count plan ≤ MOST_ROWS → Fits plan
 lawful_fits b rules plan lawful few = record {
   in_range = plates_in_range b 0 (first_plate b) true 0 plan rules refl b.params.accepted.height_limit lawful.shape
       (All-weaker (KeepsCutRules b) KeepsSum (λ f keeps. keeps.l1) (families_of b plan) lawful.cuts)

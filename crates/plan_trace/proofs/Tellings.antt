@@ -10,6 +10,7 @@ use Rattle.cut_model.specs.declared.steps.Step.{Step}
 use Rattle.plan_trace.specs.declared.here.Here.{Here}
 use Rattle.plan_trace.specs.inner.Tellings.{place_at, place_behind, place_told, steps_told, tell}
 use Rattle.plan_trace.proofs.Serving.{zip_long}
+use Rattle.glass_base.specs.declared.limits.TheConstants.{MOST_ITEMS}
 
 pub place_append : (here : Here) (xs ys : List Family) → place_told here (xs ++ ys) ≡ place_told (place_told here xs) ys
 place_append here [] ys = refl
@@ -29,7 +30,7 @@ steps_append items stacks here (x ∷ xs) ys =
     ∙ tell_append items stacks there x.row.width x.sort (steps_told items stacks (place_behind there x.sort) xs) (steps_told items stacks (place_told (place_behind there x.sort) xs) ys)
 
 -- there are not too many stacks
-pub few_numbers : (b : Problem) → IsProblem b → length (stack_numbers b.items) ≤ 800
+pub few_numbers : (b : Problem) → IsProblem b → length (stack_numbers b.items) ≤ MOST_ITEMS
 few_numbers b rules = omega (arith, rules.few_items, few_stacks b.items b.stacks rules.stacks, zip_long (IsStack b.items) (stack_numbers b.items) b.stacks rules.stacks.each)
 
 -- one more piece

@@ -20,6 +20,7 @@ use Rattle.plan_trace.proofs.Inside.{Adds, Sound, sized_sound}
 use Rattle.plan_trace.proofs.Items.{HasItem, high, item_all, items_all, wide}
 use Rattle.plan_trace.proofs.Served.{spots_count}
 use Rattle.plan_trace.proofs.LaidLemmas.{draws_more}
+use Rattle.glass_base.specs.declared.limits.TheConstants.{MOST_SIDE}
 
 -- what rules read of a placed step
 abbrev pub seen : Cut → Cut
@@ -136,8 +137,8 @@ pub record IsLying (s : Cut) : Type 0 where
   pub right : s.e + s.w ≤ s.b
   pub upper : s.c + s.h ≤ s.d
   pub left : s.a ≤ s.e
-  pub end : s.b ≤ 20000
-  pub top : s.d ≤ 20000
+  pub end : s.b ≤ MOST_SIDE
+  pub top : s.d ≤ MOST_SIDE
 
 -- where a loop over a trace has come to
 pub record Walked (b : Problem) (ss : List Step) (i : ℕ) (last : Laid) : Type 0 where

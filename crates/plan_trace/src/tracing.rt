@@ -10,6 +10,7 @@ ghost use Rattle.cut_model.specs.Traces.{trace_of as trace_of_plan};
 ghost use Rattle.cut_model.specs.Tree.{tree};
 ghost use Rattle.plan_trace.specs.Claims.{IsComplete};
 ghost use Rattle.plan_trace.specs.inner.Tellings.{place_told, stack_in as stack_in_of, step_at as step_at_of, steps_told, tell, turn_at as turn_at_of};
+ghost use Rattle.glass_base.specs.declared.limits.TheConstants.{MOST_ITEMS};
 
 use crate::here::{Here, place_at, place_behind};
 use cut_model::{Family, Plan, Sort, Step, Trace, Visitor, item_numbered, walk};
@@ -25,7 +26,7 @@ fn stack_numbered(stacks: &[u32], number: u32) -> Option<usize>
 
 /// The number of an item's stack, 0 where there is none.
 fn stack_in(stacks: &[u32], item: Option<Item>) -> u32
-    requires { length stacks.now ≤ 800 }
+    requires { length stacks.now ≤ MOST_ITEMS }
     ensures { result ≡ stack_in_of stacks.now item }
 {
     match item {
@@ -49,7 +50,7 @@ fn turn_at(width: u32, item: Option<Item>) -> u32
 
 /// The step of an item in its place.
 fn step_at(items: &[Item], stacks: &[u32], here: Here, width: u32, number: u32) -> Step
-    requires { length stacks.now ≤ 800 }
+    requires { length stacks.now ≤ MOST_ITEMS }
     ensures { result ≡ step_at_of items.now stacks.now here width number }
 {
     let item = item_numbered(items, number);
@@ -75,7 +76,7 @@ fn take_step(
     width: u32,
     sort: Sort,
 ) -> Result<(), Memory>
-    requires { length stacks.now ≤ 800 }
+    requires { length stacks.now ≤ MOST_ITEMS }
     ensures { OnOk result (steps.new.items ≡ steps.old.items
         ++ tell items.now stacks.now here width sort []) }
 {
@@ -94,7 +95,7 @@ struct Tracing<'a> {
     stacks: &'a [u32],
     here: Here,
     steps: Run<Step>,
-    ghost few: { length stacks.now ≤ 800 },
+    ghost few: { length stacks.now ≤ MOST_ITEMS },
 }
 
 impl<'a> Visitor for Tracing<'a> {

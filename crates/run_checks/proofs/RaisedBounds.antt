@@ -19,6 +19,7 @@ use Rattle.cert_log.specs.Good.{Reaches}
 use Rattle.cert_log.proofs.Covers.{bounds_each_plan}
 use Rattle.run_checks.specs.FrozenChecks.{loss_behind}
 use Rattle.run_checks.specs.inner.Checked.{IsRightBehind}
+use Rattle.glass_base.specs.declared.limits.TheConstants.{MOST_SIDE}
 
 -- a lawful plan loses no more than all plates have
 pub loss_small : (b : Problem) (plan : Forest) → IsProblem b → IsLawfulPlan b plan → plan_loss b plan ≤ 400000000000
@@ -26,7 +27,7 @@ loss_small b plan problem lawful =
     let n : ℕ = neighbour_count plan in
     let within : Before b n ≤ 20000000 = omega (arith, before_within b n problem, plates_within b plan lawful, b.params.accepted.few_plates) in
     let glass : b.params.height * Before b n ≤ b.params.height * 20000000 = mul-le-mul_left b.params.height within in
-    let high : b.params.height * 20000000 ≤ 20000 * 20000000 = mul-le-mul_right 20000000 b.params.accepted.height_limit in
+    let high : b.params.height * 20000000 ≤ MOST_SIDE * 20000000 = mul-le-mul_right 20000000 b.params.accepted.height_limit in
     omega (arith, balance b plan problem lawful, glass, high)
 
 -- with what the first plates lose, the loss and the bound stay small

@@ -8,9 +8,10 @@ use Rattle.glass_base.specs.declared.role.Role.TheVariants as role
 use Rattle.glass_io.specs.Told.{Contents}
 use Rattle.run_frame.specs.Answers.{Answer, too_long}
 use Rattle.run_frame.specs.Texts.{Texts, limit_of, or_refused, text_of, text_or_empty, texts_of}
+use Rattle.glass_base.specs.declared.limits.TheConstants.{MOST_CERT_BYTES}
 
 -- no file may have more bytes
-limit_small : (of : Role) → limit_of of ≤ 160000000
+limit_small : (of : Role) → limit_of of ≤ MOST_CERT_BYTES
 limit_small role.Batch = omega arith
 limit_small role.Defects = omega arith
 limit_small role.Params = omega arith
@@ -20,7 +21,7 @@ limit_small role.Plates = omega arith
 limit_small role.Sheet = omega arith
 
 abbrev IsShort : List ℕ → Type 0
-IsShort bytes = length bytes ≤ 160000000
+IsShort bytes = length bytes ≤ MOST_CERT_BYTES
 
 abbrev AreShort : Texts → Type 0
 AreShort [] = Unit {0}
@@ -55,5 +56,5 @@ found_short of (text ∷ texts) h = by (is_role of text.0) (found_short of texts
     by false later = later
 
 -- so no text of a line's files has more
-pub text_short : (held : Contents) (files : List (Role × List ℕ)) (texts : Texts) (of : Role) → texts_of held files ≡ Ok texts → length (text_or_empty texts of) ≤ 160000000
+pub text_short : (held : Contents) (files : List (Role × List ℕ)) (texts : Texts) (of : Role) → texts_of held files ≡ Ok texts → length (text_or_empty texts of) ≤ MOST_CERT_BYTES
 text_short held files texts of is = found_short of texts (subst (λ (r : Result Texts Answer). IfOk r AreShort) is (all_short held files))

@@ -5,6 +5,7 @@ use Rattle.glass_base.specs.declared.role.Role.{Role}
 use Rattle.glass_base.specs.declared.role.Role.TheVariants as role
 use Rattle.glass_io.specs.Told.{Contents}
 use Rattle.run_frame.specs.Answers.{Answer, absent, too_long}
+use Rattle.glass_base.specs.declared.limits.TheConstants.{MOST_CERT_BYTES}
 
 -- texts, each with the role of its file
 abbrev pub Texts : Type 0
@@ -20,7 +21,7 @@ text_or_empty texts of = unwrap_or (text_for texts of) []
 
 -- the greatest number of bytes of a file of this role
 abbrev pub limit_of : Role → ℕ
-limit_of role.Cert = 160000000
+limit_of role.Cert = MOST_CERT_BYTES
 limit_of _ = 4194304
 
 -- the bytes of a file, unless it is not there or has too many

@@ -4,6 +4,7 @@ ghost use Rattle.std.specs.Prelude.{◌≡◌, option_map};
 ghost use Rattle.run_frame.specs.Forms.{texts_in};
 ghost use Rattle.run_frame.specs.Texts.{limit_of, text_for, text_or_empty as text_or_empty_of};
 
+use glass_base::limits::MOST_CERT_BYTES;
 use glass_base::{Role, Run};
 
 /// The text of a file.
@@ -18,7 +19,7 @@ pub fn limit(role: Role) -> u64
     ensures { result ≡ limit_of role }
 {
     match role {
-        Role::Cert => 160_000_000,
+        Role::Cert => MOST_CERT_BYTES,
         Role::Batch | Role::Defects | Role::Params | Role::Plan | Role::Plates | Role::Sheet =>
             4_194_304,
     }

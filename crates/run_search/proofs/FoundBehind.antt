@@ -39,6 +39,7 @@ use Rattle.run_search.specs.inner.Searches.{Certifies, IsFoundBehind, IsHistoryF
 use Rattle.run_checks.proofs.RaisedBounds.{loss_small, raises_some}
 use Rattle.run_search.proofs.Searched.{known, names_causes, of_search}
 use Rattle.run_search.proofs.StoredTexts.{both_said, cert_short, is_text, second_version}
+use Rattle.glass_base.specs.declared.limits.TheConstants.{MOST_BUDGET}
 
 -- its best loss is known
 best_known : (b : Problem) (plan : Forest) (budget : ℕ) (h : History) → IsHistoryFrom b plan budget h → loss_of h.best ≡ Some h.best
@@ -46,7 +47,7 @@ best_known b plan budget h is = known h.best (omega (arith, is.lawful.best_first
 
 -- what the search found
 pub found_from : (b : Problem) (plan : Forest) (budget : ℕ) (h : History) (c : Certificate) (best : Forest) → IsProblem b → (is : IsHistoryFrom b plan budget h) →
-    Certifies b budget is.to_beat h c → IsHead (head_of c) → budget ≤ 10000000 → HasLoss b (loss_of h.best) (Some best) → IsFoundFrom b plan budget c best
+    Certifies b budget is.to_beat h c → IsHead (head_of c) → budget ≤ MOST_BUDGET → HasLoss b (loss_of h.best) (Some best) → IsFoundFrom b plan budget c best
 found_from b plan budget h c best problem is certifies head most has =
     let known_best = best_known b plan budget h is in
     let of : IsLawfulPlan b best × (plan_loss b best ≡ h.best) = subst (λ (o : Option ℕ). HasLoss b o (Some best)) known_best has in
@@ -103,7 +104,7 @@ whole_fits b plan k budget c best whole fits rows best_fits is glued =
     subst Fits (sym glued) (joined_fits k plan best fits best_fits rows (omega (arith, is.few, is.rest_is.rules.few_items)))
 
 -- the texts of the whole plan, if it is not too long for one, and of the certificate are read again
-pub whole_said : (b : Problem) (plan : Forest) (k budget : ℕ) (c : Certificate) (best : Forest) (whole : Plan) → IsProblem b → IsLawfulPlan b plan → k < neighbour_count plan → budget ≤ 10000000 → (is : IsFoundBehind b plan k budget c best) →
+pub whole_said : (b : Problem) (plan : Forest) (k budget : ℕ) (c : Certificate) (best : Forest) (whole : Plan) → IsProblem b → IsLawfulPlan b plan → k < neighbour_count plan → budget ≤ MOST_BUDGET → (is : IsFoundBehind b plan k budget c best) →
     Fits (tree whole) → tree whole ≡ joined (first_plates k plan) best → count (tree whole) ≤ 1000000000 → SayBoth b (Some (solution_text b (tree whole))) (cert_text c) (Some (tree whole)) c
 whole_said b plan k budget c best whole rules lawful fewer small is fits glued few =
     let frozen : IsFrozen b plan k is.left = record { problem = rules; lawful = lawful; fewer = fewer; rest_is = is.rest_is } in
@@ -115,7 +116,7 @@ whole_said b plan k budget c best whole rules lawful fewer small is fits glued f
     both_said b (Some (tree whole)) c said (is_text is.left c is.rest_is.rules is.found.good (second_version c is.found.version) (omega (arith, is.found.in_budget, small)) is.head)
 
 -- it is stored and told
-pub freezes : (b : Problem) (plan : Forest) (k budget more : ℕ) (c : Certificate) (best : Forest) (whole : Plan) (out cert : List ℕ) (answer : Answer) → IsProblem b → IsLawfulPlan b plan → k < neighbour_count plan → budget ≤ 10000000 →
+pub freezes : (b : Problem) (plan : Forest) (k budget more : ℕ) (c : Certificate) (best : Forest) (whole : Plan) (out cert : List ℕ) (answer : Answer) → IsProblem b → IsLawfulPlan b plan → k < neighbour_count plan → budget ≤ MOST_BUDGET →
     IsFoundBehind b plan k budget c best → Fits plan → count plan ≤ 1000000000 → Fits best → more ≡ frozen_loss b plan k → tree whole ≡ joined (first_plates k plan) best → answer ≡ frozen_planned b out cert more c (tree whole) →
     Freezes b k budget plan out cert answer
 freezes b plan k budget more c best whole out cert answer rules lawful fewer small is fits rows best_fits loses glued told = record {

@@ -38,6 +38,7 @@ use Rattle.run_search.specs.Plans.{AreTold, HasLoss, IsOfSearch, course, handled
 use Rattle.run_checks.specs.Checks.{root_ranges}
 use Rattle.run_search.specs.inner.Searches.{AreWatched, Certifies, IsHistory, IsNoGreater, IsSaidByItsText, IsShortToo, IsToldFound, IsWatchedHistory}
 use Rattle.run_search.proofs.StoredTexts.{both_said, cert_short, is_text}
+use Rattle.glass_base.specs.declared.limits.TheConstants.{MOST_BUDGET}
 
 -- a number that is a loss
 pub known : (n : ℕ) → n < no_loss → loss_of n ≡ Some n
@@ -142,7 +143,7 @@ pub names_causes : (floor : ℕ) (c : Certificate) → IsVersionFor floor c → 
 names_causes floor c is = omega (arith, is.0.0, two_or_three floor)
 
 -- what the search found, and its improvements
-pub found : (b : Problem) (budget : ℕ) (watch : Bool) (h : History) (c : Certificate) (plan : Option Forest) (told : Option (List ℕ)) → IsProblem b → budget ≤ 10000000 → (is : IsHistory b budget h)
+pub found : (b : Problem) (budget : ℕ) (watch : Bool) (h : History) (c : Certificate) (plan : Option Forest) (told : Option (List ℕ)) → IsProblem b → budget ≤ MOST_BUDGET → (is : IsHistory b budget h)
     → Certifies b budget is.to_beat h c → HasLoss b (loss_of h.best) plan → IsSaidByItsText b plan → IsShortToo b plan → IsHead (head_of c) → AreTold b is.to_beat c.loss watch told
     → IsToldFound b budget watch c plan told
 found b budget watch h c plan told problem most is certifies has said short head improvements =

@@ -32,6 +32,7 @@ use Rattle.run_checks.specs.Checks.{IsAccepted, IsLawfulToo, loss_in, root_range
 use Rattle.run_search.specs.Plans.{HasLoss, handled, most_work}
 use Rattle.run_checks.specs.Said.{IsPlanIn, SayBoth}
 use Rattle.run_frame.specs.Texts.{limit_of}
+use Rattle.glass_base.specs.declared.limits.TheConstants.{MOST_BUDGET, MOST_ITEMS}
 
 -- the canonical plan of a trace is writable
 writable : (b : Problem) (plan : Plan) → IsProblem b → IsGoodPlan b (tree plan) → IsWritable b (tree plan)
@@ -49,22 +50,22 @@ plan_short b plan problem good =
     let short = short_text b plan problem (writable b plan problem good) in omega (arith, short, good.few, problem.few_items)
 
 -- the text of a certificate of a search is no longer than one that is read
-pub cert_short : (b : Problem) (c : Certificate) (budget : ℕ) → IsProblem b → IsGood b (root_ranges b) c.loss c → 2 ≤ c.version → IsHead (head_of c) → handled c ≤ budget → budget ≤ 10000000
+pub cert_short : (b : Problem) (c : Certificate) (budget : ℕ) → IsProblem b → IsGood b (root_ranges b) c.loss c → 2 ≤ c.version → IsHead (head_of c) → handled c ≤ budget → budget ≤ MOST_BUDGET
     → length (cert_text c) ≤ limit_of role.Cert
 cert_short b c budget problem good names head in_budget most =
     let short = short_texts b c.loss c problem good names head in omega (arith, short, in_budget, most)
 
-few_steps : (steps : ℕ) → steps ≤ 800 → (node : Node) → StepBelow steps node → StepBelow 800 node
+few_steps : (steps : ℕ) → steps ≤ MOST_ITEMS → (node : Node) → StepBelow steps node → StepBelow MOST_ITEMS node
 few_steps steps few (Node.Split step v) below = omega arith
 few_steps steps few (Node.Closed cause) below = tt
 few_steps steps few Node.Left below = tt
 
 -- a certificate that is right for the box of all plans splits at steps below 800
-steps_below : (b : Problem) (loss : Option ℕ) (c : Certificate) → IsProblem b → IsGood b (root_ranges b) loss c → StepsBelow 800 c
+steps_below : (b : Problem) (loss : Option ℕ) (c : Certificate) → IsProblem b → IsGood b (root_ranges b) loss c → StepsBelow MOST_ITEMS c
 steps_below b loss c problem good =
     let steps = length (root_ranges b) in
-    let few : steps ≤ 800 = omega (arith, (root_is_box (frame_of b) 0).each_step, problem.few_items) in
-    All-weaker (StepBelow steps) (StepBelow 800) (few_steps steps few) c.nodes.items (good_steps b (root_ranges b) loss c good)
+    let few : steps ≤ MOST_ITEMS = omega (arith, (root_is_box (frame_of b) 0).each_step, problem.few_items) in
+    All-weaker (StepBelow steps) (StepBelow MOST_ITEMS) (few_steps steps few) c.nodes.items (good_steps b (root_ranges b) loss c good)
 
 -- a certificate of version 2 has a version
 pub second_version : (c : Certificate) → IsVersion 2 c → HasVersion c

@@ -23,6 +23,7 @@ use Rattle.run_frame.specs.Answers.{Answer, Store, bad_input}
 use Rattle.run_checks.specs.Checks.{root_ranges}
 use Rattle.run_checks.specs.Said.{SayBoth}
 use Rattle.run_frame.specs.Texts.{limit_of}
+use Rattle.run_search.specs.declared.planning.TheConstants.{MOST_WORK}
 
 -- how many boxes a certificate tells of that were closed or split
 abbrev pub handled : Certificate → ℕ
@@ -158,7 +159,7 @@ planned b out cert c plan told = record {
 
 -- the most that the number of items times the budget may be
 abbrev pub most_work : ℕ
-most_work = 160000000
+most_work = MOST_WORK
 
 -- what a search found is stored under these names and told, with its improvements where they are watched; where fronts are not asked, it has
 -- no floor

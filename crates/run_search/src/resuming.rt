@@ -27,6 +27,7 @@ use command_line::Product;
 use cut_model::{Plan, Trace};
 use defect_map::{DefectMap, Ground};
 use first_plan::Start;
+use glass_base::limits::MOST_CERT_BYTES;
 use glass_base::{Instance, Memory, Role, Run};
 use plan_box::PlanBox;
 use plan_trace::trace_of;
@@ -85,7 +86,7 @@ fn history_of_open<R: Threads + Wait + Sync, G: Gate + Sync>(
     boxes: Run<PlanBox>,
     start: Start,
 ) -> Result<History, Memory>
-    requires few { length boxes.items ≤ 160000000 }
+    requires few { length boxes.items ≤ MOST_CERT_BYTES }
     requires ids { numbered 0 boxes.items }
     requires frames { All (λ (x : PlainBox). x.frame ≡ frame_of ground.instance.now) boxes.items }
     requires first { IsFirst ground.instance.now start.first }
@@ -112,7 +113,7 @@ fn go_on<R: Threads + Wait + Sync, G: Gate + Sync>(
     requires good { IsGood ground.instance.now (root_ranges ground.instance.now)
         (loss_in ground.instance.now (option_map tree checked.now.plan)) checked.now.certificate }
     requires version { HasVersion checked.now.certificate }
-    requires few { checked.now.certificate.left ≤ 160000000 }
+    requires few { checked.now.certificate.left ≤ MOST_CERT_BYTES }
     ensures resumed { IfOk result (λ found. ResumesEachBox ground.entry.instance.now
         workforce.now.budget (option_map tree checked.now.plan) checked.now.certificate
         found.certificate (option_map tree found.plan)) }

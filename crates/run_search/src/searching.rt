@@ -15,6 +15,7 @@ use box_workers::{Gate, first_loss, search, search_watched, start_boxes};
 use cert_log::History;
 use defect_map::Ground;
 use first_plan::Start;
+use glass_base::limits::MOST_CERT_BYTES;
 use glass_base::{Instance, Memory, Run};
 use plan_box::PlanBox;
 use shared_best::SharedBest;
@@ -38,7 +39,7 @@ fn search_of_boxes<R: Threads + Wait + Sync, G: Gate + Sync>(
     start: Start,
     watch: bool,
 ) -> Result<Searched, Memory>
-    requires boxes { (1 ≤ length boxes.items) × (length boxes.items ≤ 160000000) }
+    requires boxes { (1 ≤ length boxes.items) × (length boxes.items ≤ MOST_CERT_BYTES) }
     requires ids { numbered 0 boxes.items }
     requires frames { All (λ (x : PlainBox). x.frame ≡ frame_of ground.instance.now) boxes.items }
     requires first { IsFirst ground.instance.now start.first }
@@ -103,7 +104,7 @@ pub(crate) fn history_of_boxes<R: Threads + Wait + Sync, G: Gate + Sync>(
     boxes: Run<PlanBox>,
     start: Start,
 ) -> Result<History, Memory>
-    requires boxes { (1 ≤ length boxes.items) × (length boxes.items ≤ 160000000) }
+    requires boxes { (1 ≤ length boxes.items) × (length boxes.items ≤ MOST_CERT_BYTES) }
     requires ids { numbered 0 boxes.items }
     requires frames { All (λ (x : PlainBox). x.frame ≡ frame_of ground.instance.now) boxes.items }
     requires first { IsFirst ground.instance.now start.first }

@@ -1,6 +1,7 @@
 //! Who handles the boxes of a search, and how many.
 
 ghost use Rattle.std.specs.Prelude.{◌≤◌};
+ghost use Rattle.glass_base.specs.declared.limits.TheConstants.{MOST_BUDGET};
 
 /// The workers of a search: how many there are, how many boxes they may close or split, on what they run, and the gate that they pass.
 #[derive(Drop)]
@@ -12,5 +13,5 @@ pub struct Workforce<'a, R, G> {
     /// From 1 to 10,000,000.
     pub budget: u32,
     ghost manned: { (1 ≤ workers) × (workers ≤ 8) },
-    ghost bounded: { (1 ≤ budget) × (budget ≤ 10000000) },
+    ghost bounded: { (1 ≤ budget) × (budget ≤ MOST_BUDGET) },
 }

@@ -6,6 +6,7 @@ use Rattle.glass_base.specs.declared.bad_text.BadText.TheVariants as bad
 use Rattle.glass_base.specs.declared.item.Defect.{Defect}
 use Rattle.csv_table.specs.Numbers.{millionths_in}
 use Rattle.csv_table.specs.Readings.{◌>>=◌, measure_in, table, whole_in}
+use Rattle.glass_base.specs.declared.limits.TheConstants.{MOST_NUMBER, MOST_SIDE}
 
 -- the greatest whole number that is not above so many millionths, and the least that is not below them
 abbrev pub down : ℕ → ℕ
@@ -23,12 +24,12 @@ widened row plate x y width height =
 unfoldable pub defect_at : ℕ → List (List ℕ) → Result Defect BadText
 defect_at row fields =
     if length fields == 6 then (do
-      id ← whole_in row 1 999999999 (field_at fields 0)
-      plate ← whole_in row 2 999999999 (field_at fields 1)
-      x ← measure_in row 3 20000 (field_at fields 2)
-      y ← measure_in row 4 20000 (field_at fields 3)
-      width ← measure_in row 5 20000 (field_at fields 4)
-      height ← measure_in row 6 20000 (field_at fields 5)
+      id ← whole_in row 1 MOST_NUMBER (field_at fields 0)
+      plate ← whole_in row 2 MOST_NUMBER (field_at fields 1)
+      x ← measure_in row 3 MOST_SIDE (field_at fields 2)
+      y ← measure_in row 4 MOST_SIDE (field_at fields 3)
+      width ← measure_in row 5 MOST_SIDE (field_at fields 4)
+      height ← measure_in row 6 MOST_SIDE (field_at fields 5)
       widened row plate (millionths_in x) (millionths_in y) (millionths_in width) (millionths_in height))
     else Err (bad.Record row (length fields))
 

@@ -7,6 +7,7 @@ use Rattle.glass_base.specs.declared.bad_text.BadText.TheVariants as bad
 use Rattle.glass_base.specs.declared.params.Params.{Params}
 use Rattle.csv_table.specs.Readings.{◌>>=◌, table, whole_in}
 use Rattle.stock_csv.specs.declared.plates.PlateWidth.{PlateWidth}
+use Rattle.glass_base.specs.declared.limits.TheConstants.{MOST_NUMBER, MOST_SIDE}
 
 -- a plate of this width, which is not 0
 abbrev pub wide_plate : ℕ → ℕ → ℕ → Result PlateWidth BadText
@@ -16,8 +17,8 @@ wide_plate row plate width = if width == 0 then Err (bad.ZeroWidth row) else Ok 
 unfoldable pub plate_at : ℕ → List (List ℕ) → Result PlateWidth BadText
 plate_at row fields =
     if length fields == 2 then (do
-      plate ← whole_in row 1 999999999 (field_at fields 0)
-      width ← whole_in row 2 20000 (field_at fields 1)
+      plate ← whole_in row 1 MOST_NUMBER (field_at fields 0)
+      width ← whole_in row 2 MOST_SIDE (field_at fields 1)
       wide_plate row plate width)
     else Err (bad.Record row (length fields))
 

@@ -12,6 +12,7 @@ use Rattle.csv_table.specs.Readings.{◌>>=◌, Fails, table, whole_in}
 use Rattle.stock_csv.specs.declared.parameters.Name.{Name}
 use Rattle.stock_csv.specs.declared.parameters.Name.TheVariants.{Plates, Width, Height, Min1, Max1, Min2, Waste}
 use Rattle.stock_csv.specs.declared.parameters.Setting.{Setting}
+use Rattle.glass_base.specs.declared.limits.TheConstants.{MOST_NUMBER}
 
 -- the parameter of this name, which is compared byte by byte
 abbrev pub parameter_named : List ℕ → Option Name
@@ -33,7 +34,7 @@ parameter_in (Some field) = parameter_named (trimmed field)
 -- a row of another name is ignored with its value
 abbrev pub setting : ℕ → Option Name → Option (List ℕ) → Result (Option Setting) BadText
 setting row None value = Ok None
-setting row (Some name) value = whole_in row 2 999999999 value >>= λ n. Ok (Some (record { name = name; value = n }))
+setting row (Some name) value = whole_in row 2 MOST_NUMBER value >>= λ n. Ok (Some (record { name = name; value = n }))
 
 -- what a row sets, if anything: a name and its value
 unfoldable pub setting_at : ℕ → List (List ℕ) → Result (Option Setting) BadText

@@ -9,14 +9,9 @@ ghost use Rattle.stock_csv.specs.DefectRows.{defect_at, defects_of};
 use crate::widening::widened;
 use csv::ByteRecord;
 use csv_table::{Rows, measure_at, whole_at};
+use glass_base::limits::{MOST_NUMBER, MOST_SIDE};
 use glass_base::{BadText, Defect, Run, append};
 use std::alloc::Global;
-
-/// The greatest number of a defect or a plate.
-const NUMBER_LIMIT: u32 = 999_999_999;
-
-/// The greatest corner or side of a defect, in mm.
-const LENGTH_LIMIT: u32 = 20_000;
 
 /// The defect of a row.
 #[tactic(auto, unfolding(crate::specs::DefectRows::defect_at))]
@@ -27,12 +22,12 @@ fn defect_of(row: u64, fields: &ByteRecord) -> Result<Defect, BadText>
     if fields.len() != 6 {
         return Err(BadText::Record(row, fields.len() as u64));
     }
-    let _number = whole_at(row, 1, NUMBER_LIMIT, fields)?;
-    let plate = whole_at(row, 2, NUMBER_LIMIT, fields)?;
-    let x = measure_at(row, 3, LENGTH_LIMIT, fields)?;
-    let y = measure_at(row, 4, LENGTH_LIMIT, fields)?;
-    let width = measure_at(row, 5, LENGTH_LIMIT, fields)?;
-    let height = measure_at(row, 6, LENGTH_LIMIT, fields)?;
+    let _number = whole_at(row, 1, MOST_NUMBER, fields)?;
+    let plate = whole_at(row, 2, MOST_NUMBER, fields)?;
+    let x = measure_at(row, 3, MOST_SIDE, fields)?;
+    let y = measure_at(row, 4, MOST_SIDE, fields)?;
+    let width = measure_at(row, 5, MOST_SIDE, fields)?;
+    let height = measure_at(row, 6, MOST_SIDE, fields)?;
     widened(row, plate, x, y, width, height)
 }
 

@@ -8,11 +8,9 @@ ghost use Rattle.stock_csv.specs.Settings.{ReadAs, GivesSizes, RefusesSettings, 
 
 use csv::ByteRecord;
 use csv_table::{Rows, trim, whole_at};
+use glass_base::limits::MOST_NUMBER;
 use glass_base::{BadText, Params, Sizes};
 use std::alloc::Global;
-
-/// The greatest value of a parameter.
-const VALUE_LIMIT: u32 = 999_999_999;
 
 /// A parameter.
 #[derive(Clone, Copy, Debug, PartialEq, Eq)]
@@ -130,7 +128,7 @@ fn setting_of(row: u64, fields: &ByteRecord) -> Result<Option<Setting>, BadText>
     match parameter_at(fields) {
         None => Ok(None),
         Some(name) => {
-            let value = whole_at(row, 2, VALUE_LIMIT, fields)?;
+            let value = whole_at(row, 2, MOST_NUMBER, fields)?;
             Ok(Some(Setting { name, value }))
         }
     }

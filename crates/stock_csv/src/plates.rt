@@ -9,14 +9,9 @@ ghost use Rattle.stock_csv.specs.inner.WidthRows.{widths_by};
 
 use csv::ByteRecord;
 use csv_table::{Rows, whole_at};
+use glass_base::limits::{MOST_NUMBER, MOST_SIDE};
 use glass_base::{BadText, Params, Run, same_widths};
 use std::alloc::Global;
-
-/// The greatest number of a plate in a file.
-const NUMBER_LIMIT: u32 = 999_999_999;
-
-/// The greatest width of a plate, in mm.
-const WIDTH_LIMIT: u32 = 20_000;
 
 /// A plate of a width of its own.
 #[derive(Clone, Copy, Debug)]
@@ -36,8 +31,8 @@ fn plate_of(row: u64, fields: &ByteRecord) -> Result<PlateWidth, BadText>
     if fields.len() != 2 {
         return Err(BadText::Record(row, fields.len() as u64));
     }
-    let plate = whole_at(row, 1, NUMBER_LIMIT, fields)?;
-    let width = whole_at(row, 2, WIDTH_LIMIT, fields)?;
+    let plate = whole_at(row, 1, MOST_NUMBER, fields)?;
+    let width = whole_at(row, 2, MOST_SIDE, fields)?;
     if width == 0 {
         return Err(BadText::ZeroWidth(row));
     }

@@ -6,11 +6,12 @@ ghost use Rattle.glass_base.specs.Items.{IsDefectInRange};
 ghost use Rattle.stock_csv.specs.DefectRows.{down, up, widened as widened_of};
 
 use csv_table::Decimal;
+use glass_base::limits::MOST_SIDE;
 use glass_base::{BadText, Defect};
 
 /// The greatest whole number that is not above a number.
 fn floor(number: Decimal) -> u32
-    requires { IsAtMost 20000 number }
+    requires { IsAtMost MOST_SIDE number }
     ensures { result ≡ down (millionths_in number) }
 {
     number.whole
@@ -18,8 +19,8 @@ fn floor(number: Decimal) -> u32
 
 /// The least whole number that is not below the sum of two numbers.
 fn ceiling_of_sum(corner: Decimal, side: Decimal) -> u32
-    requires corner { IsAtMost 20000 corner }
-    requires side { IsAtMost 20000 side }
+    requires corner { IsAtMost MOST_SIDE corner }
+    requires side { IsAtMost MOST_SIDE side }
     ensures { result ≡ up (millionths_in corner + millionths_in side) }
 {
     corner.whole + side.whole + (corner.millionths + side.millionths).div_ceil(1_000_000)
@@ -41,10 +42,10 @@ pub(crate) fn widened(
     width: Decimal,
     height: Decimal,
 ) -> Result<Defect, BadText>
-    requires x { IsAtMost 20000 x }
-    requires y { IsAtMost 20000 y }
-    requires width { IsAtMost 20000 width }
-    requires height { IsAtMost 20000 height }
+    requires x { IsAtMost MOST_SIDE x }
+    requires y { IsAtMost MOST_SIDE y }
+    requires width { IsAtMost MOST_SIDE width }
+    requires height { IsAtMost MOST_SIDE height }
     ensures value { result ≡ widened_of row plate (millionths_in x) (millionths_in y)
         (millionths_in width) (millionths_in height) }
     ensures range { IfOk result IsDefectInRange }

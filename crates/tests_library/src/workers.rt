@@ -6,6 +6,7 @@ ghost use Rattle.box_ring.specs.Arms.{frame as frame_at};
 use box_ring::{Arm, ring};
 use box_workers::{Hand, NoPoster, OpenGate, Rest, work};
 use defect_map::DefectMap;
+use glass_base::limits::MOST_BUDGET;
 use glass_base::{Instance, Item, Memory, Params, Run, append};
 use plan_box::{Frame, PlanBox};
 use shared_best::{NONE, SharedBest};
@@ -53,7 +54,7 @@ fn worked<R: Wait>(
     arm: &mut Arm,
 ) -> Result<(Rest, Hand), Memory>
     requires map { map.now ≡ instance.now.defects }
-    requires budget { budget ≤ 10000000 }
+    requires budget { budget ≤ MOST_BUDGET }
     requires ring { frame_at arm.old ≡ frame_of instance.now }
     requires misses { arm.old.misses ≡ 0 }
 {

@@ -4,6 +4,7 @@ ghost use Rattle.std.specs.Prelude.{◌≤◌};
 use crate::searched::{each_once, searched, small};
 use box_workers::{OpenGate, start_boxes};
 use cert_log::{History, Left};
+use glass_base::limits::MOST_BUDGET;
 use glass_base::{Instance, Memory};
 use std::alloc::Global;
 use std::process::Abort;
@@ -20,7 +21,7 @@ fn search_all<R: Threads + Wait + Sync>(
     budget: u64,
 ) -> Result<History, Memory>
     requires workers { (1 ≤ workers) × (workers ≤ 8) }
-    requires budget { (1 ≤ budget) × (budget ≤ 10000000) }
+    requires budget { (1 ≤ budget) × (budget ≤ MOST_BUDGET) }
 {
     let start = start_boxes(alloc, instance)?;
     searched(rt, alloc, instance, start, workers, budget, &OpenGate)

@@ -7,6 +7,7 @@ ghost use Rattle.cert_log.specs.Lawful.{numbered};
 use box_workers::{Gate, search};
 use cert_log::{History, Note};
 use defect_map::DefectMap;
+use glass_base::limits::{MOST_BUDGET, MOST_CERT_BYTES};
 use glass_base::{Instance, Item, Memory, Params, Run, append};
 use plan_box::PlanBox;
 use shared_best::{NONE, SharedBest};
@@ -40,11 +41,11 @@ pub(crate) fn searched<R: Threads + Wait + Sync, G: Gate + Sync>(
     budget: u64,
     gate: &G,
 ) -> Result<History, Memory>
-    requires starts { (1 ≤ length start.items) × (length start.items ≤ 160000000) }
+    requires starts { (1 ≤ length start.items) × (length start.items ≤ MOST_CERT_BYTES) }
     requires ids { numbered 0 start.items }
     requires frames { All (λ (x : PlainBox). x.frame ≡ frame_of instance.now) start.items }
     requires workers { (1 ≤ workers) × (workers ≤ 8) }
-    requires budget { (1 ≤ budget) × (budget ≤ 10000000) }
+    requires budget { (1 ≤ budget) × (budget ≤ MOST_BUDGET) }
 {
     let map = DefectMap::new(alloc, instance)?;
     let (shared, mut seat) = SharedBest::new(alloc, NONE, budget)?;

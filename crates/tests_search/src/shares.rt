@@ -5,6 +5,7 @@ ghost use Rattle.glass_base.specs.Items.{IsItemInRange};
 
 use crate::searched::{each_once, searched};
 use box_workers::{Gate, PatientGate, start_boxes};
+use glass_base::limits::{MOST_NUMBER, MOST_SIDE};
 use glass_base::{Instance, Item, Memory, Params, Run};
 use std::alloc::Global;
 use std::sync::Wait;
@@ -12,8 +13,9 @@ use std::sync::atomic::{AtomicBool, AtomicU32, Ordering};
 use std::test::Fail;
 use std::thread::{Threads, yield_now};
 
-/// A worker waits so many turns for the others to come, and then gives up.
-const MOST_TURNS: u32 = 20_000_000;
+/// A worker waits so many turns for the others to come, and then gives up. That takes minutes: threads come late where the machine has
+/// much else to do.
+const MOST_TURNS: u32 = 1_000_000_000;
 
 /// A box waits so many turns for workers that have had none, and then goes on.
 const FEW_TURNS: u32 = 100;
@@ -94,7 +96,7 @@ impl Gate for Muster {
 
 /// An item of these sides that is alone in its stack.
 fn item(number: u32, length: u32, width: u32) -> Item
-    requires { (number ≤ 999999999) × (length ≤ 20000) × (width ≤ 20000) }
+    requires { (number ≤ MOST_NUMBER) × (length ≤ MOST_SIDE) × (width ≤ MOST_SIDE) }
     ensures { IsItemInRange result }
 {
     Item {

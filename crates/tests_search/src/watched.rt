@@ -9,6 +9,7 @@ use crate::searched::small;
 use best_board::Entry;
 use box_workers::{OpenGate, search_watched};
 use defect_map::DefectMap;
+use glass_base::limits::MOST_CERT_BYTES;
 use glass_base::{Instance, Memory, Run};
 use plan_box::PlanBox;
 use shared_best::{NONE, SharedBest};
@@ -39,7 +40,7 @@ fn watched<R: Threads + Wait + Sync>(
     instance: &Instance,
     start: Run<PlanBox>,
 ) -> Result<[Option<u64>; 3], Memory>
-    requires starts { (1 ≤ length start.items) × (length start.items ≤ 160000000) }
+    requires starts { (1 ≤ length start.items) × (length start.items ≤ MOST_CERT_BYTES) }
     requires ids { numbered 0 start.items }
     requires frames { All (λ (x : PlainBox). x.frame ≡ frame_of instance.now) start.items }
 {

@@ -9,6 +9,7 @@ use Rattle.plan_box.specs.Ranges.{Ranges}
 use Rattle.cert_check.specs.declared.scratch.Scratch.{Scratch}
 use Rattle.cert_check.specs.declared.steps.Decided.{Decided}
 use Rattle.plan_box.specs.Within.{AreWithin}
+use Rattle.glass_base.specs.declared.limits.TheConstants.{MOST_ITEMS, MOST_LENGTH}
 
 -- the place of a step
 abbrev pub place_in : Decided → Place
@@ -54,13 +55,13 @@ with_place k p = record k { place = p }
 -- the decided steps of a box, with what is known of each; none of their numbers is large
 pub record AreKnown (b : Problem) (rs : List Ranges) (steps : List Decided) : Type 0 where
   pub values : map fixed_of steps ≡ known b rs
-  pub within : All (λ k. AreWithin 40000000 (known_in k)) steps
+  pub within : All (λ k. AreWithin MOST_LENGTH (known_in k)) steps
 
 -- the lists have a place for each of so many items, and for each stack
 pub record HasRoom (items : ℕ) (s : Scratch) : Type 0 where
   pub steps : length s.steps.items ≡ items
   pub numbers : length s.numbers.items ≡ items
-  pub taken : length s.taken.items ≡ 800
+  pub taken : length s.taken.items ≡ MOST_ITEMS
 
 -- what some steps begin
 abbrev pub levels_in : List Decided → List Level

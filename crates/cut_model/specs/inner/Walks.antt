@@ -7,6 +7,7 @@ use Rattle.cut_model.specs.Tree.{Forest, children_in}
 use Rattle.cut_model.specs.Families.{family_with, inside}
 use Rattle.cut_model.specs.Visits.{IsSmall, Tells}
 use Rattle.cut_model.specs.inner.Room.{FitsIn}
+use Rattle.glass_base.specs.declared.limits.TheConstants.{MOST_ROWS, MOST_SIDE}
 
 -- these families were told, and `next` is the node number after theirs
 pub record Walked {S : Type 0} (HasSeen : S → S → List Family → Type 0) (old new : S) (told : List Family) (next wanted : ℕ) : Type 0 where
@@ -17,14 +18,14 @@ pub record Walked {S : Type 0} (HasSeen : S → S → List Family → Type 0) (o
 pub record IsStart (level node : ℕ) (at : Area) : Type 0 where
   pub cut : at.cut ≡ level
   pub plate : at.plate ≤ node
-  pub x : at.x ≤ 20000 * level
-  pub y : at.y ≤ 20000 * level
-  pub width : at.width ≤ 20000
-  pub height : at.height ≤ 20000
+  pub x : at.x ≤ MOST_SIDE * level
+  pub y : at.y ≤ MOST_SIDE * level
+  pub width : at.width ≤ MOST_SIDE
+  pub height : at.height ≤ MOST_SIDE
 
 -- a piece at this place, and what is inside it, are in range
 pub record NextWithin (level node : ℕ) (at : Area) (first ends : Bool) (size : ℕ) (sort : Sort) (inner : Forest) : Type 0 where
   pub small : IsSmall (family_with at first ends node size sort (children_in inner))
   pub start : IsStart (level + 1) (node + 1) (inside (family_with at first ends node size sort (children_in inner)))
-  pub fits : FitsIn 20000 2000000000 inner
-  pub short : size ≤ 20000
+  pub fits : FitsIn MOST_SIDE MOST_ROWS inner
+  pub short : size ≤ MOST_SIDE

@@ -5,6 +5,7 @@ use Rattle.front_bound.specs.declared.nearby.Class.{Class}
 use Rattle.front_bound.specs.declared.nearby.Space.{Space}
 use Rattle.front_bound.specs.declared.rows.Row.{Row}
 use Rattle.front_bound.specs.declared.table.Fronts.{Fronts}
+use Rattle.glass_base.specs.declared.limits.TheConstants.{MOST_PLATES}
 
 -- there are lists of labels for each row
 pub record IsRoomy (rows : List Row) (space : Space) : Type 0 where
@@ -14,7 +15,7 @@ pub record IsRoomy (rows : List Row) (space : Space) : Type 0 where
 
 -- a class is one of those that the fronts have, and of its strips those that have room are no wider than its bound
 pub record IsClass (b : Problem) (fronts : Fronts) (c : Class) : Type 0 where
-  pub plate : c.plate ≤ 1000
+  pub plate : c.plate ≤ MOST_PLATES
   pub class : c.limits.class < length fronts.tops.now
   pub top : c.limits.top ≡ slice_index_or fronts.tops.now c.limits.class 0
   pub height : c.limits.height ≡ b.params.height

@@ -16,6 +16,7 @@ use Rattle.plan_csv.specs.PlanRows.{◌>>=◌, row_in}
 use Rattle.plan_csv.specs.PlanTexts.{cell_refusal, filled_by, grown, lies, names_branch, or_refusal, row_refusal}
 use Rattle.plan_csv.specs.declared.nodes.Node.{Node}
 use Rattle.plan_csv.specs.declared.nodes.Nodes.{Nodes}
+use Rattle.glass_base.specs.declared.limits.TheConstants.{MOST_SIDE}
 
 -- the row of this node number
 abbrev pub row_with : ℕ → List Row → Option Row
@@ -51,7 +52,7 @@ pub record IsNode (rows : List Row) (number : ℕ) (n : Node) : Type 0 where
   pub children_are : n.children.items ≡ rows_in number rows
   pub sound : All (IsChild rows n.row) (rows_in number rows)
   pub filled_is : n.filled ≡ filled_by (n.row.cut + 1) rows number
-  pub low : n.filled ≤ 20000
+  pub low : n.filled ≤ MOST_SIDE
 
 -- what is kept of a number: nothing, where no row has it
 abbrev pub IsNamed : List Row → ℕ → Option Node → Type 0
@@ -69,7 +70,7 @@ pub record IsUnder (rows : List Row) (r : Row) (parent : ℕ) : Type 0 where
   pub above : Row
   pub found : row_with parent rows ≡ Some above
   pub with : GoesWith above r
-  pub room : filled_by r.cut rows parent + side_filled r ≤ 20000
+  pub room : filled_by r.cut rows parent + side_filled r ≤ MOST_SIDE
 
 -- a row that fits behind these rows, by its level and its parent
 abbrev pub IsPlaced : List Row → Row → ℕ → Option ℕ → Type 0
@@ -111,7 +112,7 @@ IsAttached r (Some parent) old new =
 -- there is a node, with room for a row
 abbrev pub HasSpace : Row → Option Node → Type 0
 HasSpace r None = ⊥
-HasSpace r (Some n) = n.filled + side_filled r ≤ 20000
+HasSpace r (Some n) = n.filled + side_filled r ≤ MOST_SIDE
 
 -- one of these rows that is a piece made by a cut of this level
 pub record IsPiece (rows : List Row) (level : ℕ) (r : Row) : Type 0 where

@@ -10,6 +10,7 @@ use Rattle.cut_model.specs.Steps.{plates_after}
 use Rattle.defect_map.specs.Queries.{CrossesNoneX, CrossesNoneY}
 use Rattle.plan_trace.specs.declared.laid.Laid.{Laid}
 use Rattle.plan_trace.specs.Marks.{Level, NewPlate, Over, level_of, Draw, draw_of, drawn, begins, item_width, item_height, cell_width, no_place, Cut, no_cut, Spot, spot}
+use Rattle.glass_base.specs.declared.limits.TheConstants.{MOST_SIDE}
 
 -- the draws of steps before others, the newest first
 abbrev pub draws_before : List Step → List Draw → List Draw
@@ -77,8 +78,8 @@ pub record IsFitted (s : Laid) : Type 0 where
   pub right : s.step.e + s.w ≤ s.step.b
   pub upper : s.step.c + s.h ≤ s.step.d
   pub left : s.step.a ≤ s.step.e
-  pub end : s.step.b ≤ 20000
-  pub top : s.step.d ≤ 20000
+  pub end : s.step.b ≤ MOST_SIDE
+  pub top : s.step.d ≤ MOST_SIDE
 
 -- an item over another one fills the cell with it; `m` is the level of the step before
 abbrev pub OverFits : Level → Cut → Cut → Type 0

@@ -10,6 +10,7 @@ use Rattle.plan_box.proofs.Following.{followed_last}
 use Rattle.plan_box.proofs.Limits.{known_within}
 use Rattle.plan_box.proofs.Sizes.{within_more, within_same}
 use Rattle.box_bound.proofs.bounding.last_step.Goals as goal
+use Rattle.glass_base.specs.declared.limits.TheConstants.{MOST_LENGTH}
 
 pub next-last-requires-clause-within : goal.next-last-requires-clause-within
 next-last-requires-clause-within c =
@@ -33,5 +34,5 @@ returns-clause-within c =
     let ranges = c.args.ranges.now in
     let i = c.loop-i.i in
     let here = known_within c.args.instance.now c.items-items.ensures.rules ranges i (early c.loop-i.last) c.loop-i.invariant.last c.requires.within in
-    within_same 40000000 40000000 (late c.loop-i.last) (early c.loop-i.last) c.loop-i.invariant.ends refl
-    (within_more (limit (length (take i ranges))) 40000000 (early c.loop-i.last) (omega (arith, c.requires.few, length-take-le i ranges (omega arith))) here)
+    within_same MOST_LENGTH MOST_LENGTH (late c.loop-i.last) (early c.loop-i.last) c.loop-i.invariant.ends refl
+    (within_more (limit (length (take i ranges))) MOST_LENGTH (early c.loop-i.last) (omega (arith, c.requires.few, length-take-le i ranges (omega arith))) here)

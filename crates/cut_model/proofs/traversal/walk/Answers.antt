@@ -5,12 +5,13 @@ use Rattle.cut_model.specs.Tree.{tree}
 use Rattle.cut_model.proofs.OnPlates.{count-on_plates, few_plates, is_last_plate, next_plate, no_plate_left, sized_in_range}
 use Rattle.cut_model.proofs.Walks.{stock_more, stock_next, walking_end, walking_more, walking_start}
 use Rattle.cut_model.proofs.traversal.walk.Goals as goal
+use Rattle.glass_base.specs.declared.limits.TheConstants.{MOST_SIDE}
 
 pub loop-place-init : goal.loop-place-init
 loop-place-init g c =
     let b = c.args.instance.now in
     let plan = tree c.args.plan.now in
-    let high : b.params.height ≤ 20000 = b.params.accepted.height_limit in
+    let high : b.params.height ≤ MOST_SIDE = b.params.accepted.height_limit in
     rw c.params.ensures.value (record {
       walking = walking_start c.args.visitor.now (first_plate b) 0 (on_plates b plan);
       within = record {

@@ -12,6 +12,7 @@ use Rattle.cut_sheet.specs.Texts.{IsWritable}
 use Rattle.cut_sheet.proofs.Making.{sheet_made}
 use Rattle.cut_sheet.proofs.Writables.{plates_writable}
 use Rattle.cut_sheet.proofs.sheeting.sheet_of.Goals as goal
+use Rattle.glass_base.specs.declared.limits.TheConstants.{MOST_PLATES}
 
 pub overflow_cast-place : goal.overflow_cast-place
 overflow_cast-place c =
@@ -37,5 +38,5 @@ returns-clause-replayed c =
 
 pub returns-clause-writable : goal.returns-clause-writable
 returns-clause-writable c =
-    let few : 0 + neighbour_count (tree c.args.plan.now) ≤ 1000 = omega (arith, c.requires.cuttable.few, c.args.instance.now.params.accepted.few_plates) in
+    let few : 0 + neighbour_count (tree c.args.plan.now) ≤ MOST_PLATES = omega (arith, c.requires.cuttable.few, c.args.instance.now.params.accepted.few_plates) in
     subst (All IsWritable) (whole c) (plates_writable 0 (tree c.args.plan.now) few c.requires.fits.in_range)

@@ -6,11 +6,12 @@ use Rattle.plan_trace.proofs.Loss.{lawful_loses}
 use Rattle.plan_trace.proofs.Tellings.{few_numbers}
 use Rattle.plan_trace.proofs.ToldTraces.{trace_told}
 use Rattle.plan_trace.proofs.tracing.trace_of.Goals as goal
+use Rattle.glass_base.specs.declared.limits.TheConstants.{MOST_ITEMS}
 
 pub invariant_of-tracing : goal.invariant_of-tracing
 invariant_of-tracing c =
     let is = sym (c.as_slice.ensures ∙ c.in_ok-stacks.ensures ∙ ap stack_numbers c.items.ensures.value) in
-    record { few = subst (λ (xs : List ℕ). length xs ≤ 800) is (few_numbers c.args.instance.now c.items.ensures.rules) }
+    record { few = subst (λ (xs : List ℕ). length xs ≤ MOST_ITEMS) is (few_numbers c.args.instance.now c.items.ensures.rules) }
 
 pub returns-clause-steps : goal.returns-clause-steps
 returns-clause-steps c =

@@ -15,11 +15,12 @@ use Rattle.box_bound.proofs.Filled.{filled, filled_within}
 use Rattle.box_bound.proofs.Seeing.{have_levels, seen_taken}
 use Rattle.box_bound.proofs.Sharing.{seen_kept}
 use Rattle.box_bound.proofs.leasts.Leasts.fill.Goals as goal
+use Rattle.glass_base.specs.declared.limits.TheConstants.{MOST_LENGTH}
 
 pub look-requires-clause-within : goal.look-requires-clause-within
 look-requires-clause-within c =
     let had = c.decided_ranges-ranges.ensures in
-    subst (λ (xs : List Kept). All (λ (k : Kept). AreWithin 40000000 (late k)) (take (length c.decided_ranges-ranges.result.now) xs)) (sym c.as_slice.ensures)
+    subst (λ (xs : List Kept). All (λ (k : Kept). AreWithin MOST_LENGTH (late k)) (take (length c.decided_ranges-ranges.result.now) xs)) (sym c.as_slice.ensures)
     (filled_within c.args.instance.now c.decided_ranges-ranges.result.now c.refill-start.new.steps.items c.items-items.ensures.rules had.within had.few c.refill-start.ensures.followed c.refill-start.ensures.late)
 
 pub look-requires-clause-levels : goal.look-requires-clause-levels
