@@ -6,7 +6,8 @@ pub const MOST_SIDE: u32 = 20_000;
 /// The greatest place of a defect's right and upper side: a corner and a side together.
 pub const MOST_REACH: u32 = 40_000;
 
-/// The greatest number of an item, a stack, a place in a stack, a defect, a plate or a node in a file.
+/// The greatest number of an item, a stack, a place in a stack, a defect, a plate or a node in a file, and the greatest
+/// value in a file of parameters.
 pub const MOST_NUMBER: u32 = 999_999_999;
 
 /// The most plates.
