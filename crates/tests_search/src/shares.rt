@@ -17,11 +17,15 @@ use std::thread::{Threads, yield_now};
 /// much else to do.
 const MOST_TURNS: u32 = 1_000_000_000;
 
-/// A box waits so many turns for workers that have had none, and then goes on.
-const FEW_TURNS: u32 = 100;
+/// How many boxes a search handles.
+const BUDGET: u32 = 2000;
 
-/// Holds each worker at its first turn, with a box or without one, until all have come to theirs: so each has a thread of its own. Then
-/// each box waits a little while a worker has had none, which can steal one meanwhile. All is told to the gate of the program as well.
+/// Holds each worker at its first turn, with a box or without one, until all have come to theirs: so each has a thread of its own. All is
+/// told to the gate of the program as well.
+///
+/// While a worker has had no box, the others give it time to steal one, however slow its thread is: a box waits, the longer the more its
+/// worker had before, so that one with few soon has some to be stolen; and a turn without a box lasts until another box passes, so that
+/// nobody comes to rest.
 #[derive(Drop)]
 struct Muster {
     /// A bit for each worker.
@@ -30,6 +34,10 @@ struct Muster {
     came: AtomicU32,
     /// The bits of those that have had a box.
     had_box: AtomicU32,
+    /// How many boxes each worker has had.
+    boxes: [AtomicU32; 8],
+    /// How many boxes all have had.
+    passed: AtomicU32,
     gave_up: AtomicBool,
     patient: PatientGate,
 }
@@ -40,6 +48,17 @@ impl Muster {
             all: 1u32.wrapping_shl(workers).wrapping_sub(1),
             came: AtomicU32::new(0),
             had_box: AtomicU32::new(0),
+            boxes: [
+                AtomicU32::new(0),
+                AtomicU32::new(0),
+                AtomicU32::new(0),
+                AtomicU32::new(0),
+                AtomicU32::new(0),
+                AtomicU32::new(0),
+                AtomicU32::new(0),
+                AtomicU32::new(0),
+            ],
+            passed: AtomicU32::new(0),
             gave_up: AtomicBool::new(false),
             patient: PatientGate::new(),
         }
@@ -66,6 +85,28 @@ impl Muster {
         false
     }
 
+    /// Notes a box of this worker, and tells how many it had before.
+    fn note_box(&self, worker: u32) -> u32 {
+        note(&self.had_box, worker);
+        self.passed.fetch_add(1, Ordering::SeqCst);
+        match self.boxes.get(worker as usize) {
+            None => 0,
+            Some(boxes) => boxes.fetch_add(1, Ordering::SeqCst),
+        }
+    }
+
+    /// Holds a worker without a box until another box passes, each worker has had one, or the budget is spent.
+    fn await_box(&self) {
+        let before = self.passed.load(Ordering::SeqCst);
+        for _ in 0..MOST_TURNS {
+            let passed = self.passed.load(Ordering::SeqCst);
+            if passed != before || BUDGET <= passed || self.all_had_one() {
+                return;
+            }
+            yield_now();
+        }
+    }
+
     /// Notes that a worker has come, and holds it until all have.
     fn hold(&self, worker: u32) {
         note(&self.came, worker);
@@ -83,13 +124,14 @@ fn note(word: &AtomicU32, worker: u32) {
 impl Gate for Muster {
     fn pass(&self, worker: u32, id: u64) {
         self.hold(worker);
-        note(&self.had_box, worker);
-        let _all = self.comes_true(&self.had_box, FEW_TURNS);
+        let boxes = self.note_box(worker);
+        let _all = self.comes_true(&self.had_box, boxes.saturating_mul(boxes) / 100);
         self.patient.pass(worker, id);
     }
 
     fn idle(&self, worker: u32) {
         self.hold(worker);
+        self.await_box();
         self.patient.idle(worker);
     }
 }
@@ -125,7 +167,7 @@ fn handled<R: Threads + Wait + Sync>(
     requires { (1 ≤ workers) × (workers ≤ 8) }
 {
     let start = start_boxes(alloc, instance)?;
-    let history = searched(rt, alloc, instance, start, workers, 2000, gate)?;
+    let history = searched(rt, alloc, instance, start, workers, u64::from(BUDGET), gate)?;
     let log = history.log.as_slice();
     Ok((log.len(), each_once(log)))
 }
@@ -146,12 +188,18 @@ fn shared<R: Threads + Wait + Sync>(
 
 #[test]
 fn four_workers_share_the_work(rt: HostRuntime) -> Result<(), Fail> {
-    assert_eq!(rt; shared(&rt, rt.alloc(), 4)?, (2000, true, true, false));
+    assert_eq!(rt;
+        shared(&rt, rt.alloc(), 4)?,
+        (BUDGET as usize, true, true, false)
+    );
     Ok(())
 }
 
 #[test]
 fn eight_workers_share_the_work(rt: HostRuntime) -> Result<(), Fail> {
-    assert_eq!(rt; shared(&rt, rt.alloc(), 8)?, (2000, true, true, false));
+    assert_eq!(rt;
+        shared(&rt, rt.alloc(), 8)?,
+        (BUDGET as usize, true, true, false)
+    );
     Ok(())
 }
