@@ -5,15 +5,15 @@
     bench/believed.py NAME ..      the definitions that NAME stands on, those that others stand on first
 
 A definition stands on those that its text names, by the imports of its file. Counted are its lines without comments, blanks and imports. Not
-opened is `RunsTo Answers`: a law reads `Ended .. -> conclusion`, and `Ended` has it only so that the law speaks of what `glass` promises, whose contract
-has the very same words. Types that are declared in the sources (structs, enums) are not counted, nor is what std defines.
+opened is `LineRun Answers`: a law reads `Ended .. -> conclusion`, and `Ended` has it only so that the law speaks of what `glass` promises, whose contract
+is `RunsTo Answers`, and that is `LineRun Answers` where the words are a command line. Types that are declared in the sources (structs, enums) are not counted, nor is what std defines.
 """
 import os
 import re
 import sys
 
 TOP = os.path.join(os.path.dirname(os.path.abspath(__file__)), "..", "crates")
-CUT = {("run_frame", "Runs", "RunsTo"), ("glass_run", "Commands", "Answers"), ("picture_run", "Pictures", "Answers")}
+CUT = {("run_frame", "Runs", "LineRun"), ("glass_run", "Commands", "Answers"), ("picture_run", "Pictures", "Answers")}
 LAWS = [
     ("plans_are_lawful_and_bounded", "FindsPlan"), ("resumed_plans_are_lawful_and_bounded", "ResumesPlan"),
     ("frozen_plans_are_lawful_and_bounded", "FindsPlanBehind"), ("accepted_plans_are_lawful_and_bounded", "AcceptsPlan"),

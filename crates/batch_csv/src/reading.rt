@@ -12,9 +12,13 @@ use glass_base::limits::{MOST_NUMBER, MOST_SIDE};
 use glass_base::{BadText, Item, Run, append};
 use std::alloc::Global;
 
-/// The item of a row.
+/// The item of a row, whose number is `row`.
+///
+/// The row has the five fields ITEM_ID, LENGTH_ITEM, WIDTH_ITEM, STACK and SEQUENCE, each a whole number; the two sides
+/// are at most 20,000 mm, the others at most 999,999,999. `Record` comes where it has another number of fields,
+/// `Number` where one of them is no whole number, `Range` where one is too large; the first column in error decides.
 #[tactic(auto, unfolding(crate::specs::Batches::item_at))]
-fn item_of(row: u64, fields: &ByteRecord) -> Result<Item, BadText>
+pub fn item_of(row: u64, fields: &ByteRecord) -> Result<Item, BadText>
     ensures value { result ≡ item_at row (fields_of fields.now) }
     ensures range { IfOk result IsItemInRange }
 {

@@ -1,3 +1,4 @@
 mod Prefixes
 mod Counts
 mod Flags
+mod Told

@@ -290,7 +290,7 @@ fn line_behind(verb: Verb, words: &[String]) -> Option<CommandLine<'_>>
 }
 
 /// The command of this word.
-fn verb_named(word: &str) -> Option<Verb>
+pub fn verb_named(word: &str) -> Option<Verb>
     ensures { result ≡ verb_of word.now }
 {
     VERBS.iter().copied().find(|verb| word == verb.form().word)

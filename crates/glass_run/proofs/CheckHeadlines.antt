@@ -17,7 +17,7 @@ use Rattle.glass_run.specs.Commands.{Answers, AnswersInstance, cert_name}
 use Rattle.command_line.specs.Grammar.{Line, count_in}
 use Rattle.command_line.specs.declared.grammar.Count.TheVariants as count
 use Rattle.glass_run.specs.Headlines.{Accepts, Ended, FindsRight, SaidBy, StoresConverted}
-use Rattle.run_frame.specs.Runs.{Completes, Prints, RunsTo, Stands, World}
+use Rattle.run_frame.specs.Runs.{Completes, Prints, Stands, World}
 use Rattle.run_frame.specs.Texts.{Texts, text_for, text_or_empty}
 use Rattle.command_line.specs.declared.grammar.Verb.{Verb}
 use Rattle.command_line.specs.declared.grammar.Verb.TheVariants as verb
@@ -118,7 +118,7 @@ converts line held old new answer of is s stored prints =
 
 pub done_check : (words : List (List ℕ)) (line : Line) (held : Contents) (old new : World) → Ended words verb.Verify line held old new status.Done → AcceptsFrom (cut_already verb.Verify line) line held old new
 done_check words line held old new e =
-    let c : Completes Answers line old new status.Done = subst (λ (o : Option Line). RunsTo Answers o old new status.Done) e.line_is e.runs in
+    let c : Completes Answers line old new status.Done = e.runs in
     let s = completed_says line held old new status.Done e.told (λ h. h) c in
     let verifies : VerifiesFrom (count_in line count.Frozen) s.b (text_for s.texts role.Plan) (text_or_empty s.texts role.Cert) c.answer =
     subst (λ (v : Verb). AnswersInstance v line s.texts s.b c.answer) e.verb_is s.answers in
@@ -126,5 +126,5 @@ done_check words line held old new e =
 
 pub done_conversion : (words : List (List ℕ)) (line : Line) (held : Contents) (old new : World) → Ended words verb.Convert line held old new status.Done → StoresConverted line held old new
 done_conversion words line held old new e =
-    let c : Completes Answers line old new status.Done = subst (λ (o : Option Line). RunsTo Answers o old new status.Done) e.line_is e.runs in
+    let c : Completes Answers line old new status.Done = e.runs in
     converts line held old new c.answer e.verb_is c.status_is (completed_says line held old new status.Done e.told (λ h. h) c) c.stored c.prints

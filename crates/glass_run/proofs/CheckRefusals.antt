@@ -22,7 +22,7 @@ use Rattle.run_plans.specs.Judgements.{IsFirstBroken, unlawful as unlawful_of}
 use Rattle.glass_run.specs.Headlines.{Ended, FindsUnlawful, FindsWrong, IsCheck, IsJudging, SaidBy}
 use Rattle.run_search.specs.Plans.{planned}
 use Rattle.run_search.specs.Resumptions.{GoesOn, GoesOnWithin, Resumes, too_long_to_read}
-use Rattle.run_frame.specs.Runs.{Completes, Prints, RunsTo, Stands, World}
+use Rattle.run_frame.specs.Runs.{Completes, Prints, Stands, World}
 use Rattle.run_checks.specs.Said.{IsPlanIn}
 use Rattle.run_frame.specs.Texts.{Texts, limit_of, text_for, text_or_empty}
 use Rattle.command_line.specs.declared.grammar.Verb.{Verb}
@@ -221,14 +221,14 @@ not_done verb.Resume line held answer check of is s =
 
 pub refused_check : (words : List (List ℕ)) (line : Line) (held : Contents) (old new : World) (check : Verb) → IsCheck check → Ended words check line held old new status.Refused → FindsWrongFrom (cut_already check line) line held old new
 refused_check words line held old new check is e =
-    let c : Completes Answers line old new status.Refused = subst (λ (o : Option Line). RunsTo Answers o old new status.Refused) e.line_is e.runs in
+    let c : Completes Answers line old new status.Refused = e.runs in
     let s = completed_says line held old new status.Refused e.told (λ h. h) c in
     wrong_tree_from (cut_already check line) line held old new c.answer s.texts s.b s.reads c.status_is
     (not_done check line held c.answer is e.verb_is (subst IsRefusal c.status_is tt) s) c.stored c.prints
 
 unlawful_check : (words : List (List ℕ)) (line : Line) (held : Contents) (old new : World) (check : Verb) → IsCheck check → Ended words check line held old new status.Unlawful → FindsUnlawful line held old new
 unlawful_check words line held old new check is e =
-    let c : Completes Answers line old new status.Unlawful = subst (λ (o : Option Line). RunsTo Answers o old new status.Unlawful) e.line_is e.runs in
+    let c : Completes Answers line old new status.Unlawful = e.runs in
     let s = completed_says line held old new status.Unlawful e.told (λ h. h) c in
     let other = not_done check line held c.answer is e.verb_is (subst IsRefusal c.status_is tt) s in
     finds_unlawful line held old new c.answer s.texts s.b s.reads (broken_from (cut_already check line) s.b s.texts c.answer c.status_is other) c.stored c.prints

@@ -31,7 +31,7 @@ use Rattle.glass_run.specs.Headlines.{Ended, FindsUnlawful, IsSearchEnd, SaidBy}
 use Rattle.run_search.specs.Plans.{ending}
 use Rattle.run_checks.specs.Checks.{root_ranges}
 use Rattle.run_checks.specs.Said.{SayBoth}
-use Rattle.run_frame.specs.Runs.{Completes, Prints, RunsTo, Stands, World}
+use Rattle.run_frame.specs.Runs.{Completes, Prints, Stands, World}
 use Rattle.run_frame.specs.Texts.{Texts, text_or_empty}
 use Rattle.run_frame.specs.declared.status.Status.{Status}
 use Rattle.run_frame.specs.declared.status.Status.TheVariants as status
@@ -143,7 +143,7 @@ stores_freeze line held old new answer result of end is s stored prints =
 pub freeze_ended : (words : List (List ℕ)) (line : Line) (held : Contents) (old new : World) (result : Status) → IsSearchEnd result → Ended words verb.Freeze line held old new result →
     StoresFreeze line held old new result × HandlesEachBoxBehind line held old new
 freeze_ended words line held old new result end e =
-    let c = completes line old new result end (subst (λ (o : Option Line). RunsTo Answers o old new result) e.line_is e.runs) in
+    let c = completes line old new result end e.runs in
     stores_freeze line held old new c.answer result e.verb_is end c.status_is (completed_says line held old new result e.told (accepts result end) c) c.stored c.prints
 
 ends_no_other_way : (closed found : Bool) → cond closed (cond found status.Optimal status.Infeasible) status.Stopped ≢ status.Unlawful
@@ -175,7 +175,7 @@ said_broken line held old new answer s k budget (Err reason) out cert says is re
 
 pub unlawful_freeze : (words : List (List ℕ)) (line : Line) (held : Contents) (old new : World) → Ended words verb.Freeze line held old new status.Unlawful → FindsUnlawful line held old new
 unlawful_freeze words line held old new e =
-    let c : Completes Answers line old new status.Unlawful = subst (λ (o : Option Line). RunsTo Answers o old new status.Unlawful) e.line_is e.runs in
+    let c : Completes Answers line old new status.Unlawful = e.runs in
     let s = completed_says line held old new status.Unlawful e.told (λ h. h) c in
     let within : FreezesWithin s.b (frozen_in line) (count_in line count.Budget) (text_or_empty s.texts role.Plan) (plan_name line) (cert_name line) c.answer =
     subst (λ (v : Verb). AnswersInstance v line s.texts s.b c.answer) e.verb_is s.answers in

@@ -14,7 +14,7 @@ use Rattle.run_plans.specs.Drafts.{Drafts}
 use Rattle.command_line.specs.Grammar.{Line, files_of}
 use Rattle.glass_run.specs.Headlines.{Ended, FindsLawful, FindsNoDraft, FindsUnlawful, SaidBy, StoresLawfulPlan}
 use Rattle.run_plans.specs.Judgements.{Judges, JudgesSaid}
-use Rattle.run_frame.specs.Runs.{AnswersTold, Completes, Prints, RunsTo, Stands, World}
+use Rattle.run_frame.specs.Runs.{AnswersTold, Completes, Prints, Stands, World}
 use Rattle.run_frame.specs.Texts.{AnswersFetched, Texts, text_or_empty, texts_of}
 use Rattle.command_line.specs.declared.grammar.Verb.{Verb}
 use Rattle.command_line.specs.declared.grammar.Verb.TheVariants as verb
@@ -159,25 +159,25 @@ judged_unlawful line held old new answer is s stored prints =
 
 pub done_draft : (words : List (List ℕ)) (line : Line) (held : Contents) (old new : World) → Ended words verb.Draft line held old new status.Done → StoresLawfulPlan line held old new
 done_draft words line held old new e =
-    let c : Completes Answers line old new status.Done = subst (λ (o : Option Line). RunsTo Answers o old new status.Done) e.line_is e.runs in
+    let c : Completes Answers line old new status.Done = e.runs in
     drafted_lawful line held old new c.answer e.verb_is c.status_is (completed_says line held old new status.Done e.told (λ h. h) c)
     c.stored c.prints
 
 pub done_judgement : (words : List (List ℕ)) (line : Line) (held : Contents) (old new : World) → Ended words verb.Judge line held old new status.Done → FindsLawful line held old new
 done_judgement words line held old new e =
-    let c : Completes Answers line old new status.Done = subst (λ (o : Option Line). RunsTo Answers o old new status.Done) e.line_is e.runs in
+    let c : Completes Answers line old new status.Done = e.runs in
     judged_lawful line held old new c.answer c.status_is
     (judge_says line held c.answer e.verb_is (λ h. subst IsRefused (sym c.status_is) h) (completed_says line held old new status.Done e.told (λ h. h) c))
     c.stored c.prints
 
 pub unlawful_judgement : (words : List (List ℕ)) (line : Line) (held : Contents) (old new : World) → Ended words verb.Judge line held old new status.Unlawful → FindsUnlawful line held old new
 unlawful_judgement words line held old new e =
-    let c : Completes Answers line old new status.Unlawful = subst (λ (o : Option Line). RunsTo Answers o old new status.Unlawful) e.line_is e.runs in
+    let c : Completes Answers line old new status.Unlawful = e.runs in
     judged_unlawful line held old new c.answer c.status_is
     (judge_says line held c.answer e.verb_is (λ h. subst IsRefused (sym c.status_is) h) (completed_says line held old new status.Unlawful e.told (λ h. h) c))
     c.stored c.prints
 
 pub no_draft : (words : List (List ℕ)) (line : Line) (held : Contents) (old new : World) → Ended words verb.Draft line held old new status.NoDraft → FindsNoDraft line held old new
 no_draft words line held old new e =
-    let c : Completes Answers line old new status.NoDraft = subst (λ (o : Option Line). RunsTo Answers o old new status.NoDraft) e.line_is e.runs in
+    let c : Completes Answers line old new status.NoDraft = e.runs in
     drafted_none line held old new c.answer e.verb_is c.status_is (completed_says line held old new status.NoDraft e.told (λ h. h) c) c.stored c.prints

@@ -16,11 +16,11 @@ use Rattle.command_line.specs.declared.grammar.Verb.TheVariants as verb
 use Rattle.run_frame.specs.Answers.{Answer}
 use Rattle.run_checks.specs.Checks.{IsAccepted, NotAccepted, loss_in, root_ranges}
 use Rattle.run_checks.specs.Checks.NotAccepted.{bad_cert, bad_plan, bad_tree, broken_plan}
-use Rattle.glass_run.specs.Commands.{Answers, AnswersInstance, cert_name, plan_name}
+use Rattle.glass_run.specs.Commands.{AnswersInstance, cert_name, plan_name}
 use Rattle.glass_run.specs.Headlines.{Ended, HandlesOpenBoxes, IsSearchEnd, StoresJoined, StoresResumed}
 use Rattle.run_search.specs.Plans.{ending, planned}
 use Rattle.run_search.specs.Resumptions.{GoesOn, GoesOnWithin, Resumes, too_long_to_read}
-use Rattle.run_frame.specs.Runs.{Prints, RunsTo, Stands, World}
+use Rattle.run_frame.specs.Runs.{Prints, Stands, World}
 use Rattle.run_frame.specs.Texts.{limit_of, text_for, text_or_empty}
 use Rattle.run_frame.specs.declared.status.Status.{Status}
 use Rattle.glass_run.proofs.Headlines.{Says, completed_says, rules_of}
@@ -105,5 +105,5 @@ stores_resumed line held old new answer result of end is s stored prints =
 pub resumption_ended : (words : List (List ℕ)) (line : Line) (held : Contents) (old new : World) (result : Status) → IsSearchEnd result → Ended words verb.Resume line held old new result →
     StoresResumed line held old new result × HandlesOpenBoxes line held old new
 resumption_ended words line held old new result end e =
-    let c = completes line old new result end (subst (λ (o : Option Line). RunsTo Answers o old new result) e.line_is e.runs) in
+    let c = completes line old new result end e.runs in
     stores_resumed line held old new c.answer result e.verb_is end c.status_is (completed_says line held old new result e.told (accepts result end) c) c.stored c.prints

@@ -17,7 +17,7 @@ use Rattle.glass_run.specs.Headlines.{Ended, HandlesEachBox, IsSearch, IsSearchE
 use Rattle.run_search.specs.Plans.{PlansWithin, ending, handled, planned}
 use Rattle.run_checks.specs.Checks.{root_ranges}
 use Rattle.run_frame.specs.Texts.{Texts}
-use Rattle.run_frame.specs.Runs.{Completes, LineRun, Prints, RunsTo, Stands, World}
+use Rattle.run_frame.specs.Runs.{Completes, LineRun, Prints, Stands, World}
 use Rattle.command_line.specs.declared.grammar.Count.TheVariants as count
 use Rattle.command_line.specs.declared.grammar.Flag.TheVariants as flag
 use Rattle.command_line.specs.declared.grammar.Verb.{Verb}
@@ -173,5 +173,5 @@ stores_search line held old new answer result search searches of end is s stored
 pub search_ended : (words : List (List ℕ)) (line : Line) (held : Contents) (old new : World) (result : Status) (search : Verb) → IsSearch search → IsSearchEnd result → Ended words search line held old new result →
     StoresSearch line held old new result × HandlesEachBox line held old new
 search_ended words line held old new result search searches end e =
-    let c = completes line old new result end (subst (λ (o : Option Line). RunsTo Answers o old new result) e.line_is e.runs) in
+    let c = completes line old new result end e.runs in
     stores_search line held old new c.answer result search searches e.verb_is end c.status_is (completed_says line held old new result e.told (accepts result end) c) c.stored c.prints

@@ -1,5 +1,5 @@
 -- What a user may conclude from how a run of `sheet` or of `replay` ended.
-use Rattle.std.proofs.Common.{◌≡◌, ◌+◌, ◌≤◌, ℕ, List, refl, sym, ap, subst, ◌∙◌, inl, inr, arith, Option, All}
+use Rattle.std.proofs.Common.{◌≡◌, ◌+◌, ◌≤◌, ℕ, List, refl, sym, ap, subst, ◌∙◌, inl, inr, arith, All}
 use Rattle.std.specs.Prelude.{Ok, Err, Result}
 use Rattle.glass_base.specs.Problem.{Problem}
 use Rattle.glass_base.specs.declared.role.Role.TheVariants as role
@@ -29,7 +29,7 @@ use Rattle.command_line.specs.declared.grammar.Verb.{Verb}
 use Rattle.command_line.specs.declared.grammar.Verb.TheVariants as verb
 use Rattle.glass_run.specs.Headlines.{Ended, FindsUnlawful}
 use Rattle.run_plans.specs.Replays.{Follows, ReplaysText, SheetRefused, followed}
-use Rattle.run_frame.specs.Runs.{Completes, Prints, RunsTo, Stands, World}
+use Rattle.run_frame.specs.Runs.{Completes, Prints, Stands, World}
 use Rattle.glass_run.specs.SheetHeadlines.{FollowsSheet, StoresSheet}
 use Rattle.run_plans.specs.Sheets.{Sheets, SheetsSaid, SheetsText}
 use Rattle.run_frame.specs.Texts.{text_or_empty}
@@ -149,15 +149,15 @@ follows_sheet line held old new answer of is s stored prints =
 
 pub done_sheet : (words : List (List ℕ)) (line : Line) (held : Contents) (old new : World) → Ended words verb.Sheet line held old new status.Done → StoresSheet line held old new
 done_sheet words line held old new e =
-    let c : Completes Answers line old new status.Done = subst (λ (o : Option Line). RunsTo Answers o old new status.Done) e.line_is e.runs in
+    let c : Completes Answers line old new status.Done = e.runs in
     stores_sheet line held old new c.answer e.verb_is c.status_is (completed_says line held old new status.Done e.told (λ h. h) c) c.stored c.prints
 
 pub done_replay : (words : List (List ℕ)) (line : Line) (held : Contents) (old new : World) → Ended words verb.Replay line held old new status.Done → FollowsSheet line held old new
 done_replay words line held old new e =
-    let c : Completes Answers line old new status.Done = subst (λ (o : Option Line). RunsTo Answers o old new status.Done) e.line_is e.runs in
+    let c : Completes Answers line old new status.Done = e.runs in
     follows_sheet line held old new c.answer e.verb_is c.status_is (completed_says line held old new status.Done e.told (λ h. h) c) c.stored c.prints
 
 pub unlawful_sheet : (words : List (List ℕ)) (line : Line) (held : Contents) (old new : World) → Ended words verb.Sheet line held old new status.Unlawful → FindsUnlawful line held old new
 unlawful_sheet words line held old new e =
-    let c : Completes Answers line old new status.Unlawful = subst (λ (o : Option Line). RunsTo Answers o old new status.Unlawful) e.line_is e.runs in
+    let c : Completes Answers line old new status.Unlawful = e.runs in
     finds_broken line held old new c.answer e.verb_is c.status_is (completed_says line held old new status.Unlawful e.told (λ h. h) c) c.stored c.prints

@@ -26,7 +26,7 @@ use Rattle.command_line.specs.Grammar.{Line, count_in, files_of, flag_in, line_o
 use Rattle.run_plans.specs.Judgements.{IsFirstBroken, lawful_line, unlawful_line}
 use Rattle.run_search.specs.Plans.{AreReadable, AreTold, HasLoss, IsOfSearch, both_stores, ending, handled, search_lines, search_summary}
 use Rattle.run_search.specs.Resumptions.{IsResumed, ResumesEachBox}
-use Rattle.run_frame.specs.Runs.{Prints, RunsTo, Stands, World}
+use Rattle.run_frame.specs.Runs.{LineRun, Prints, Stands, World}
 use Rattle.run_checks.specs.Said.{SayBoth}
 use Rattle.run_frame.specs.Texts.{Texts, limit_of, text_for, text_or_empty, texts_of}
 use Rattle.command_line.specs.declared.grammar.Count.TheVariants as count
@@ -41,7 +41,7 @@ pub record Ended (words : List (List ℕ)) (verb : Verb) (line : Line) (held : C
   pub line_is : line_of words ≡ Some line
   pub verb_is : line.verb ≡ verb
   pub told : old.shelf.contents ≡ Some held
-  pub runs : RunsTo Answers (line_of words) old new result
+  pub runs : LineRun Answers line old new result
 
 -- the instance of a line, and the texts of its files
 pub record SaidBy (line : Line) (held : Contents) (texts : Texts) (b : Problem) : Type 0 where

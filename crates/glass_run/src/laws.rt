@@ -14,8 +14,8 @@ ghost use Rattle.command_line.specs.declared.grammar.Verb.TheVariants as verb;
 ghost use Rattle.run_frame.specs.declared.status.Status.{Status};
 ghost use Rattle.run_frame.specs.declared.status.Status.TheVariants as status;
 
-/// Where `draft` is done, OUT holds the text of a lawful plan, stored whole, all other names are as before, and what is printed is
-/// this plan's loss and its number of plates.
+/// Where `draft` is done, OUT holds the text of a plan that is lawful on plates without defects, stored whole, all other
+/// names are as before, and what is printed is this plan's loss and its number of plates.
 pub fn done_drafts_are_lawful()
     ensures { (words : List (List ℕ)) → (line : Line) → (held : Contents) → (old new : World)
         → Ended words verb.Draft line held old new status.Done

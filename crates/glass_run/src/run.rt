@@ -1,25 +1,26 @@
 //! The top call.
 
-ghost use Rattle.std.specs.Prelude.{◌≡◌, ◌≢◌, map, option_map, IfOk, IfErr, IfSome};
+ghost use Rattle.std.specs.Prelude.{◌≡◌, ◌≢◌, map, IfOk, IfErr, IfSome};
 ghost use Rattle.std.specs.String.{string_bytes};
 ghost use Rattle.glass_io.specs.Told.{Contents, SameContents};
 ghost use Rattle.command_line.specs.Grammar.{files_of, line_of, stored_as};
 ghost use Rattle.command_line.specs.Lines.{line_in};
+ghost use Rattle.command_line.specs.Manual.{question_of};
 ghost use Rattle.glass_run.specs.Commands.{Answers, AnswersInstance, IsCommand, Searches};
-ghost use Rattle.run_frame.specs.Runs.{RunsTo, world};
+ghost use Rattle.run_frame.specs.Runs.{LineRun, RunsTo, world};
 ghost use Rattle.run_frame.specs.Texts.{Reaches};
 ghost use Rattle.glass_run.specs.inner.Asked.{IsAskedOf, MaySearch};
 ghost use Rattle.run_frame.specs.Forms.{CountsFetches, OnFault, answer_in, texts_in};
 
 use crate::answering::{Asked, asked_of_texts};
 use box_workers::Gate;
-use command_line::{CommandLine, Count, Flag, Lead, Verb, line_named};
+use command_line::{CommandLine, Count, Flag, Lead, Program, Verb, line_named, question_asked};
 use glass_base::{Instance, Memory, Role};
 use glass_io::{Files, Sink};
 use run_frame::delivering::print;
 use run_frame::{
-    NoReply, Reply, Status, Text, USAGE_LINE, deliver, fetch_files, read_fault_line, reply_with,
-    text_of_role, text_or_empty,
+    NoReply, Reply, Status, Text, answer_otherwise, deliver, fetch_files, read_fault_line,
+    reply_with, text_of_role, text_or_empty,
 };
 use run_search::{Opening, Workforce, freeze_text, plan_instance, resume_texts};
 use std::alloc::Global;
@@ -142,45 +143,46 @@ fn reply_of<R: Threads + Wait + Sync, F: Files, G: Gate + Sync>(
     Ok(reply_to_asked(rt, alloc, line, asked, gate)?)
 }
 
-/// Runs a command line, or tells that the words are none.
+/// Runs a command line.
 fn run_line<R: Threads + Wait + Sync, F: Files, S: Sink, G: Gate + Sync>(
     rt: &R,
     alloc: Global,
-    line: Option<CommandLine<'_>>,
+    line: &CommandLine<'_>,
     files: &mut F,
     out: &mut S,
     gate: &G,
 ) -> Status
-    requires command { IfSome line (λ line. IsCommand (line_in line).verb) }
-    ensures runs { RunsTo Answers (option_map line_in line.entry)
+    requires command { IsCommand (line_in line.now).verb }
+    ensures runs { LineRun Answers (line_in line.now)
         (world (F.shelf files.old) (S.paper out.old))
         (world (F.shelf files.new) (S.paper out.new)) result }
     ensures no_fault { F.reliable files.old → S.reliable out.old → (result ≢ Status.ReadFault)
         × (result ≢ Status.WriteFault) }
 {
-    match line {
-        None => print(out, USAGE_LINE, Status::Usage),
-        Some(line) => match reply_of(rt, alloc, files, &line, gate) {
-            Ok(reply) => deliver(files, out, &line, &reply),
-            Err(NoReply::Memory) => Status::Memory,
-            Err(NoReply::ReadFault(role)) => print(out, read_fault_line(role), Status::ReadFault),
-        },
+    match reply_of(rt, alloc, files, line, gate) {
+        Ok(reply) => deliver(files, out, line, &reply),
+        Err(NoReply::Memory) => Status::Memory,
+        Err(NoReply::ReadFault(role)) => print(out, read_fault_line(role), Status::ReadFault),
     }
 }
 
-/// Runs a command line, its words being those after the program's name.
+/// Runs a command line, its words being those after the program's name. `--help` and `-h`, alone, print the commands
+/// and options, `--version`, alone, the version.
 ///
-/// `draft` stores the plan of the draft of a batch, on plates without defects. `plan` searches for a plan that loses little, closing or splitting
-/// as many boxes as `--budget=` says at the most, with as many workers as `--workers=` says; it stores the best plan and the certificate of the
-/// search, and prints how the search ended, the loss, the bound on the loss of every lawful plan, the number of plates, and how many boxes were
-/// handled and are open; with `--watch` also the losses of the plans that it came by; with `--fronts` it begins with what fronts show, and with `--effort` with what more work finds. `gen` does the same with an instance that is
-/// drawn from numbers. `resume` goes on from a certificate, `freeze` plans anew what stands behind the first plates of a plan. `judge` judges anybody's
-/// solution file: it prints the loss of a lawful plan, or the first rule that the plan breaks. `verify` checks a plan and a certificate, and
-/// `convert` names the causes in one. `sheet` stores by which instructions a table cuts a plan, and `replay` follows such instructions.
+/// `draft` stores the plan of the draft of a batch, on plates without defects. `plan` searches for a plan that loses
+/// little, closing or splitting as many boxes as `--budget=` says at the most, with as many workers as `--workers=`
+/// says; it stores the best plan and the certificate of the search, and prints how the search ended, the loss, the
+/// bound on the loss of every lawful plan, the number of plates, and how many boxes were handled and are open; with
+/// `--watch` also the losses of the plans that it came by; with `--fronts` it begins with what fronts show, and with
+/// `--effort` with what more work finds. `gen` does the same with an instance that is drawn from numbers. `resume`
+/// goes on from a certificate, `freeze` plans anew what stands behind the first plates of a plan. `judge` judges
+/// anybody's solution file: it prints the loss of a lawful plan, or the first rule that the plan breaks. `verify`
+/// checks a plan and a certificate, and `convert` names the causes in one. `sheet` stores by which instructions a
+/// table cuts a plan, and `replay` follows such instructions.
 ///
-/// The parameters are the challenge's, or those of the file that `--params=FILE` names; each plate is as wide as they say, or as the file of
-/// `--plates=FILE` says of it. All is computed before anything is
-/// stored, and a run writes once at the most. A refusal stores nothing and prints its one line.
+/// The parameters are the challenge's, or those of the file that `--params=FILE` names; each plate is as wide as they
+/// say, or as the file of `--plates=FILE` says of it. All is computed before anything is stored, and a run writes
+/// once at the most. A refusal stores nothing and prints its one line.
 ///
 /// Only the commands that search, `plan`, `gen`, `resume` and `freeze`, start threads and may wait for them.
 pub fn glass<R: Threads + Wait + Sync, F: Files, S: Sink, G: Gate + Sync>(
@@ -192,7 +194,8 @@ pub fn glass<R: Threads + Wait + Sync, F: Files, S: Sink, G: Gate + Sync>(
     gate: &G,
 ) -> Status
     // what is stored, printed and counted, by the status
-    ensures runs { RunsTo Answers (line_of (map string_bytes words.now))
+    ensures runs { let said = map string_bytes words.now in
+        RunsTo Answers Program.Glass (line_of said) (question_of said)
         (world (F.shelf files.old) (S.paper out.old))
         (world (F.shelf files.new) (S.paper out.new)) result }
 
@@ -200,5 +203,8 @@ pub fn glass<R: Threads + Wait + Sync, F: Files, S: Sink, G: Gate + Sync>(
     ensures no_fault { F.reliable files.old → S.reliable out.old → (result ≢ Status.ReadFault)
         × (result ≢ Status.WriteFault) }
 {
-    run_line(rt, alloc, line_named(words), files, out, gate)
+    match line_named(words) {
+        Some(line) => run_line(rt, alloc, &line, files, out, gate),
+        None => answer_otherwise(alloc, out, Program::Glass, question_asked(words)),
+    }
 }

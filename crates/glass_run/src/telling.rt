@@ -1,4 +1,4 @@
-//! What the program tells on standard error: the commands, where words are none, and how far a long search is.
+//! What the program tells on standard error of a long search: how far it is.
 
 use box_workers::{Gate, PatientGate};
 use cert_log::NO_LOSS;
@@ -11,37 +11,6 @@ const BOXES_BETWEEN_LOOKS: u64 = 4_096;
 
 /// How many seconds pass before the first line, and between two lines.
 const SECONDS_BETWEEN_LINES: u64 = 3;
-
-/// The commands, as they are told where words are none.
-const COMMANDS: &str = "\
-usage: glass COMMAND ..
-
-  draft   BATCH OUT                             a first plan, on plates without defects
-  plan    BATCH DEFECTS OUT CERT                a plan, and a certificate of its bound
-  gen     START ITEMS DEFECTS OUT CERT          the same of an instance that is drawn
-  judge   BATCH DEFECTS PLAN                    the loss of a plan, or the first rule it breaks
-  verify  BATCH DEFECTS PLAN CERT               checks a plan and its certificate
-  convert BATCH DEFECTS PLAN CERT NEW           names the causes in a certificate
-  resume  BATCH DEFECTS PLAN CERT OUT NEW       goes on with a search
-  freeze  K BATCH DEFECTS PLAN OUT CERT         plans anew behind the first K plates
-  sheet   BATCH DEFECTS PLAN OUT                the instructions by which a table cuts a plan
-  replay  BATCH DEFECTS SHEET                   follows such instructions
-
-behind them, in any order:
-  --params=FILE  --plates=FILE    other parameters, plates of different widths (not with gen)
-  --budget=N  --workers=N         how many boxes, 100000; how many threads, 4 (plan, gen, resume, freeze)
-  --fronts                        begins with what fronts show: mostly optimal for few stacks (plan, gen)
-  --effort=N                      a better first plan for N million ticks: 300 are some ten seconds (plan, gen)
-  --watch                         the losses on the way as well (plan)
-  --frozen=K                      the first K plates are cut already (verify)
-
-A dash stands for no plan (verify, convert, resume). README.md tells more.
-";
-
-/// Tells the commands. That they cannot be told changes nothing of a run.
-pub(crate) fn tell_commands(rt: &impl Eprint) {
-    let _told = eprint!(rt; "{COMMANDS}");
-}
 
 /// A gate for programs, which is patient, and where that is wanted tells every few seconds how far the search is: how many fronts of this pass were looked at, how
 /// much of the effort was spent, and then how many boxes of the budget were taken, and the best loss that was seen.

@@ -12,7 +12,7 @@ use Rattle.command_line.specs.Grammar.{Line, files_of, stored_as}
 use Rattle.command_line.specs.declared.grammar.Product.TheVariants as product
 use Rattle.picture_run.specs.PictureHeadlines.{PictureEnded, StoresPicture}
 use Rattle.picture_run.specs.Pictures.{Answers, Draws, DrawsSaid, DrawsTexts}
-use Rattle.run_frame.specs.Runs.{AnswersTold, Completes, Prints, RunsTo, Stands, World}
+use Rattle.run_frame.specs.Runs.{AnswersTold, Completes, Prints, Stands, World}
 use Rattle.run_frame.specs.Texts.{AnswersFetched, Texts, text_for, text_or_empty, texts_of}
 use Rattle.run_frame.specs.declared.status.Status.TheVariants as status
 use Rattle.run_frame.proofs.Statuses.{IsRefused, Refuses, texts_refuse}
@@ -69,7 +69,7 @@ stores_picture line held old new answer s stored prints =
 
 pub done_picture : (words : List (List ℕ)) (line : Line) (held : Contents) (old new : World) → PictureEnded words line held old new status.Done → StoresPicture line held old new
 done_picture words line held old new e =
-    let c : Completes Answers line old new status.Done = subst (λ (o : Option Line). RunsTo Answers o old new status.Done) e.line_is e.runs in
+    let c : Completes Answers line old new status.Done = e.runs in
     stores_picture line held old new c.answer
     (answer_says line held c.answer (λ h. subst IsRefused (sym c.status_is) h) (subst (λ (o : Option Contents). AnswersTold Answers o line c.answer) e.told c.answers))
     c.stored c.prints

@@ -9,7 +9,7 @@ use Rattle.run_frame.specs.Answers.{Answer}
 use Rattle.command_line.specs.Grammar.{Line, files_of, picture_line_of, stored_as}
 use Rattle.command_line.specs.declared.grammar.Product.TheVariants as product
 use Rattle.picture_run.specs.Pictures.{Answers, Draws}
-use Rattle.run_frame.specs.Runs.{Prints, RunsTo, World}
+use Rattle.run_frame.specs.Runs.{LineRun, Prints, World}
 use Rattle.run_frame.specs.Texts.{Texts, text_for, text_or_empty, texts_of}
 use Rattle.run_plans.specs.Instances.{IsInstanceOf}
 use Rattle.run_plans.specs.Verdicts.{verdict_line}
@@ -19,7 +19,7 @@ use Rattle.run_frame.specs.declared.status.Status.{Status}
 pub record PictureEnded (words : List (List ℕ)) (line : Line) (held : Contents) (old new : World) (result : Status) : Type 0 where
   pub line_is : picture_line_of words ≡ Some line
   pub told : old.shelf.contents ≡ Some held
-  pub runs : RunsTo Answers (picture_line_of words) old new result
+  pub runs : LineRun Answers line old new result
 
 -- the files say an instance; OUT holds a picture of the plan that PLAN says, and of what was found of it: its loss where it is lawful, and else its first breach; and this is printed
 pub record StoresPicture (line : Line) (held : Contents) (old new : World) : Type 0 where

@@ -1,4 +1,5 @@
-//! What a user may rely on, derived from the contract of `glass_picture` alone. The function does nothing: its contract is the law.
+//! What a user may rely on, derived from the contract of `glass_picture` alone. The function does nothing: its
+//! contract is the law.
 
 ghost use Rattle.std.specs.Prelude.{ℕ, List};
 ghost use Rattle.glass_io.specs.Told.{Contents};
@@ -7,9 +8,9 @@ ghost use Rattle.run_frame.specs.Runs.{World};
 ghost use Rattle.run_frame.specs.declared.status.Status.TheVariants as status;
 ghost use Rattle.picture_run.specs.PictureHeadlines.{PictureEnded, StoresPicture};
 
-/// Where the program that draws is done, OUT holds the text of a picture of the plan that PLAN says, stored whole, and all other names are
-/// as before: each row of the plan has exactly one rectangle in it, in the row's place and of its size. What is printed is the plan's loss
-/// where it is lawful, and else its first breach.
+/// Where the program that draws is done, OUT holds the text of a picture of the plan that PLAN says, stored whole,
+/// and all other names are as before: each row of the plan has exactly one rectangle of a piece in it, in the row's
+/// place and of its size. What is printed is the plan's loss where it is lawful, and else its first breach.
 pub fn done_pictures_are_true()
     ensures { (words : List (List ℕ)) → (line : Line) → (held : Contents) → (old new : World)
         → PictureEnded words line held old new status.Done → StoresPicture line held old new }

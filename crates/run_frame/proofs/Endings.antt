@@ -1,12 +1,12 @@
 -- How a run ends, from what its last steps left.
-use Rattle.std.proofs.Common.{refl, sym, subst, inl, inr, Option, Some, None, IfSome}
+use Rattle.std.proofs.Common.{ℕ, List, refl, sym, subst, inl, inr, Option, Some, None, IfSome}
 use Rattle.glass_base.specs.declared.role.Role.{Role}
 use Rattle.glass_io.specs.Told.{Contents, Paper, ReadFailed, SameContents, SameFaults, Shelf}
 use Rattle.run_frame.specs.Answers.{Answer}
 use Rattle.run_frame.specs.Codes.{IsAnswered}
 use Rattle.run_frame.specs.Deliveries.{Delivers, Ends, HasStored}
 use Rattle.command_line.specs.Grammar.{Line, files_of}
-use Rattle.run_frame.specs.Runs.{Answering, AnswersTold, Completes, CutShort, FailsToRead, IsUntouched, LineRun, ReachesTold, Stands, StandsInPart, UsageRun, World, read_fault_line, usage_line, world}
+use Rattle.run_frame.specs.Runs.{Answering, AnswersTold, Completes, CutShort, FailsToRead, IsUntouched, LineRun, ReachesTold, Stands, StandsInPart, PrintRun, World, read_fault_line, world}
 use Rattle.run_frame.specs.Texts.{Reaches}
 use Rattle.run_frame.specs.declared.status.Status.{Status}
 use Rattle.run_frame.specs.declared.status.Status.TheVariants as status
@@ -15,17 +15,22 @@ use Rattle.run_frame.proofs.Stores.{all_in_part, failed_then, same_faults_then}
 untouched : (shelf : Shelf) → IsUntouched shelf shelf
 untouched shelf = record { contents = refl; faults = record { reads = λ of. refl; writes = refl } }
 
--- the words were no command line
-pub usage_ends : (shelf : Shelf) (p q : Paper) (result : Status) → Ends usage_line status.Usage p q result → UsageRun (world shelf p) (world shelf q) result
-usage_ends shelf p q result h =
-    let P : Status → Type 0 = λ r. UsageRun (world shelf p) (world shelf q) r in
-    elim h [
-      | inl told ↦ subst P (sym told.0) (untouched shelf, told.1)
-      | inr later ↦ elim later [
-        | inl front ↦ subst P (sym front.0) (untouched shelf, front.1)
-        | inr none ↦ subst P (sym none.0) (untouched shelf, inr none.1)
-      ]
+-- nothing was done but to print
+pub print_ends : (lines : List ℕ) (wanted : Status) (shelf : Shelf) (p q : Paper) (result : Status) → Ends lines wanted p q result → PrintRun lines wanted (world shelf p) (world shelf q) result
+print_ends lines wanted shelf p q result h = (
+  untouched shelf,
+  elim h [
+    | inl told ↦ inl told
+    | inr later ↦ elim later [
+      | inl front ↦ inr (inl front)
+      | inr none ↦ inr (inr (none.0, inr none.1))
     ]
+  ],
+)
+
+-- there was no memory for what was to be printed
+pub unprinted_ends : (lines : List ℕ) (wanted : Status) (shelf : Shelf) (p : Paper) → PrintRun lines wanted (world shelf p) (world shelf p) status.Memory
+unprinted_ends lines wanted shelf p = (untouched shelf, inr (inr (refl, inl refl)))
 
 -- memory ran out before there was a reply
 pub stops_early : (Answers : Answering) (line : Line) (a b : Shelf) (p : Paper) → SameContents a.contents b.contents → SameFaults a b → LineRun Answers line (world a p) (world b p) status.Memory

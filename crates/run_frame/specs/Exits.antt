@@ -2,11 +2,13 @@
 use Rattle.std.specs.Prelude.{◌≡◌, ℕ, Option}
 use Rattle.run_frame.specs.Codes.{code_of}
 use Rattle.command_line.specs.Grammar.{Line}
+use Rattle.command_line.specs.declared.questions.Program.{Program}
+use Rattle.command_line.specs.declared.questions.Question.{Question}
 use Rattle.run_frame.specs.Runs.{Answering, RunsTo, World}
 use Rattle.run_frame.specs.declared.status.Status.{Status}
 
 -- a run ended, and the code is that of its status
-pub record Exits (Answers : Answering) (line : Option Line) (old new : World) (code : ℕ) : Type 0 where
+pub record Exits (Answers : Answering) (of : Program) (line : Option Line) (asked : Option Question) (old new : World) (code : ℕ) : Type 0 where
   pub status : Status
-  pub runs : RunsTo Answers line old new status
+  pub runs : RunsTo Answers of line asked old new status
   pub code_is : code ≡ code_of status

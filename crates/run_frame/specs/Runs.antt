@@ -5,6 +5,9 @@ use Rattle.glass_base.specs.declared.role.Role.{Role}
 use Rattle.glass_io.specs.Told.{Appended, AppendedPrefix, Contents, Counted, HoldsPrefix, Paper, ReadFailed, SameBytes, SameContents, SameFaults, Shelf, WhereTold, WriteFailed}
 use Rattle.run_frame.specs.Answers.{Answer, Store}
 use Rattle.command_line.specs.Grammar.{Line, files_of, role_word}
+use Rattle.command_line.specs.Manual.{answer_of}
+use Rattle.command_line.specs.declared.questions.Program.{Program}
+use Rattle.command_line.specs.declared.questions.Question.{Question}
 use Rattle.run_frame.specs.Texts.{Reaches}
 use Rattle.run_frame.specs.declared.status.Status.{Status}
 use Rattle.run_frame.specs.declared.status.Status.TheVariants as status
@@ -76,12 +79,18 @@ usage_line = codes "usage\n"
 abbrev pub read_fault_line : Role → List ℕ
 read_fault_line of = codes "read fault " ++ role_word of ++ codes "\n"
 
--- a run whose words are no command line, by its status
-abbrev pub UsageRun : World → World → Status → Type 0
-UsageRun old new status.Usage = IsUntouched old.shelf new.shelf × Prints usage_line old.paper new.paper
-UsageRun old new status.Memory = IsUntouched old.shelf new.shelf × IsUnprinted old.paper new.paper
-UsageRun old new status.WriteFault = IsUntouched old.shelf new.shelf × PrintsFront usage_line old.paper new.paper
-UsageRun old new _ = ⊥
+-- a run that only prints these lines: it has this status where they are printed
+abbrev pub PrintRun : List ℕ → Status → World → World → Status → Type 0
+PrintRun lines wanted old new result =
+    IsUntouched old.shelf new.shelf
+    × (((result ≡ wanted) × Prints lines old.paper new.paper)
+    ⊎ ((result ≡ status.WriteFault) × PrintsFront lines old.paper new.paper)
+    ⊎ ((result ≡ status.Memory) × IsUnprinted old.paper new.paper))
+
+-- a run of words that are no command line: a question on the program is answered, other words are told to be wrong
+abbrev pub OtherRun : Program → Option Question → World → World → Status → Type 0
+OtherRun of (Some question) = PrintRun (answer_of of question) status.Done
+OtherRun of None = PrintRun usage_line status.Usage
 
 -- which answers of a line to what the files hold are right
 abbrev pub Answering : Type 1
@@ -128,7 +137,8 @@ pub record FailsToPrint (Answers : Answering) (line : Line) (old new : World) : 
   pub faults : SameFaults old.shelf new.shelf
   pub prints : PrintsFront answer.lines old.paper new.paper
 
--- memory ran out before there was an answer; or a read failed, which was counted, and the write that was to tell it found no memory
+-- memory ran out before there was an answer; or a read failed, which was counted, and the write that was to tell it
+-- found no memory
 abbrev pub StopsEarly : Line → World → World → Type 0
 StopsEarly line old new =
     (IsUntouched old.shelf new.shelf × (new.paper ≡ old.paper)) ⊎ ((of : Role) × FailsToRead line old new of × PrintsInVain old.paper new.paper)
@@ -150,7 +160,7 @@ LineRun Answers line old new status.WriteFault =
     FailsToStore Answers line old new ⊎ FailsToPrint Answers line old new ⊎ ((of : Role) × FailsToRead line old new of × PrintsFront (read_fault_line of) old.paper new.paper)
 LineRun Answers line old new result = Completes Answers line old new result
 
--- a run, by its words as a command line
-abbrev pub RunsTo : Answering → Option Line → World → World → Status → Type 0
-RunsTo Answers None old new result = UsageRun old new result
-RunsTo Answers (Some line) old new result = LineRun Answers line old new result
+-- a run of a program, by its words as a command line, and as a question where they are none
+abbrev pub RunsTo : Answering → Program → Option Line → Option Question → World → World → Status → Type 0
+RunsTo Answers of (Some line) asked old new result = LineRun Answers line old new result
+RunsTo Answers of None asked old new result = OtherRun of asked old new result

@@ -2,6 +2,7 @@
 //! nothing of glass: which answers are right is said by the crates above it.
 #![tactic(auto)]
 
+pub mod asking;
 pub mod delivering;
 pub mod fetching;
 pub mod lines;
@@ -12,6 +13,7 @@ pub mod status;
 pub mod texts;
 pub mod words;
 
+pub use asking::{answer_otherwise, tell_usage};
 pub use delivering::deliver;
 pub use fetching::{NoReply, fetch_files};
 pub use lines::{USAGE_LINE, read_fault_line};

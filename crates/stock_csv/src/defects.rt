@@ -13,9 +13,14 @@ use glass_base::limits::{MOST_NUMBER, MOST_SIDE};
 use glass_base::{BadText, Defect, Run, append};
 use std::alloc::Global;
 
-/// The defect of a row.
+/// The defect of a row, whose number is `row`, widened to whole millimetres on all four sides.
+///
+/// The row has the six fields DEFECT_ID, PLATE_ID, X, Y, WIDTH and HEIGHT: two whole numbers up to 999,999,999, and
+/// four of 0 to 20,000 mm that may have decimals. `Record` comes where it has another number of fields, `Number` where
+/// one of them is no such number, `Range` where one is too large; the first column in error decides. `EmptyDefect`
+/// comes where no column is in error and the width or the height is 0 as it is written.
 #[tactic(auto, unfolding(crate::specs::DefectRows::defect_at))]
-fn defect_of(row: u64, fields: &ByteRecord) -> Result<Defect, BadText>
+pub fn defect_of(row: u64, fields: &ByteRecord) -> Result<Defect, BadText>
     ensures value { result ≡ defect_at row (fields_of fields.now) }
     ensures range { IfOk result IsDefectInRange }
 {

@@ -117,9 +117,14 @@ fn parameter_at(fields: &ByteRecord) -> Option<Name>
     }
 }
 
-/// What a row sets, if anything.
+/// What a row, whose number is `row`, sets, if anything.
+///
+/// The row has two fields, a name and a value. The names are `nPlates`, `widthPlates`, `heightPlates`, `min1Cut`,
+/// `max1Cut`, `min2Cut` and `minWaste`, perhaps between blanks; a row of another name sets nothing, whatever its value
+/// is. `Record` comes where the row has another number of fields. Where its name is one of these, `Number` comes where
+/// the value is no whole number, and `Range` where it is above 999,999,999.
 #[tactic(auto, unfolding(crate::specs::Settings::setting_at))]
-fn setting_of(row: u64, fields: &ByteRecord) -> Result<Option<Setting>, BadText>
+pub fn setting_of(row: u64, fields: &ByteRecord) -> Result<Option<Setting>, BadText>
     ensures { result ≡ setting_at row (fields_of fields.now) }
 {
     if fields.len() != 2 {

@@ -22,9 +22,14 @@ pub struct PlateWidth {
     pub width: u32,
 }
 
-/// The plate of a row and its width.
+/// The plate of a row, whose number is `row`, and its width.
+///
+/// The row has two fields, the number of a plate and its width in mm, which are whole numbers up to 999,999,999 and
+/// 20,000. `Record` comes where it has another number of fields, `Number` where one of them is no whole number, `Range`
+/// where one is too large; the first column in error decides. `ZeroWidth` comes where no column is in error and the
+/// width is 0.
 #[tactic(auto, unfolding(crate::specs::PlateRows::plate_at))]
-fn plate_of(row: u64, fields: &ByteRecord) -> Result<PlateWidth, BadText>
+pub fn plate_of(row: u64, fields: &ByteRecord) -> Result<PlateWidth, BadText>
     ensures value { result ≡ plate_at row (fields_of fields.now) }
     ensures range { IfOk result (λ p. IsWidth p.width) }
 {

@@ -7,18 +7,16 @@ use Rattle.glass_run.proofs.run.run_line.Goals as goal
 
 pub returns-in-Ok-clause-runs : goal.returns-in-Ok-clause-runs
 returns-in-Ok-clause-runs g c =
-    let line = line_in c.in-Some.line in
-    rw c.in-Some.is
-    (delivery_ends Answers line _ _ _ _ _ (answer_in (stored_as line) c.in-Ok.reply) _ c.in-Ok.ensures.same c.in-Ok.ensures.faults
-    (answers_told Answers _ line _ c.in-Ok.ensures.reply) c.in-Ok.reply.answered c.deliver.ensures.delivers)
+    let line = line_in c.args.line.now in
+    delivery_ends Answers line _ _ _ _ _ (answer_in (stored_as line) c.in-Ok.reply) _ c.in-Ok.ensures.same c.in-Ok.ensures.faults
+    (answers_told Answers _ line _ c.in-Ok.ensures.reply) c.in-Ok.reply.answered c.deliver.ensures.delivers
 
 pub returns-in-Err-ReadFault-clause-runs : goal.returns-in-Err-ReadFault-clause-runs
 returns-in-Err-ReadFault-clause-runs g c =
-    let line = line_in c.in-Some.line in
-    rw c.in-Some.is
-    (fault_ends Answers line _ _ _ _ c.in-Err-ReadFault.role _
+    let line = line_in c.args.line.now in
+    fault_ends Answers line _ _ _ _ c.in-Err-ReadFault.role _
     (fails_to_read line _ _ _ _ _
     (rw c.in-Err-ReadFault.field-0-is at c.in-Err-ReadFault.ensures.reached)
     c.in-Err-ReadFault.ensures.same
     (rw c.in-Err-ReadFault.field-0-is at c.in-Err-ReadFault.ensures.faults))
-    (rw (c.read_fault_line.ensures, c.in-Err-ReadFault.role-is) at c.print-in-Err-ReadFault.ensures.ends))
+    (rw (c.read_fault_line.ensures, c.in-Err-ReadFault.role-is) at c.print.ensures.ends)

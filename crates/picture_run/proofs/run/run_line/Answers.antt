@@ -7,7 +7,6 @@ use Rattle.picture_run.proofs.run.run_line.Goals as goal
 
 pub returns-in-Ok-clause-runs : goal.returns-in-Ok-clause-runs
 returns-in-Ok-clause-runs g c =
-    let line = line_in c.in-Some.line in
-    rw c.in-Some.is
-    (delivery_ends Answers line _ _ _ _ _ (answer_in (stored_as line) c.in-Ok.reply) _ c.in-Ok.ensures.same c.in-Ok.ensures.faults
-    (answers_told Answers _ line _ c.in-Ok.ensures.reply) c.in-Ok.reply.answered c.deliver.ensures.delivers)
+    let line = line_in c.args.line.now in
+    delivery_ends Answers line _ _ _ _ _ (answer_in (stored_as line) c.in-Ok.reply) _ c.in-Ok.ensures.same c.in-Ok.ensures.faults
+    (answers_told Answers _ line _ c.in-Ok.ensures.reply) c.in-Ok.reply.answered c.deliver.ensures.delivers

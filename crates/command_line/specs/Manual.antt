@@ -1,0 +1,193 @@
+-- What the programs tell of themselves: their commands and options, made from the table of commands, and their version.
+use Rattle.std.specs.Prelude.{◌≡◌, ◌&&◌, ◌||◌, ◌++◌, ℕ, List, [], ◌∷◌, Bool, true, if◌then◌else◌, Option, Some, None, codes}
+use Rattle.std.specs.Fmt.{decimal}
+use Rattle.std.specs.List.{flat_map, list_all, list_any}
+use Rattle.std.specs.Str.{bytes_eq}
+use Rattle.glass_base.specs.Roles.{is_role}
+use Rattle.glass_base.specs.declared.role.Role.{Role}
+use Rattle.glass_base.specs.declared.role.Role.TheVariants as role
+use Rattle.command_line.specs.Grammar.{flag_word, option_front, pattern_of, setting_of, verbs}
+use Rattle.command_line.specs.declared.grammar.Count.{Count}
+use Rattle.command_line.specs.declared.grammar.Count.TheVariants as count
+use Rattle.command_line.specs.declared.grammar.Flag.{Flag}
+use Rattle.command_line.specs.declared.grammar.Flag.TheVariants as flag
+use Rattle.command_line.specs.declared.grammar.Lead.{Lead}
+use Rattle.command_line.specs.declared.grammar.Lead.TheVariants as lead
+use Rattle.command_line.specs.declared.grammar.Product.{Product}
+use Rattle.command_line.specs.declared.grammar.Product.TheVariants as product
+use Rattle.command_line.specs.declared.grammar.Verb.{Verb}
+use Rattle.command_line.specs.declared.grammar.Verb.TheVariants as verb
+use Rattle.command_line.specs.declared.questions.Program.{Program}
+use Rattle.command_line.specs.declared.questions.Program.TheVariants as program
+use Rattle.command_line.specs.declared.questions.Question.{Question}
+use Rattle.command_line.specs.declared.questions.Question.TheVariants as question
+
+-- the question that a word asks, if it asks one: for the commands, or for the version
+abbrev pub question_said : List ℕ → Option Question
+question_said word =
+    if bytes_eq word (codes "--help") || bytes_eq word (codes "-h") then Some question.Help
+    else if bytes_eq word (codes "--version") then Some question.Version
+    else None
+
+-- the question that words are, if they are one: the word stands alone
+abbrev pub question_of : List (List ℕ) → Option Question
+question_of (word ∷ []) = question_said word
+question_of _ = None
+
+-- the names that the line of a command has for its numbers, for the files that it reads, and for those that it stores
+abbrev pub lead_name : Lead → List ℕ
+lead_name lead.Start = codes "START"
+lead_name lead.Items = codes "ITEMS"
+lead_name lead.Defects = codes "DEFECTS"
+lead_name lead.Frozen = codes "K"
+
+abbrev pub read_name : Role → List ℕ
+read_name role.Batch = codes "BATCH"
+read_name role.Defects = codes "DEFECTS"
+read_name role.Params = codes "PARAMS"
+read_name role.Plan = codes "PLAN"
+read_name role.Cert = codes "CERT"
+read_name role.Plates = codes "PLATES"
+read_name role.Sheet = codes "SHEET"
+
+-- a certificate that is stored is the new one, where one is read
+abbrev pub cert_name : List Role → List ℕ
+cert_name reads = if list_any (λ of. is_role role.Cert of) reads then codes "NEW" else codes "CERT"
+
+abbrev pub stored_name : List Role → Product → List ℕ
+stored_name reads product.Certificate = cert_name reads
+stored_name reads _ = codes "OUT"
+
+-- with what the line of a command begins; the program that draws has one command, whose word is not said
+abbrev pub line_front : Verb → List ℕ
+line_front verb.Picture = codes "glass-picture"
+line_front of = codes "glass " ++ (pattern_of of).word
+
+-- what the line of a command says of a number, of a file and of an option
+abbrev pub lead_piece : Lead → List ℕ
+lead_piece of = codes " " ++ lead_name of
+
+abbrev pub read_piece : Role → List ℕ
+read_piece of = codes " " ++ read_name of
+
+abbrev pub stored_piece : List Role → Product → List ℕ
+stored_piece reads of = codes " " ++ stored_name reads of
+
+abbrev pub option_piece : Role → List ℕ
+option_piece of = codes " [" ++ option_front of ++ codes "FILE]"
+
+abbrev pub count_piece : Count → List ℕ
+count_piece of = codes " [" ++ (setting_of of).front ++ codes "N]"
+
+abbrev pub flag_piece : Flag → List ℕ
+flag_piece of = codes " [" ++ flag_word of ++ codes "]"
+
+-- the line of a command: its numbers and its files, and behind them in brackets its options
+abbrev pub named_line : Verb → List ℕ
+named_line of =
+    let pattern = pattern_of of in
+    line_front of ++ flat_map lead_piece pattern.leads ++ flat_map read_piece pattern.reads ++ flat_map (stored_piece pattern.reads) pattern.stores
+
+abbrev pub usage_of : Verb → List ℕ
+usage_of of =
+    let pattern = pattern_of of in
+    named_line of ++ flat_map option_piece pattern.options ++ flat_map count_piece pattern.counts ++ flat_map flag_piece pattern.flags
+
+-- what the commands do
+abbrev pub verb_about : Verb → List ℕ
+verb_about verb.Draft = codes "a first plan, on plates without defects"
+verb_about verb.Plan = codes "a plan that loses little, and a certificate of the bound on the loss"
+verb_about verb.Gen = codes "the same of an instance that is drawn from numbers"
+verb_about verb.Judge = codes "the loss of a plan, or the first rule that it breaks"
+verb_about verb.Verify = codes "checks a plan, or a dash in its place, and a certificate"
+verb_about verb.Convert = codes "checks them as well, and names the causes in the certificate"
+verb_about verb.Resume = codes "checks them as well, and goes on with the search"
+verb_about verb.Freeze = codes "plans anew what stands behind the first K plates"
+verb_about verb.Sheet = codes "the instructions by which a table cuts a plan"
+verb_about verb.Replay = codes "follows such instructions"
+verb_about verb.Picture = codes "a picture of a plan, with its loss or the first rule that it breaks"
+
+-- what the options do
+abbrev pub option_about : Role → List ℕ
+option_about role.Params = codes "other sizes of plates and other least sizes of pieces"
+option_about role.Plates = codes "plates with widths of their own"
+option_about _ = codes "another file"
+
+abbrev pub count_about : Count → List ℕ
+count_about count.Workers = codes "how many workers search"
+count_about count.Budget = codes "how many boxes a search handles at the most"
+count_about count.Frozen = codes "how many plates are cut already"
+count_about count.Effort = codes "a better first plan, for so many million ticks (300 are some ten seconds)"
+
+abbrev pub flag_about : Flag → List ℕ
+flag_about flag.Watch = codes "tells the losses on the way as well"
+flag_about flag.Fronts = codes "begins with what fronts show: mostly optimal, where stacks are few"
+
+-- a line, and indented below it what it is for
+abbrev pub entry : List ℕ → List ℕ → List ℕ
+entry line about = codes "  " ++ line ++ codes "\n      " ++ about ++ codes "\n"
+
+abbrev pub verb_entry : Verb → List ℕ
+verb_entry of = entry (usage_of of) (verb_about of)
+
+abbrev pub option_entry : Role → List ℕ
+option_entry of = entry (option_front of ++ codes "FILE") (option_about of)
+
+-- with the numbers that can be set, and the one that is set where the option is not there
+abbrev pub count_told : Count → List ℕ
+count_told of = count_about of ++ codes ": 1 to " ++ decimal (setting_of of).most ++ codes ", usually " ++ decimal (setting_of of).usual
+
+abbrev pub count_entry : Count → List ℕ
+count_entry of = entry ((setting_of of).front ++ codes "N") (count_told of)
+
+abbrev pub flag_entry : Flag → List ℕ
+flag_entry of = entry (flag_word of) (flag_about of)
+
+-- a program by its name, its commands, and their options
+pub record Manual : Type 0 where
+  pub name : List ℕ
+  pub verbs : List Verb
+  pub options : List Role
+  pub counts : List Count
+  pub flags : List Flag
+
+abbrev pub manual_of : Program → Manual
+manual_of program.Glass = record {
+  name = codes "glass";
+  verbs = verbs;
+  options = role.Params ∷ role.Plates ∷ [];
+  counts = count.Workers ∷ count.Budget ∷ count.Effort ∷ count.Frozen ∷ [];
+  flags = flag.Watch ∷ flag.Fronts ∷ [];
+}
+manual_of program.Picture = record { name = codes "glass-picture"; verbs = verb.Picture ∷ []; options = role.Params ∷ role.Plates ∷ []; counts = []; flags = [] }
+
+-- the commands and the options of a program
+unfoldable pub commands_text : Manual → List ℕ
+commands_text manual = codes "usage:\n" ++ flat_map verb_entry manual.verbs
+
+unfoldable pub options_text : Manual → List ℕ
+options_text manual =
+    codes "\noptions, behind the names and in any order:\n" ++ flat_map option_entry manual.options ++ flat_map count_entry manual.counts
+    ++ flat_map flag_entry manual.flags
+
+abbrev pub help_text : Program → List ℕ
+help_text of = commands_text (manual_of of) ++ options_text (manual_of of) ++ codes "\n--help, -h and --version, alone, tell this and the version\n"
+
+-- the version of a program, and the toolchain that it is proved with
+abbrev pub version_line : Program → List ℕ
+version_line of = (manual_of of).name ++ codes " 1.0 rattle-kit-13f\n"
+
+-- the answer of a program to a question
+abbrev pub answer_of : Program → Question → List ℕ
+answer_of of question.Help = help_text of
+answer_of of question.Version = version_line of
+
+-- each option of each command of a program is told
+abbrev pub AreTold : Program → Type 0
+AreTold of =
+    let manual = manual_of of in
+    let is_told : Verb → Bool = λ v.
+    list_all (λ x. list_any (λ y. bytes_eq (option_front x) (option_front y)) manual.options) (pattern_of v).options
+    && list_all (λ x. list_any (λ y. bytes_eq (setting_of x).front (setting_of y).front) manual.counts) (pattern_of v).counts
+    && list_all (λ x. list_any (λ y. bytes_eq (flag_word x) (flag_word y)) manual.flags) (pattern_of v).flags in
+    list_all is_told manual.verbs ≡ true
