@@ -1,243 +1,181 @@
 #!/usr/bin/env bash
-# What the launchers share: each proves and builds its program where that is not done yet, shows how far it is, and then runs it.
+# What the launchers share: each runs its program in dist/ where that was made from the sources that stand here and runs on
+# this machine. Otherwise it proves and builds the program, by builder.sh, where that is not done yet, and then runs it.
 # The launcher that takes this in has set `top`, the folder of the repository.
 
-launcher=$(basename "$0")
+launcher=${0##*/}
 room=$top/.build
+# Of the programs of dist/ the ones that were made for this processor and system, as bash names them (HOSTTYPE can come
+# from the environment).
+case ${BASH_VERSINFO[5]} in
+  *-linux*) kind=${BASH_VERSINFO[5]%%-*}-linux ;;
+  *) kind=${BASH_VERSINFO[5]} ;;
+esac
+stored=$top/dist/$kind
 
-# built PROGRAM WORDS..: proves and builds the program, a crate, where it is not built yet or a source is newer than it. Behind its proof it is run once,
-# with these words, in its crate's folder.
+# The programs by their names in dist/: the crate of each, and the words with which it is run once behind its proof.
+program_names=(glass glass-picture)
+declare -A program_crate=([glass]=glass_program [glass-picture]=glass_picture)
+declare -A program_words=(
+  [glass]='draft data/batch.csv /dev/null'
+  [glass-picture]='data/batch.csv data/defects.csv data/plan.csv /dev/null'
+)
+
+# ready NAME: sets `program` to what is to be run: the program of that name in dist/, or else what its crate is built as.
+ready() {
+  local why=''
+  program=$stored/$1
+  if ! is_stored "$1"; then
+    program=$(built "$1")
+    if ! is_built "$1"; then
+      . "$top/builder.sh"
+      prove_program "$1"
+    fi
+  fi
+}
+
+# built NAME: the file as which the program of that name is built here.
 built() {
-  if ! is_built "$1"; then
-    mkdir -p "$room" 2> /dev/null || fail "the program is not built yet, and $top, where it is built, cannot be written to: clone the repository into a folder of yours"
-    exec 9> "$room/lock"
-    if ! flock -n 9; then
-      say "another launcher is building; waiting for it"
-      flock 9
-    fi
-    is_built "$1" || build "$@"
-    exec 9>&-
-  fi
+  echo "$top/crates/${program_crate[$1]}/out/${program_crate[$1]}"
 }
 
-is_built() {
-  local file=$top/crates/$1/out/$1
-  [ -x "$file" ] && [ -z "$(find "$top"/crates/*/src -newer "$file" -print -quit)" ]
-}
-
-# Of each crate that the program needs, itself among them: the libraries that it stands on, and the bytes to be proved on the longest way from it up to the
-# program.
-declare -A below=() ahead=()
-# Of each crate that is at work: its process, the folder of the copy in which it is proved, how many processors it has, and when it began, in seconds of this
-# build. The crates that are proved.
-declare -A process=() place=() share=() since=() proved=()
-
-build() {
-  local program=$1 processors shown='' name
-  command -v rt > /dev/null || fail "the program is not built yet, and rt, the command of the Rattle toolchain, which builds it, is not on PATH: install it and try again"
-  rm -rf "$room"/copy*
-  set -m # a process group for each crate, so that all of it can be stopped
-  trap 'fail "the build was stopped: start the same command again, and it goes on behind the crates that are proved"' INT TERM HUP
-  SECONDS=0
-  read_crates "$program"
-  processors=$(count_processors)
-  say "proving and building the program: ${#ahead[@]} crates, $processors side by side"
-  while ((${#proved[@]} < ${#ahead[@]})); do
-    start_ready "$@"
-    tell
-    sleep 0.2
-    for name in "${!process[@]}"; do
-      if ! kill -0 "${process[$name]}" 2> /dev/null; then
-        finish "$name"
-      fi
-    done
-  done
-  trap - INT TERM HUP
-  set +m
-  rm -rf "$room"/copy*
-  touch "$top/crates/$program/out/$program" # (rt leaves it as it is where nothing that it needs has changed)
-  say "built in $(lasted $SECONDS)"
-}
-
-# read_crates PROGRAM: fills `below` and `ahead` from crates.txt, which names each crate behind those that it uses.
-read_crates() {
-  local line name library index listed=()
-  while IFS= read -r line; do
-    line=${line%%#*}
-    name=${line%%[: ]*}
-    if [ -n "$name" ]; then
-      listed+=("$name")
-      below[$name]=''
-      # (the libraries that no line names are the toolchain's)
-      for library in ${line#*:}; do
-        if [ -n "${below[$library]+ours}" ]; then
-          add_below "$name" ${below[$library]} "$library"
-        fi
-      done
-    fi
-  done < "$top/crates.txt"
-  local -A bytes=()
-  while read -r name index; do
-    bytes[$name]=$index
-  done < <(count_bytes)
-  ahead[$1]=0
-  for ((index = ${#listed[@]} - 1; index >= 0; index--)); do
-    name=${listed[index]}
-    if [ -n "${ahead[$name]:-}" ]; then
-      ahead[$name]=$((ahead[$name] + ${bytes[$name]:-0}))
-      for library in ${below[$name]}; do
-        if ((${ahead[$library]:-0} < ahead[$name])); then
-          ahead[$library]=${ahead[$name]}
-        fi
-      done
-    fi
-  done
-}
-
-# add_below CRATE LIBRARY..: adds libraries to those that the crate stands on, each once.
-add_below() {
-  local library
-  for library in "${@:2}"; do
-    if [[ " ${below[$1]} " != *" $library "* ]]; then
-      below[$1]+=" $library"
-    fi
-  done
-}
-
-# count_bytes: of each crate its name, and the bytes of its sources, definitions and proofs.
-count_bytes() {
-  find "$top/crates" -path '*/out' -prune -o \( -name '*.rt' -o -name '*.antt' \) -printf '%P %s\n' |
-    awk -F '[/ ]' '{ sum[$1] += $NF } END { for (name in sum) print name, sum[name] }'
-}
-
-# count_processors: how many processors to use, with 3 GB of free memory for each, which is what a large crate may take.
-count_processors() {
-  awk -v most="$(nproc)" '/^MemAvailable:/ { room = int($2 / 3000000) } END { print room < 1 ? 1 : room < most ? room : most }' /proc/meminfo
-}
-
-# start_ready PROGRAM WORDS..: starts crates whose libraries are proved, the longest way first, as long as processors are free. The longest way of all, which
-# says how long the build takes, may use all processors beside others; where fewer crates wait than processors are free, they share these.
-start_ready() {
-  local name library part longest=0 ready=() free=$processors
-  for name in "${!process[@]}"; do
-    free=$((free - share[$name]))
-    longest=$((ahead[$name] > longest ? ahead[$name] : longest))
-  done
-  for name in "${!ahead[@]}"; do
-    if [ -z "${proved[$name]:-}${process[$name]:-}" ]; then
-      for library in ${below[$name]}; do
-        [ -n "${proved[$library]:-}" ] || continue 2
-      done
-      ready+=("${ahead[$name]} $name")
-    fi
-  done
-  mapfile -t ready < <(((${#ready[@]} == 0)) || printf '%s\n' "${ready[@]}" | sort -rn)
-  while ((free > 0 && ${#ready[@]} > 0)); do
-    name=${ready[0]#* }
-    part=$((free / ${#ready[@]} > 0 ? free / ${#ready[@]} : 1))
-    start "$name" "$part" $((ahead[$name] > longest ? processors : part)) "$@"
-    longest=$((ahead[$name] > longest ? ahead[$name] : longest))
-    free=$((free - part))
-    ready=("${ready[@]:1}")
-  done
-}
-
-# start CRATE SHARE JOBS PROGRAM WORDS..: proves the crate beside this script by so many jobs, counted as this share of the processors, and makes its library,
-# or the program, which it runs with the words.
-start() {
-  local name=$1 command=(lib --jobs "$3")
-  share[$name]=$2
-  since[$name]=$SECONDS
-  if [ "$name" = "$4" ]; then
-    command=(run --jobs "$3" -- "${@:5}")
-    place[$name]=$top
+# run WORDS..: runs the program that is ready. To its version the sum of the sources is added, which it cannot know.
+run() {
+  local said
+  if [ "$#:$*" = 1:--version ]; then
+    said=$("$program" --version) || exit
+    echo "$said sources $sources"
   else
-    take_place "$name"
-  fi
-  (cd "${place[$name]}/crates/$name" && exec rt "${command[@]}") > "$room/$name.log" 2>&1 < /dev/null 9>&- &
-  process[$name]=$!
-}
-
-# take_place CRATE: a copy of the repository in which nothing else is at work, with what was proved so far of the crate and of the libraries below it. In one
-# folder rt proves no two crates at a time that stand on one library.
-take_place() {
-  local name=$1 copy library number=0
-  while copy=$room/copy$number && is_taken "$copy"; do
-    number=$((number + 1))
-  done
-  place[$name]=$copy
-  if [ ! -d "$copy" ]; then
-    mkdir "$copy"
-    tar -C "$top" --exclude='crates/*/out' -cf - crates crates.txt HANDLES | tar -C "$copy" -xf -
-  fi
-  for library in ${below[$name]}; do
-    if [ ! -d "$copy/crates/$library/out" ]; then
-      mkdir "$copy/crates/$library/out"
-      cp -al "$top/crates/$library/out/rlib" "$copy/crates/$library/out/"
-    fi
-  done
-  rm -rf "$copy/crates/$name/out"
-  if [ -d "$top/crates/$name/out" ]; then
-    mv "$top/crates/$name/out" "$copy/crates/$name/out"
+    exec "$program" "$@"
   fi
 }
 
-# is_taken FOLDER: whether a crate is proved there.
-is_taken() {
-  local it
-  for it in "${place[@]}"; do
-    if [ "$it" = "$1" ]; then
+# is_stored NAME: whether the program of that name in dist/ is whole, was made from the sources that stand here, and runs
+# on this machine. Sets `why` if not. That it was so on this machine is remembered with the look at the sources.
+is_stored() {
+  local said made note=$room/$1.stored
+  if [ ! -f "$stored/$1" ] || [ ! -f "$top/dist/SUMS" ]; then
+    why="dist/ has no program for this processor and system, $kind"
+  elif ! look_at_sources; then
+    why="the sources cannot be read"
+  elif read -r made 2> /dev/null < "$note" && [ "$made" = "$look $HOSTNAME" ]; then
+    return 0
+  elif [ "$(sum_said sources)" != "$sources" ]; then
+    why="the program in dist/ was made from other sources than stand here"
+  elif made=$(sum_of "$stored/$1") && [ "$(sum_said "$kind/$1")" != "$made" ]; then
+    why="the program in dist/ is not the one that dist/SUMS names"
+  elif ! grep -qm1 '^flags.* sse4_2 .*popcnt' /proc/cpuinfo 2> /dev/null; then
+    why="this processor lacks what the program in dist/ takes (x86-64-v2)"
+  else
+    # (where its C library is too old the system ends it with 1, which would say that a plan is stored: so it is tried)
+    said=$("$stored/$1" --version 2>&1 < /dev/null) || true
+    if [ "${said%% *}" = "$1" ]; then
+      if [ -w "$room" ]; then
+        echo "$look $HOSTNAME" > "$note.$$" && mv -f "$note.$$" "$note"
+      fi
       return 0
     fi
-  done
+    why="the program in dist/ does not run here (${said%%$'\n'*})"
+  fi
   return 1
 }
 
-# leave_place CRATE: brings what was proved of the crate home.
-leave_place() {
-  if [ "${place[$1]}" != "$top" ] && [ -d "${place[$1]}/crates/$1/out" ]; then
-    rm -rf "$top/crates/$1/out"
-    mv "${place[$1]}/crates/$1/out" "$top/crates/$1/out"
-  fi
-  unset "place[$1]" "process[$1]"
+# sum_said NAME: the sum that dist/SUMS has of a program, or of the sources.
+sum_said() {
+  local sum name rest
+  while read -r sum name rest; do
+    if [ "$sum $name" = "# $1" ]; then
+      echo "$rest"
+    elif [ "$name" = "$1" ]; then
+      echo "$sum"
+    fi
+  done < "$top/dist/SUMS"
 }
 
-# finish CRATE: takes note of a crate whose process has ended.
-finish() {
-  local status=0
-  wait "${process[$1]}" || status=$?
-  leave_place "$1"
-  if ((status != 0)); then
-    fail "the crate $1 could not be proved and built; $room/$1.log says why: put that right and start the same command again, which goes on from there"
-  fi
-  proved[$1]=yes
-  if ! is_terminal; then
-    say "${#proved[@]} of ${#ahead[@]} crates proved, $1 in $(lasted $((SECONDS - since[$1])))"
+sum_of() {
+  local sum
+  sum=$(sha256sum < "$1" 2> /dev/null) && echo "${sum%% *}"
+}
+
+# look_at_sources: sets `sources` to the sum of all that the programs are made from but the toolchain, and `look` to what
+# tells this look from others. Both are remembered in a file of .build, if that can be written, as old as the look less a
+# second, and taken from there while nothing changed since, in dist/ neither (by the times at which files and folders were
+# changed, which no command sets back).
+look_at_sources() {
+  local file=$room/sources began=${EPOCHSECONDS:-$(date +%s)} parts=() new
+  if ! { read -r sources && read -r look && read -ra parts; } 2> /dev/null < "$file" || has_changed; then
+    list_parts
+    sources=$(sum_parts) || return 1
+    look=${EPOCHREALTIME:-$began}-$$
+    if mkdir -p "$room" 2> /dev/null && new=$(mktemp "$file-XXXXXX" 2> /dev/null); then
+      printf '%s\n' "$sources" "$look" "${parts[*]}" > "$new"
+      touch -d "@$((began - 1))" "$new"
+      chmod a+r "$new"
+      mv -f "$new" "$file"
+    fi
   fi
 }
 
-# tell: how far it is, on a terminal, in a line that is written over the last one.
-tell() {
-  local names line
-  if is_terminal && [ "$shown" != "$SECONDS" ]; then
-    shown=$SECONDS
-    names=$(printf '%s\n' "${!process[@]}" | sort | paste -sd ' ')
-    line="$launcher: ${#proved[@]} of ${#ahead[@]} crates proved, $(lasted "$SECONDS"), now $names"
-    printf '\r\e[K%s' "${line:0:$(($(tput cols 2> /dev/null || echo 80) - 1))}" >&2
+# has_changed: whether one of `parts` or dist/ has changed since the look that is remembered.
+has_changed() {
+  local part
+  for part in "${parts[@]}"; do
+    [ ! "$top/${part%/*}" -nt "$file" ] || return 0
+  done
+  [ -n "$(cd "$top" && { find crates.txt HANDLES dist "${parts[@]}" -cnewer "$file" -print -quit 2> /dev/null || echo gone; })" ]
+}
+
+# list_parts: sets `parts` to the folders of sources, definitions and proofs of both programs' crates and of those below
+# them.
+list_parts() {
+  local names name part
+  # (crates.txt names each crate behind those that it uses)
+  names=$(
+    tac "$top/crates.txt" | awk -F '[: ]+' '
+      { sub(/#.*/, "") }
+      $1 == "glass_program" || $1 == "glass_picture" || $1 in used { for (at = 2; at <= NF; at++) used[$at]; print $1 }'
+  )
+  parts=()
+  for name in $names; do
+    for part in src specs proofs; do
+      [ ! -d "$top/crates/$name/$part" ] || parts+=("crates/$name/$part")
+    done
+  done
+}
+
+# sum_parts: the sum of the sums of crates.txt, HANDLES, and all files of `parts` in the order of their names, as
+# b2sum -l 256 writes them at the top of the repository (sha256sum takes twice as long).
+sum_parts() {
+  local sum
+  sum=$(
+    set -o pipefail
+    cd "$top"
+    { printf '%s\0' crates.txt HANDLES && find "${parts[@]}" ! -type d -print0 | LC_ALL=C sort -z; } |
+      xargs -0 b2sum -l 256 | b2sum -l 256
+  ) 2> /dev/null && echo "${sum%% *}"
+}
+
+# is_built NAME: whether the program of that name was proved and built here, from the sources that stand here and by this
+# toolchain.
+is_built() {
+  local file note=$room/$1.proved of kit made
+  file=$(built "$1")
+  [ -x "$file" ] && [ -f "$note" ] && look_at_sources || return 1
+  { read -r of && read -r made && read -r kit; } < "$note" || return 1
+  [ "$of" = "$sources" ] && [ "$made" = "$(sum_of "$file")" ] && [[ $(mark_kit) = @(|"$kit") ]]
+}
+
+# mark_kit: what tells one toolchain from another, at once (`rt version` takes a quarter of a second); nothing where there
+# is none.
+mark_kit() {
+  local rt
+  if rt=$(command -v rt); then
+    stat -Lc '%s %Y %Z' "$rt"
   fi
 }
 
 is_terminal() {
   [ -t 2 ] && [ "${TERM:-dumb}" != dumb ]
-}
-
-# lasted SECONDS: a time as people say it.
-lasted() {
-  if (($1 < 60)); then
-    echo "$1 s"
-  else
-    echo "$(($1 / 60)) min $(($1 % 60)) s"
-  fi
 }
 
 # say WORDS: a line of its own on standard error.
@@ -246,20 +184,4 @@ say() {
     printf '\r\e[K' >&2
   fi
   echo "$launcher: $1" >&2
-}
-
-# fail WHY: stops what still runs, and ends with the status that tells that the program could not be built.
-fail() {
-  local name
-  trap '' INT TERM HUP
-  for name in "${!process[@]}"; do
-    kill -- "-${process[$name]}" 2> /dev/null || true
-  done
-  for name in "${!process[@]}"; do
-    wait "${process[$name]}" 2> /dev/null || true
-    leave_place "$name"
-  done
-  rm -rf "$room"/copy* # (beside them rt ci would not run)
-  say "$1"
-  exit 70
 }

@@ -5,12 +5,12 @@
 # is, and where no box is open in one, `verify` has to refuse a floor that is one too high. The program is built first where it is not yet.
 set -euo pipefail
 top=$(cd "$(dirname "$(readlink -f "$0")")/.." && pwd)
-program=$top/crates/glass_program/out/glass_program
+. "$top/launcher.sh"
+ready glass
 work=$(mktemp -d)
 trap 'rm -rf "$work"' EXIT
 cd "$work"
 runs() { "$@" || [ $? -le 2 ]; }
-runs "$top/glass" gen 7 1 0 plan cert > printed
 agree=0 floors=0
 count=${1:-1000}
 fronts=("${@:2}")

@@ -44,7 +44,8 @@ int posix_memalign(void **p, size_t a, size_t n) {
 }
 C
 gcc -O2 -shared -fPIC -o "$work/refuse.so" "$work/refuse.c"
-program=$top/crates/glass_program/out/glass_program
+. "$top/launcher.sh"
+ready glass
 cd "$work"
 printf 'ITEM_ID;LENGTH_ITEM;WIDTH_ITEM;STACK;SEQUENCE\n0;500;300;0;1\n' > one.csv
 printf 'ITEM_ID;LENGTH_ITEM;WIDTH_ITEM;STACK;SEQUENCE\n0;500;300;0;1\n1;3000;3210;1;1\n2;3000;3210;2;1\n' > three.csv

@@ -6,7 +6,8 @@
 # chains (300) may be given. The program is built first where it is not yet.
 set -euo pipefail
 top=$(cd "$(dirname "$(readlink -f "$0")")/.." && pwd)
-program=$top/crates/glass_program/out/glass_program
+. "$top/launcher.sh"
+ready glass
 work=$(mktemp -d)
 trap 'rm -rf "$work"' EXIT
 cd "$work"
@@ -47,7 +48,6 @@ goes_right() {
   runs "$program" gen "$start" "$items" "$defects" whole whole_cert > whole_printed
   [ "$(sed -n 2p whole_printed)" = "loss $loss" ] && ! grep -q stopped whole_printed
 }
-runs "$top/glass" gen 7 1 0 plan cert > printed
 right=0
 steps=0
 ended=0

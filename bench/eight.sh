@@ -4,12 +4,12 @@
 # each. How many instances (100) and how many workers (8) may be given. The program is built first where it is not yet.
 set -euo pipefail
 top=$(cd "$(dirname "$(readlink -f "$0")")/.." && pwd)
-program=$top/crates/glass_program/out/glass_program
+. "$top/launcher.sh"
+ready glass
 work=$(mktemp -d)
 trap 'rm -rf "$work"' EXIT
 cd "$work"
 runs() { "$@" || [ $? -le 2 ]; }
-runs "$top/glass" gen 7 1 0 plan cert > printed
 count=${1:-100}
 workers=${2:-8}
 accepted=0

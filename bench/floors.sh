@@ -5,7 +5,8 @@
 # then proved to be the least. How many instances (300) may be given. The program is built first where it is not yet.
 set -euo pipefail
 top=$(cd "$(dirname "$(readlink -f "$0")")/.." && pwd)
-program=$top/crates/glass_program/out/glass_program
+. "$top/launcher.sh"
+ready glass
 work=$(mktemp -d)
 trap 'rm -rf "$work"' EXIT
 cd "$work"
@@ -14,7 +15,6 @@ answer() {
   printf '%s\n' "$@" > floored
   "$program" verify batch defects plan floored || true
 }
-[ -x "$program" ] || runs "$top/glass" gen 7 1 0 plan cert > printed
 right=0 least=0 planned=0
 count=${1:-300}
 for ((start = 1; start <= count; start++)); do

@@ -4,7 +4,9 @@
 # number to draw from. The programs are built first where they are not yet.
 set -euo pipefail
 top=$(cd "$(dirname "$(readlink -f "$0")")/.." && pwd)
-glass=$top/crates/glass_program/out/glass_program
+. "$top/launcher.sh"
+ready glass
+glass=$program
 fronts=$top/crates/front_book/out/front_book
 work=$(mktemp -d)
 trap 'rm -rf "$work"' EXIT
@@ -12,7 +14,6 @@ cd "$work"
 runs() { "$@" || [ $? -le 2 ]; }
 count=${1:-2000}
 first=${2:-1}
-runs "$top/glass" gen 7 1 0 plan cert > printed
 [ -x "$fronts" ] || (cd "$top/crates/front_book" && rt run < stdin) > built 2>&1
 awk -v count="$count" -v first="$first" '
   function draw(n) { x = (1664525 * x + 1013904223) % 4294967296; return int(x / 65536) % n }

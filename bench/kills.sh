@@ -5,7 +5,8 @@
 # is not yet.
 set -euo pipefail
 top=$(cd "$(dirname "$(readlink -f "$0")")/.." && pwd)
-program=$top/crates/glass_program/out/glass_program
+. "$top/launcher.sh"
+ready glass
 kills=${1:-200}
 work=$(mktemp -d)
 trap 'rm -rf "$work"' EXIT

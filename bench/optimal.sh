@@ -4,12 +4,12 @@
 # The program is built first where it is not yet.
 set -euo pipefail
 top=$(cd "$(dirname "$(readlink -f "$0")")/.." && pwd)
-program=$top/crates/glass_program/out/glass_program
+. "$top/launcher.sh"
+ready glass
 work=$(mktemp -d)
 trap 'rm -rf "$work"' EXIT
 cd "$work"
 runs() { "$@" || [ $? -le 2 ]; }
-[ -x "$program" ] || runs "$top/glass" gen 7 1 0 plan cert > printed
 value() { awk -v word="$1" '$1 == word { print $2 }' printed; }
 row() {
   local name=$1 items stacks flaws bound
