@@ -1,5 +1,5 @@
 -- What a user may conclude from how a check of a certificate ended.
-use Rattle.std.proofs.Common.{◌≡◌, ℕ, zero, suc, List, sym, ap, subst, ◌∙◌, inl, inr, Option}
+use Rattle.std.proofs.Common.{◌≡◌, ◌≢◌, ℕ, zero, suc, List, sym, ap, subst, ◌∙◌, inl, inr, Option}
 use Rattle.glass_base.specs.Problem.{Problem}
 use Rattle.glass_base.specs.declared.role.Role.TheVariants as role
 use Rattle.glass_io.specs.Told.{Contents}
@@ -9,7 +9,7 @@ use Rattle.cert_log.specs.Texts.{cert_text}
 use Rattle.cert_log.proofs.Covers.{bounds_each_plan}
 use Rattle.plan_freeze.specs.Claims.{IsFrozen}
 use Rattle.run_frame.specs.Answers.{Answer}
-use Rattle.run_checks.specs.Checks.{Converts, IsAccepted, NotAccepted, Verifies, loss_in}
+use Rattle.run_checks.specs.Checks.{Converts, IsAccepted, NotAccepted, Verifies, converted, loss_in, too_long_to_store}
 use Rattle.glass_run.specs.FreezeHeadlines.{AcceptsBehind, AcceptsFrom, cut_already}
 use Rattle.run_checks.specs.FrozenChecks.{NotAcceptedBehind, VerifiesBehind, VerifiesFrom, loss_behind}
 use Rattle.run_checks.specs.Checks.NotAccepted.{bad_cert, bad_plan, bad_tree, broken_plan}
@@ -18,13 +18,14 @@ use Rattle.command_line.specs.Grammar.{Line, count_in}
 use Rattle.command_line.specs.declared.grammar.Count.TheVariants as count
 use Rattle.glass_run.specs.Headlines.{Accepts, Ended, FindsRight, SaidBy, StoresConverted}
 use Rattle.run_frame.specs.Runs.{Completes, Prints, Stands, World}
-use Rattle.run_frame.specs.Texts.{Texts, text_for, text_or_empty}
+use Rattle.run_frame.specs.Texts.{Texts, limit_of, text_for, text_or_empty}
 use Rattle.command_line.specs.declared.grammar.Verb.{Verb}
 use Rattle.command_line.specs.declared.grammar.Verb.TheVariants as verb
+use Rattle.run_frame.specs.declared.status.Status.{Status}
 use Rattle.run_frame.specs.declared.status.Status.TheVariants as status
 use Rattle.run_checks.proofs.RaisedBounds.{bounds_behind}
 use Rattle.run_frame.proofs.Stores.{one_stored, unchanged}
-use Rattle.glass_run.proofs.Headlines.{Says, completed_says, rules_of}
+use Rattle.glass_run.proofs.Headlines.{Says, completed_says, if_short, rules_of}
 use Rattle.run_frame.proofs.Statuses.{IsRefused}
 use Rattle.run_plans.proofs.Statuses.{plan_refused}
 use Rattle.run_checks.proofs.Statuses.{cert_refused}
@@ -98,21 +99,28 @@ accepts_from : (k : ℕ) (line : Line) (held : Contents) (old new : World) (answ
 accepts_from zero line held old new answer texts b reads is verifies stored prints = accepts line held old new answer texts b reads is verifies stored prints
 accepts_from (suc k) line held old new answer texts b reads is verifies stored prints = accepts_behind (suc k) line held old new answer texts b reads is verifies stored prints
 
+not_bad : status.Done ≢ status.BadInput
+not_bad e = cc e
+
+-- what was converted is stored, and its text is no longer than one that is read
 converts : (line : Line) (held : Contents) (old new : World) (answer : Answer) → line.verb ≡ verb.Convert → status.Done ≡ answer.status → Says line held answer →
     Stands answer.stores old.shelf.contents new.shelf.contents → Prints answer.lines old.paper new.paper → StoresConverted line held old new
 converts line held old new answer of is s stored prints =
     let converts : Converts s.b (text_for s.texts role.Plan) (text_or_empty s.texts role.Cert) (cert_name line) answer = subst (λ (v : Verb). AnswersInstance v line s.texts s.b answer) of s.answers in
     elim converts [
-      | inl v ↦ record {
-        texts = s.texts;
-        b = s.b;
-        certificate = v.1;
-        converted = v.2;
-        right = finds_right line held s.texts s.b v.0 v.1 s.reads v.3;
-        names = v.4;
-        stored = one_stored (record { name = cert_name line; bytes = cert_text v.2 }) old.shelf.contents new.shelf.contents (subst (λ (a : Answer). Stands a.stores old.shelf.contents new.shelf.contents) v.5 stored);
-        prints = subst (λ (a : Answer). Prints a.lines old.paper new.paper) v.5 prints;
-      }
+      | inl v ↦
+          let kept = if_short (λ (of : Status). status.Done ≡ of) (cert_text v.2) (limit_of role.Cert) (converted (cert_name line) v.2) (too_long_to_store role.Cert (cert_text v.2)) answer is not_bad v.5 in
+          record {
+            texts = s.texts;
+            b = s.b;
+            certificate = v.1;
+            converted = v.2;
+            right = finds_right line held s.texts s.b v.0 v.1 s.reads v.3;
+            names = v.4;
+            readable = kept.0;
+            stored = one_stored (record { name = cert_name line; bytes = cert_text v.2 }) old.shelf.contents new.shelf.contents (subst (λ (a : Answer). Stands a.stores old.shelf.contents new.shelf.contents) kept.1 stored);
+            prints = subst (λ (a : Answer). Prints a.lines old.paper new.paper) kept.1 prints;
+          }
       | inr other ↦ absurd (never_done s.b (text_for s.texts role.Plan) (text_or_empty s.texts role.Cert) answer is other)
     ]
 

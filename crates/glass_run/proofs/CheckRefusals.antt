@@ -11,7 +11,7 @@ use Rattle.cert_log.specs.declared.certificate.Certificate.{Certificate}
 use Rattle.cert_log.specs.Texts.{cert_text}
 use Rattle.plan_csv.specs.PlanTexts.{plan_said}
 use Rattle.run_frame.specs.Answers.{Answer}
-use Rattle.run_checks.specs.Checks.{Converts, NotAccepted}
+use Rattle.run_checks.specs.Checks.{Converts, NotAccepted, converted, too_long_to_store}
 use Rattle.glass_run.specs.FreezeHeadlines.{FindsWrongBehind, FindsWrongFrom, cut_already}
 use Rattle.run_checks.specs.FrozenChecks.{NotAcceptedBehind, VerifiesFrom}
 use Rattle.run_checks.specs.Checks.NotAccepted.{bad_cert, bad_plan, bad_tree, broken_plan}
@@ -31,7 +31,7 @@ use Rattle.run_frame.specs.declared.status.Status.{Status}
 use Rattle.run_frame.specs.declared.status.Status.TheVariants as status
 use Rattle.glass_run.proofs.FreezeHeadline.{unlawful_freeze}
 use Rattle.run_frame.proofs.Stores.{unchanged}
-use Rattle.glass_run.proofs.Headlines.{Says, completed_says, unlawful_judgement}
+use Rattle.glass_run.proofs.Headlines.{Says, completed_says, neither, unlawful_judgement}
 use Rattle.glass_run.proofs.SheetHeadline.{unlawful_sheet}
 use Rattle.run_frame.proofs.Statuses.{IsRefused}
 use Rattle.run_plans.proofs.Statuses.{plan_refused}
@@ -163,15 +163,10 @@ ends_well true true h = h
 ends_well true false h = h
 ends_well false planned h = h
 
--- the status of an answer that is one of two
-neither : (read : Bool) (good other : Answer) → ¬ IsRefusal good.status → ¬ IsRefusal other.status → IsRefusal (if read then good else other).status → ⊥
-neither true good other well bad h = well h
-neither false good other well bad h = bad h
-
 -- what came of a search that went on is stored, or cannot be read again
 goes_well : (b : Problem) (budget : ℕ) (plan : Option Forest) (c : Certificate) (out new : List ℕ) (answer : Answer) → IsRefusal answer.status → GoesOn b budget plan c out new answer → ⊥
 goes_well b budget plan c out new answer is g =
-    neither (nat_le (length (cert_text g.certificate)) (limit_of role.Cert)) (planned b out new g.certificate g.best None) (too_long_to_read g.certificate)
+    neither IsRefusal (nat_le (length (cert_text g.certificate)) (limit_of role.Cert)) (planned b out new g.certificate g.best None) (too_long_to_read g.certificate)
     (ends_well (g.certificate.left == 0) (is_some g.certificate.loss)) (λ h. h) (subst (λ (a : Answer). IsRefusal a.status) g.answer_is is)
 
 -- an answer of `resume` to what is accepted has another status
@@ -208,7 +203,8 @@ not_done verb.Verify line held answer check of is s =
 not_done verb.Convert line held answer check of is s =
     let converts : Converts s.b (text_for s.texts role.Plan) (text_or_empty s.texts role.Cert) (cert_name line) answer = subst (λ (v : Verb). AnswersInstance v line s.texts s.b answer) of s.answers in
     elim converts [
-      | inl v ↦ absurd (subst (λ (a : Answer). IsRefusal a.status) v.5 is)
+      | inl v ↦ absurd (neither IsRefusal (nat_le (length (cert_text v.2)) (limit_of role.Cert)) (converted (cert_name line) v.2) (too_long_to_store role.Cert (cert_text v.2)) (λ h. h) (λ h. h)
+          (subst (λ (a : Answer). IsRefusal a.status) v.5 is))
       | inr other ↦ other
     ]
 not_done verb.Resume line held answer check of is s =

@@ -1,6 +1,6 @@
 -- What a user may conclude from how `freeze` ended.
 use Rattle.std.proofs.Common.{◌≡◌, ◌≢◌, ℕ, ◌+◌, ◌≤◌, List, length, Bool, true, false, cond, arith, refl, sym, ap, subst, ◌∙◌, inl, inr, Option, Some}
-use Rattle.std.specs.Prelude.{◌==◌, Ok, Err, Result, is_some, option_map}
+use Rattle.std.specs.Prelude.{◌==◌, Ok, Err, Result, is_some, nat_le, option_map}
 use Rattle.glass_base.specs.Problem.{Problem}
 use Rattle.glass_base.specs.declared.role.Role.TheVariants as role
 use Rattle.glass_io.specs.Told.{Contents}
@@ -25,20 +25,20 @@ use Rattle.command_line.specs.declared.grammar.Verb.TheVariants as verb
 use Rattle.run_frame.specs.Answers.{Answer}
 use Rattle.glass_run.specs.Commands.{Answers, AnswersInstance, cert_name, plan_name}
 use Rattle.glass_run.specs.FreezeHeadlines.{HandlesEachBoxBehind, StoresFreeze, StoresWhole, frozen_in, whole_of}
-use Rattle.run_search.specs.Freezes.{Freezes, FreezesSaid, FreezesWithin}
+use Rattle.run_search.specs.Freezes.{Freezes, FreezesSaid, FreezesWithin, frozen_planned}
 use Rattle.run_search.specs.Freezes.FreezesPlan.{broken_plan, none_left, planned as planned_anew}
 use Rattle.glass_run.specs.Headlines.{Ended, FindsUnlawful, IsSearchEnd, SaidBy}
 use Rattle.run_search.specs.Plans.{ending}
-use Rattle.run_checks.specs.Checks.{root_ranges}
+use Rattle.run_checks.specs.Checks.{root_ranges, too_long_to_store}
 use Rattle.run_checks.specs.Said.{SayBoth}
 use Rattle.run_frame.specs.Runs.{Completes, Prints, Stands, World}
-use Rattle.run_frame.specs.Texts.{Texts, text_or_empty}
+use Rattle.run_frame.specs.Texts.{Texts, limit_of, text_or_empty}
 use Rattle.run_frame.specs.declared.status.Status.{Status}
 use Rattle.run_frame.specs.declared.status.Status.TheVariants as status
 use Rattle.run_checks.proofs.RaisedBounds.{bounds_behind}
 use Rattle.run_search.proofs.FrozenTexts.{right_behind, same_loss}
 use Rattle.run_frame.proofs.Stores.{unchanged}
-use Rattle.glass_run.proofs.Headlines.{Says, completed_says, rules_of}
+use Rattle.glass_run.proofs.Headlines.{Says, completed_says, if_short, neither, rules_of}
 use Rattle.glass_run.proofs.SearchHeadline.{accepts, bound_exact, completes, left_stopped, stopped_left}
 use Rattle.run_frame.proofs.SmallTexts.{text_short}
 use Rattle.run_frame.proofs.Statuses.{IsRefused}
@@ -92,7 +92,9 @@ stores_freeze line held old new answer result of end is s stored prints =
           let begins = whole_is_found plan f.tail k (omega (arith, f.fewer)) in
           let lawful : IsLawful b whole = (rest_is_planned b plan k f.rest frozen whole begins.0).1 (subst (IsLawful f.rest) (sym begins.1) f.found.lawful) in
           let loses : loss_of b whole ≡ more + loss_of f.rest f.tail = rest_loses b plan k f.rest frozen whole begins.0 lawful ∙ ap (λ (t : Forest). more + loss_of f.rest t) begins.1 in
-          let ended : result ≡ ending c = is ∙ ap status_of f.answer_is in
+          let kept = if_short IsSearchEnd (solution_text b whole) (limit_of role.Plan) (frozen_planned b (plan_name line) (cert_name line) more c whole) (too_long_to_store role.Plan (solution_text b whole)) answer
+          (subst IsSearchEnd is end) (λ h. h) f.answer_is in
+          let ended : result ≡ ending c = is ∙ ap status_of kept.1 in
           let stores : StoresWhole line held old new = record {
             texts = s.texts;
             b = b;
@@ -105,8 +107,8 @@ stores_freeze line held old new answer result of end is s stored prints =
             lawful = f.lawful;
             fewer = f.fewer;
             rest_is = f.rest_is;
-            stored = subst (λ (a : Answer). Stands a.stores old.shelf.contents new.shelf.contents) f.answer_is stored;
-            prints = subst (λ (a : Answer). Prints a.lines old.paper new.paper) f.answer_is prints;
+            stored = subst (λ (a : Answer). Stands a.stores old.shelf.contents new.shelf.contents) kept.1 stored;
+            prints = subst (λ (a : Answer). Prints a.lines old.paper new.paper) kept.1 prints;
           } in (
             record {
               found = stores;
@@ -120,7 +122,7 @@ stores_freeze line held old new answer result of end is s stored prints =
                   (texts_say line held s.texts b k budget plan (plan_name line) (cert_name line) answer s.reads said.1 f);
               same_loss = same_loss b plan k f.rest f.tail c frozen f.found.lawful;
               no_floor = second_floor c f.found.version;
-              readable = f.found.readable;
+              readable = record { plan_short = kept.0; cert_short = f.found.readable };
               left_open = ((λ e. stopped_left c (sym ended ∙ e)), (λ some. ended ∙ left_stopped c some));
               in_budget = f.found.in_budget;
               spent = λ e. f.found.spent (stopped_left c (sym ended ∙ e));
@@ -170,7 +172,10 @@ said_broken line held old new answer s k budget (Ok plan) out cert says is (brok
   prints = subst (λ (a : Answer). Prints a.lines old.paper new.paper) e prints;
 }
 said_broken line held old new answer s k budget (Ok plan) out cert says is (none_left lawful le e) stored prints = absurd (differ (is ∙ ap status_of e))
-said_broken line held old new answer s k budget (Ok plan) out cert says is (planned_anew f) stored prints = absurd (ends_no_other_way (f.certificate.left == 0) (is_some f.certificate.loss) (sym (is ∙ ap status_of f.answer_is)))
+said_broken line held old new answer s k budget (Ok plan) out cert says is (planned_anew f) stored prints =
+    let whole : Forest = joined (first_plates k plan) f.tail in
+    absurd (neither (λ (of : Status). status.Unlawful ≡ of) (nat_le (length (solution_text s.b whole)) (limit_of role.Plan)) (frozen_planned s.b out cert (frozen_loss s.b plan k) f.certificate whole)
+    (too_long_to_store role.Plan (solution_text s.b whole)) (λ e. ends_no_other_way (f.certificate.left == 0) (is_some f.certificate.loss) (sym e)) differ (is ∙ ap status_of f.answer_is))
 said_broken line held old new answer s k budget (Err reason) out cert says is refused stored prints = absurd (subst IsRefused (sym is) (plan_refused reason answer refused))
 
 pub unlawful_freeze : (words : List (List ℕ)) (line : Line) (held : Contents) (old new : World) → Ended words verb.Freeze line held old new status.Unlawful → FindsUnlawful line held old new

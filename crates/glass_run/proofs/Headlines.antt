@@ -1,6 +1,7 @@
 -- What a user may conclude from how a run ended.
-use Rattle.std.proofs.Common.{◌≡◌, ℕ, List, refl, sym, ap, subst, ◌∙◌, inl, inr, Option, Some}
-use Rattle.std.specs.Prelude.{IfErr, Ok, Err, Result}
+use Rattle.std.proofs.Common.{◌≡◌, ◌≤◌, ℕ, List, length, Bool, true, false, refl, sym, ap, subst, ◌∙◌, inl, inr, Option, Some}
+use Rattle.std.specs.Prelude.{IfErr, Ok, Err, Result, if◌then◌else◌, nat_le}
+use Rattle.std.proofs.lemmas.Bool.{leb-true}
 use Rattle.glass_base.specs.Problem.{Problem, IsProblem}
 use Rattle.glass_base.specs.declared.role.Role.TheVariants as role
 use Rattle.glass_io.specs.Told.{Contents}
@@ -63,6 +64,22 @@ answer_says line held answer accepts h = fetched_say line held answer (texts_of 
 pub completed_says : (line : Line) (held : Contents) (old new : World) (result : Status) → old.shelf.contents ≡ Some held → ¬ IsRefused result → (c : Completes Answers line old new result) → Says line held c.answer
 completed_says line held old new result told accepts c =
     answer_says line held c.answer (λ h. accepts (subst IsRefused (sym c.status_is) h)) (subst (λ (o : Option Contents). AnswersTold Answers o line c.answer) told c.answers)
+
+-- an answer that is one of two is the first, where the other has no such status
+one_of : (P : Status → Type 0) (read : Bool) (good other answer : Answer) → P answer.status → ¬ P other.status → answer ≡ (if read then good else other) → (read ≡ true) × (answer ≡ good)
+one_of P true good other answer has never is = (refl, is)
+one_of P false good other answer has never is = absurd (never (subst (λ (a : Answer). P a.status) is has))
+
+-- so where the length of a text decides, the text is no longer than that
+pub if_short : (P : Status → Type 0) (text : List ℕ) (most : ℕ) (good other answer : Answer) → P answer.status → ¬ P other.status → answer ≡ (if nat_le (length text) most then good else other) →
+    (length text ≤ most) × (answer ≡ good)
+if_short P text most good other answer has never is =
+    let one = one_of P (nat_le (length text) most) good other answer has never is in (leb-true (length text) most one.0, one.1)
+
+-- an answer that is one of two has no status that neither has
+pub neither : (P : Status → Type 0) (read : Bool) (good other : Answer) → ¬ P good.status → ¬ P other.status → P (if read then good else other).status → ⊥
+neither P true good other well bad h = well h
+neither P false good other well bad h = bad h
 
 -- the answer of `draft` whose status is `Done` stores a lawful plan
 drafted_lawful : (line : Line) (held : Contents) (old new : World) (answer : Answer) → line.verb ≡ verb.Draft → status.Done ≡ answer.status → Says line held answer →

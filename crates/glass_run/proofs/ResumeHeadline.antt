@@ -1,7 +1,5 @@
 -- What a user may conclude from how `resume` ended.
-use Rattle.std.proofs.Common.{◌≡◌, ◌≤◌, ℕ, List, length, Bool, true, false, refl, sym, ap, subst, ◌∙◌, inl, inr, Option, None}
-use Rattle.std.specs.Prelude.{nat_le, if◌then◌else◌}
-use Rattle.std.proofs.lemmas.Bool.{leb-true}
+use Rattle.std.proofs.Common.{◌≡◌, ◌≤◌, ℕ, List, length, sym, ap, subst, ◌∙◌, inl, inr, Option, None}
 use Rattle.glass_base.specs.Problem.{Problem}
 use Rattle.glass_base.specs.declared.role.Role.TheVariants as role
 use Rattle.glass_io.specs.Told.{Contents}
@@ -23,7 +21,7 @@ use Rattle.run_search.specs.Resumptions.{GoesOn, GoesOnWithin, Resumes, too_long
 use Rattle.run_frame.specs.Runs.{Prints, Stands, World}
 use Rattle.run_frame.specs.Texts.{limit_of, text_for, text_or_empty}
 use Rattle.run_frame.specs.declared.status.Status.{Status}
-use Rattle.glass_run.proofs.Headlines.{Says, completed_says, rules_of}
+use Rattle.glass_run.proofs.Headlines.{Says, completed_says, if_short, rules_of}
 use Rattle.glass_run.proofs.SearchHeadline.{accepts, bound_exact, completes, left_stopped, stopped_left}
 use Rattle.run_plans.proofs.Statuses.{plan_refused}
 use Rattle.run_checks.proofs.Statuses.{cert_refused}
@@ -36,18 +34,11 @@ never_ended b plan_text text answer end (bad_cert plan reason said reading h) = 
 never_ended b plan_text text answer end (broken_plan plan c broken said unlawful first e) = subst (λ (a : Answer). IsSearchEnd a.status) e end
 never_ended b plan_text text answer end (bad_tree plan c at why said lawful wrong first e) = subst (λ (a : Answer). IsSearchEnd a.status) e end
 
--- an answer that is one of two, of which the other has none of the statuses of a search
-one_of : (read : Bool) (good other answer : Answer) → IsSearchEnd answer.status → ¬ IsSearchEnd other.status → answer ≡ (if read then good else other) → (read ≡ true) × (answer ≡ good)
-one_of true good other answer end never is = (refl, is)
-one_of false good other answer end never is = absurd (never (subst (λ (a : Answer). IsSearchEnd a.status) is end))
-
 -- what was joined is stored and told, and its text is no longer than one that is read
 is_stored : (b : Problem) (budget : ℕ) (plan : Option Forest) (c : Certificate) (out new : List ℕ) (answer : Answer) → IsSearchEnd answer.status → (g : GoesOn b budget plan c out new answer) →
     (length (cert_text g.certificate) ≤ limit_of role.Cert) × (answer ≡ planned b out new g.certificate g.best None)
 is_stored b budget plan c out new answer end g =
-    let bytes = length (cert_text g.certificate) in
-    let is = one_of (nat_le bytes (limit_of role.Cert)) (planned b out new g.certificate g.best None) (too_long_to_read g.certificate) answer end (λ h. h) g.answer_is in
-    (leb-true bytes (limit_of role.Cert) is.0, is.1)
+    if_short IsSearchEnd (cert_text g.certificate) (limit_of role.Cert) (planned b out new g.certificate g.best None) (too_long_to_read g.certificate) answer end (λ h. h) g.answer_is
 
 stores_more : (line : Line) (held : Contents) (old new : World) (answer : Answer) (result : Status) (s : Says line held answer) (plan : Option Forest) (c : Certificate) →
     IsAccepted s.b (text_for s.texts role.Plan) (text_or_empty s.texts role.Cert) plan c → GoesOn s.b (count_in line count.Budget) plan c (plan_name line) (cert_name line) answer → IsSearchEnd answer.status → result ≡ answer.status →
@@ -78,7 +69,7 @@ stores_more line held old new answer result s plan c right g end is stored print
         found = stores;
         resumed = made;
         accepted = is_accepted s.b g.best j made.said made.plan_is made.good;
-        readable = kept.0;
+        readable = record { plan_short = made.plan_short; cert_short = kept.0 };
         ends = ended;
         left_open = ((λ e. stopped_left j (sym ended ∙ e)), (λ some. ended ∙ left_stopped j some));
         spent = λ e. made.spent (stopped_left j (sym ended ∙ e));

@@ -1,5 +1,5 @@
 -- What a user may conclude from how `freeze` ended.
-use Rattle.std.specs.Prelude.{◌≡◌, ◌≢◌, ◌↔◌, ◌+◌, ◌<◌, ◌≤◌, ℕ, zero, suc, length, Some, Ok, option_map, codes}
+use Rattle.std.specs.Prelude.{◌≡◌, ◌≢◌, ◌↔◌, ◌+◌, ◌<◌, ◌≤◌, ℕ, zero, suc, Some, Ok, option_map, codes}
 use Rattle.glass_base.specs.Problem.{Problem}
 use Rattle.glass_base.specs.declared.role.Role.TheVariants as role
 use Rattle.glass_io.specs.Told.{Contents}
@@ -27,9 +27,9 @@ use Rattle.glass_run.specs.Commands.{cert_name, plan_name}
 use Rattle.run_checks.specs.FrozenChecks.{IsAcceptedBehind, loss_behind, raised}
 use Rattle.glass_run.specs.Headlines.{Accepts, FindsWrong, SaidBy}
 use Rattle.run_checks.specs.Said.{SayBoth}
-use Rattle.run_search.specs.Plans.{IsOfSearch, both_stores, handled, search_summary}
+use Rattle.run_search.specs.Plans.{AreReadable, IsOfSearch, both_stores, handled, search_summary}
 use Rattle.run_frame.specs.Runs.{Prints, Stands, World}
-use Rattle.run_frame.specs.Texts.{Texts, limit_of, text_or_empty}
+use Rattle.run_frame.specs.Texts.{Texts, text_or_empty}
 use Rattle.run_frame.specs.declared.status.Status.{Status}
 use Rattle.run_frame.specs.declared.status.Status.TheVariants as status
 
@@ -76,8 +76,8 @@ pub record StoresFreeze (line : Line) (held : Contents) (old new : World) (resul
   pub right : IsAcceptedBehind b (frozen_in line) (solution_text b (whole_of line plan tail)) (cert_text certificate) (whole_of line plan tail) rest certificate
   pub same_loss : frozen_loss b (whole_of line plan tail) (frozen_in line) ≡ frozen_loss b plan (frozen_in line)
   pub no_floor : certificate.floor ≡ 0
-  -- the text of CERT is no longer than one that is read
-  pub readable : length (cert_text certificate) ≤ limit_of role.Cert
+  -- both texts are no longer than those that are read
+  pub readable : AreReadable (Some (solution_text b (whole_of line plan tail))) (cert_text certificate)
   -- `stopped` is printed exactly where a box is left open, and then as many boxes were closed or split as the budget says; else `optimal`, and
   -- the bound is the loss
   pub left_open : result ≡ status.Stopped ↔ (0 < certificate.left)

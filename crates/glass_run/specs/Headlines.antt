@@ -205,6 +205,8 @@ pub record StoresConverted (line : Line) (held : Contents) (old new : World) : T
   pub converted : Certificate
   pub right : FindsRight line held texts b certificate
   pub names : IsConverted b certificate converted
+  -- the text of NEW is no longer than one that is read
+  pub readable : length (cert_text converted) ≤ limit_of role.Cert
   pub stored : Stored (cert_name line) (cert_text converted) old.shelf.contents new.shelf.contents
   pub prints : Prints (bound_line (codes "converted") converted) old.paper new.paper
 
@@ -229,8 +231,8 @@ pub record StoresResumed (line : Line) (held : Contents) (old new : World) (resu
   -- the texts say the certificate and the plan, so that `verify` accepts them with this bound and this number of open boxes (`run_checks::laws`), or
   -- does not show the floor of CERT again: never where that is 0, as before version 3
   pub accepted : IsAccepted b (option_map (solution_text b) plan) (cert_text joined) plan joined
-  -- the text of NEW is no longer than one that is read
-  pub readable : length (cert_text joined) ≤ limit_of role.Cert
+  -- both texts are no longer than those that are read
+  pub readable : AreReadable (option_map (solution_text b) plan) (cert_text joined)
   -- the status says whether a box is left open, and else whether there is a plan
   pub ends : result ≡ ending joined
   -- `stopped` is printed exactly where a box is left open, and then the budget is spent; else the bound is the loss

@@ -1,6 +1,6 @@
 -- What the plant may rely on is a part of what the laws say.
-use Rattle.std.proofs.Common.{◌≡◌, ◌≢◌, ◌+◌, ◌++◌, ℕ, suc, List, Bool, true, false, append_assoc, if◌then◌else◌, refl, sym, subst, ◌∙◌, Option, Some, None, is_some, option_map}
-use Rattle.std.specs.Prelude.{◌==◌}
+use Rattle.std.proofs.Common.{◌≡◌, ◌≢◌, ◌↔◌, ◌<◌, ◌+◌, ◌++◌, arith, ℕ, suc, List, Bool, true, false, append_assoc, if◌then◌else◌, refl, sym, ap, subst, ◌∙◌, Option, Some, None, is_some, option_map}
+use Rattle.std.specs.Prelude.{◌==◌, codes}
 use Rattle.glass_base.specs.Problem.{Problem}
 use Rattle.glass_io.specs.Told.{Contents}
 use Rattle.cut_model.specs.Lawful.{IsLawful}
@@ -19,7 +19,7 @@ use Rattle.run_search.specs.Plans.{HasLoss, counted_lines, ended_lines, ending, 
 use Rattle.run_frame.specs.Runs.{Prints, World}
 use Rattle.run_frame.specs.declared.status.Status.{Status}
 use Rattle.run_frame.specs.declared.status.Status.TheVariants as status
-use Rattle.plain_laws.specs.Plain.{AcceptsPlan, AcceptsPlanBehind, FindsPlan, FindsPlanBehind, IsBounded, PrintsEnd, ResumesPlan}
+use Rattle.plain_laws.specs.Plain.{AcceptsPlan, AcceptsPlanBehind, FindsPlan, FindsPlanBehind, IsBounded, PrintsEnd, ResumesPlan, word_of}
 
 optimal_not_stopped : (result : Status) → result ≡ status.Optimal → result ≢ status.Stopped
 optimal_not_stopped result optimal stopped = clash (sym optimal ∙ stopped)
@@ -53,13 +53,29 @@ bounded b plan c result has bounds ends exact = record {
       subst (λ (o : Option ℕ). Reaches o (loss_of b other)) (exact (infeasible_not_stopped result infeasible) ∙ no_loss c (sym ends ∙ infeasible)) (bounds other lawful);
 }
 
+-- the word for how a search ended is that of its status
+word_is : (closed some : Bool) → (if closed then (if some then codes "optimal" else codes "infeasible") else codes "stopped")
+    ≡ word_of (if closed then (if some then status.Optimal else status.Infeasible) else status.Stopped)
+word_is true true = refl
+word_is true false = refl
+word_is false some = refl
+
+word_said : (c : Certificate) (result : Status) → result ≡ ending c → ending_word c ≡ word_of result
+word_said c result ends = word_is (c.left == 0) (is_some c.loss) ∙ ap word_of (sym ends)
+
 -- the lines of a search begin with how it ended
-prints_end : (c : Certificate) (plates : Option ℕ) (told : Option (List ℕ)) (old new : World) → Prints (search_lines c plates told) old.paper new.paper → PrintsEnd c.loss c.bound old new
-prints_end c plates None old new prints = (ending_word c, counted_lines plates (handled c) c.left, prints)
-prints_end c plates (Some losses) old new prints =
-    let ended : List ℕ = ended_lines (ending_word c) c.loss c.bound in
+prints_end : (c : Certificate) (result : Status) (plates : Option ℕ) (told : Option (List ℕ)) (old new : World) → result ≡ ending c → Prints (search_lines c plates told) old.paper new.paper →
+    PrintsEnd result c.loss c.bound old new
+prints_end c result plates None old new ends prints =
     let counted : List ℕ = counted_lines plates (handled c) c.left in
-    (ending_word c, counted ++ history_lines losses, subst (λ (lines : List ℕ). Prints lines old.paper new.paper) (append_assoc ended counted (history_lines losses)) prints)
+    (counted, subst (λ (how : List ℕ). Prints (ended_lines how c.loss c.bound ++ counted) old.paper new.paper) (word_said c result ends) prints)
+prints_end c result plates (Some losses) old new ends prints =
+    let ended : List ℕ = ended_lines (ending_word c) c.loss c.bound in
+    let later : List ℕ = counted_lines plates (handled c) c.left ++ history_lines losses in (
+      later,
+      subst (λ (how : List ℕ). Prints (ended_lines how c.loss c.bound ++ later) old.paper new.paper) (word_said c result ends)
+          (subst (λ (lines : List ℕ). Prints lines old.paper new.paper) (append_assoc ended (counted_lines plates (handled c) c.left) (history_lines losses)) prints),
+    )
 
 pub finds_plan : (line : Line) (held : Contents) (old new : World) (result : Status) → StoresSearch line held old new result → FindsPlan line held old new result
 finds_plan line held old new result s = record {
@@ -71,7 +87,7 @@ finds_plan line held old new result s = record {
   bound = s.certificate.bound;
   bounded = bounded s.b s.plan s.certificate result s.plan_is s.bounds s.ends s.exact;
   stored = (cert_text s.certificate, s.stored);
-  prints = prints_end s.certificate (option_map neighbour_count s.plan) s.told old new s.prints;
+  prints = prints_end s.certificate result (option_map neighbour_count s.plan) s.told old new s.ends s.prints;
 }
 
 pub resumes_plan : (line : Line) (held : Contents) (old new : World) (result : Status) → StoresResumed line held old new result → ResumesPlan line held old new result
@@ -85,7 +101,7 @@ resumes_plan line held old new result s = record {
     bound = s.joined.bound;
     bounded = bounded s.b s.plan s.joined result s.resumed.plan_is s.resumed.bounds s.ends s.exact;
     stored = (cert_text s.joined, s.stored);
-    prints = prints_end s.joined (option_map neighbour_count s.plan) None old new s.prints;
+    prints = prints_end s.joined result (option_map neighbour_count s.plan) None old new s.ends s.prints;
   };
   before = s.right.plan;
   said = s.right.said.plan_is;
@@ -93,12 +109,29 @@ resumes_plan line held old new result s = record {
   no_worse = s.resumed.no_worse;
 }
 
+-- so where there is a plan in any case
+word_behind : (closed : Bool) (loss : Option ℕ) (n : ℕ) (result : Status) → loss ≡ Some n → (closed ≡ true → result ≡ status.Optimal) → (closed ≡ false → result ≡ status.Stopped)
+    → (if closed then (if is_some loss then codes "optimal" else codes "infeasible") else codes "stopped") ≡ word_of result
+word_behind true loss n result is optimal stopped =
+    subst (λ (o : Option ℕ). (if is_some o then codes "optimal" else codes "infeasible") ≡ word_of result) (sym is) (ap word_of (sym (optimal refl)))
+word_behind false loss n result is optimal stopped = ap word_of (sym (stopped refl))
+
+freeze_word : (more n : ℕ) (c : Certificate) (result : Status) → option_map (λ m. more + m) c.loss ≡ Some n → (result ≡ status.Stopped ↔ (0 < c.left)) → (result ≢ status.Stopped → result ≡ status.Optimal)
+    → ending_word (raised more c) ≡ word_of result
+freeze_word more n c result loss left_open exact =
+    word_behind (c.left == 0) (option_map (λ m. more + m) c.loss) n result loss (λ closed. exact (λ stopped. none_open closed (left_open.0 stopped))) (λ left. left_open.1 (some_open left))
+  where
+    none_open : (c.left == 0) ≡ true → 0 < c.left → ⊥
+    none_open e h = grind (arith, e, h)
+
+    some_open : (c.left == 0) ≡ false → 0 < c.left
+    some_open e = grind (arith, e)
+
 pub freezes_plan : (line : Line) (held : Contents) (old new : World) (result : Status) → StoresFreeze line held old new result → FindsPlanBehind line held old new result
 freezes_plan line held old new result s =
     let more : ℕ = frozen_loss s.b s.plan (frozen_in line) in
     let whole : Forest = whole_of line s.plan s.tail in
     let c : Certificate = s.certificate in
-    let how : List ℕ = ending_word (raised more c) in
     let later : List ℕ = counted_lines (Some (neighbour_count whole)) (handled c) c.left in
     let bound : Option ℕ = option_map (λ n. more + n) c.bound in
     record {
@@ -120,7 +153,11 @@ freezes_plan line held old new result s =
           subst (λ (o : Option ℕ). Reaches (option_map (λ n. more + n) o) (loss_of s.b other)) exact (s.bounds other begins lawful) in
           subst (λ (o : Option ℕ). Reaches o (loss_of s.b other)) s.loss_is least;
       stored = (cert_text c, s.stored);
-      prints = (how, later, subst (λ (o : Option ℕ). Prints (ended_lines how o bound ++ later) old.paper new.paper) s.loss_is s.prints);
+      prints = (
+        later,
+        subst (λ (how : List ℕ). Prints (ended_lines how (Some (loss_of s.b whole)) bound ++ later) old.paper new.paper) (freeze_word more (loss_of s.b whole) c result s.loss_is s.left_open (λ h. (s.exact h).0))
+            (subst (λ (o : Option ℕ). Prints (ended_lines (ending_word (raised more c)) o bound ++ later) old.paper new.paper) s.loss_is s.prints),
+      );
     }
 
 pub accepts_plan : (line : Line) (held : Contents) (old new : World) → count_in line count.Frozen ≡ 0 → AcceptsFrom (count_in line count.Frozen) line held old new → AcceptsPlan line held old new

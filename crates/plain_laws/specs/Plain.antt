@@ -26,9 +26,15 @@ use Rattle.run_frame.specs.Texts.{Texts, text_for, text_or_empty}
 use Rattle.run_frame.specs.declared.status.Status.{Status}
 use Rattle.run_frame.specs.declared.status.Status.TheVariants as status
 
+-- the word with which a search ends, by its status
+abbrev pub word_of : Status → List ℕ
+word_of status.Optimal = codes "optimal"
+word_of status.Infeasible = codes "infeasible"
+word_of _ = codes "stopped"
+
 -- the first three lines say how a search ended, its loss and its bound
-abbrev pub PrintsEnd : Option ℕ → Option ℕ → World → World → Type 0
-PrintsEnd loss bound old new = (how : List ℕ) × (later : List ℕ) × Prints (ended_lines how loss bound ++ later) old.paper new.paper
+abbrev pub PrintsEnd : Status → Option ℕ → Option ℕ → World → World → Type 0
+PrintsEnd result loss bound old new = (later : List ℕ) × Prints (ended_lines (word_of result) loss bound ++ later) old.paper new.paper
 
 -- these files are stored, and then one more under the second name
 abbrev pub StoresFirst : Line → List Store → World → World → Type 0
@@ -53,7 +59,7 @@ pub record FindsPlan (line : Line) (held : Contents) (old new : World) (result :
   pub bound : Option ℕ
   pub bounded : IsBounded b plan loss bound result
   pub stored : StoresFirst line (plan_stores b (plan_name line) plan) old new
-  pub prints : PrintsEnd loss bound old new
+  pub prints : PrintsEnd result loss bound old new
 
 -- the same, and PLAN says a lawful plan, or none, than which the printed one is not worse
 pub record ResumesPlan (line : Line) (held : Contents) (old new : World) (result : Status) : Type 0 where
@@ -79,7 +85,7 @@ pub record FindsPlanBehind (line : Line) (held : Contents) (old new : World) (re
   pub bounds : (other : Forest) → BeginsWith (lead_in line lead.Frozen) before other → IsLawful b other → Reaches bound (loss_of b other)
   pub optimal : result ≡ status.Optimal → (other : Forest) → BeginsWith (lead_in line lead.Frozen) before other → IsLawful b other → loss_of b plan ≤ loss_of b other
   pub stored : StoresFirst line (record { name = plan_name line; bytes = solution_text b plan } ∷ []) old new
-  pub prints : PrintsEnd (Some (loss_of b plan)) bound old new
+  pub prints : PrintsEnd result (Some (loss_of b plan)) bound old new
 
 -- a bound and a number of open boxes are printed
 abbrev pub PrintsBound : Option ℕ → World → World → Type 0

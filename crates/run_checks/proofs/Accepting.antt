@@ -11,7 +11,7 @@ use Rattle.cert_log.specs.Outcomes.{IsReading}
 use Rattle.cert_check.specs.declared.verdict.Why.{Why}
 use Rattle.cert_check.specs.Faults.{IsFirstFault, SaysWrong}
 use Rattle.run_frame.specs.Answers.{Answer}
-use Rattle.run_checks.specs.Checks.{CertRefused, Converts, IsConverted, IsLawfulToo, NotAccepted, Verifies, converted, loss_in, refused, root_ranges}
+use Rattle.run_checks.specs.Checks.{CertRefused, Converts, IsConverted, IsLawfulToo, NotAccepted, Verifies, converted_if_short, loss_in, refused, root_ranges}
 use Rattle.run_checks.specs.Checks.NotAccepted.{bad_cert as bad_certificate, bad_plan, bad_tree, broken_plan}
 use Rattle.run_plans.specs.Judgements.{PlanRefused}
 use Rattle.run_checks.specs.Said.{IsPlanIn, SayBoth}
@@ -77,5 +77,5 @@ converts_none b plan_text text name answer stop.Memory refused is = absurd is
 converts_none b plan_text text name answer (stop.Told notice) refused is = inr (subst (λ (a : Answer). NotAccepted b plan_text text a) (sym is) refused)
 
 pub converts : (b : Problem) (plan_text : Option (List ℕ)) (text name : List ℕ) (answer : Answer) (c d : Certificate) → IsAcceptedFor b plan_text text c → IsConverted b c d →
-    answer ≡ converted name d → Converts b plan_text text name answer
+    answer ≡ converted_if_short name d → Converts b plan_text text name answer
 converts b plan_text text name answer c d accepts names is = inl (accepts.0, c, d, accepts.1, names, is)

@@ -1,7 +1,8 @@
 -- What `verify` and `convert` answer to an instance and the texts of a plan and of a certificate.
-use Rattle.std.specs.Prelude.{◌≡◌, ◌<◌, ◌⊎◌, ◌++◌, ℕ, List, [], ◌∷◌, Option, Some, None, Err, codes}
+use Rattle.std.specs.Prelude.{◌≡◌, ◌<◌, ◌⊎◌, ◌++◌, ℕ, List, [], ◌∷◌, length, nat_le, if◌then◌else◌, Option, Some, None, Err, codes}
 use Rattle.std.specs.Fmt.{decimal}
 use Rattle.glass_base.specs.Problem.{Problem}
+use Rattle.glass_base.specs.declared.role.Role.{Role}
 use Rattle.glass_base.specs.declared.role.Role.TheVariants as role
 use Rattle.cut_model.specs.declared.broken.Broken.{Broken}
 use Rattle.cut_model.specs.Lawful.{IsLawful}
@@ -23,10 +24,11 @@ use Rattle.cert_log.specs.Texts.{cert_text, loss_text}
 use Rattle.cert_check.specs.declared.verdict.Why.{Why}
 use Rattle.cert_check.specs.Causes.{IsReasoned}
 use Rattle.cert_check.specs.Faults.{IsFirstFault, SaysWrong}
-use Rattle.run_frame.specs.Answers.{Answer, Refused, only_lines, refusal}
+use Rattle.run_frame.specs.Answers.{Answer, Refused, bad_input, only_lines, refusal}
 use Rattle.run_frame.specs.declared.refusals.Refusal.{Refusal}
 use Rattle.run_plans.specs.Judgements.{IsFirstBroken, PlanRefused, unlawful}
 use Rattle.run_checks.specs.Said.{IsPlanIn, SayBoth}
+use Rattle.run_frame.specs.Texts.{limit_of}
 use Rattle.run_frame.specs.declared.status.Status.TheVariants as status
 
 -- the ranges of the box that holds every lawful plan
@@ -72,6 +74,10 @@ converted name c = record {
   stores = record { name = name; bytes = cert_text c } ∷ [];
   lines = bound_line (codes "converted") c;
 }
+
+-- the answer where a text that would be stored has more bytes than one of its role that is read: nothing is stored
+abbrev pub too_long_to_store : Role → List ℕ → Answer
+too_long_to_store of text = bad_input of 18 (length text) (limit_of of)
 
 -- the refusals of a text that is no certificate
 abbrev pub cert_refusal : BadCert → Option Refusal
@@ -132,8 +138,12 @@ pub record IsConverted (b : Problem) (c d : Certificate) : Type 0 where
   pub reasoned : IsReasoned b (root_ranges b) c d
   pub good : IsGood b (root_ranges b) c.loss d
 
--- the answer of `convert`: such a certificate is stored under this name
+-- a certificate is stored under this name, if it can be read again
+abbrev pub converted_if_short : List ℕ → Certificate → Answer
+converted_if_short name d = if nat_le (length (cert_text d)) (limit_of role.Cert) then converted name d else too_long_to_store role.Cert (cert_text d)
+
+-- the answer of `convert`: such a certificate is stored under this name, if it can be read again
 abbrev pub Converts : Problem → Option (List ℕ) → List ℕ → List ℕ → Answer → Type 0
 Converts b plan_text cert_text name answer =
-    ((plan : Option Forest) × (c : Certificate) × (d : Certificate) × IsAccepted b plan_text cert_text plan c × IsConverted b c d × (answer ≡ converted name d))
+    ((plan : Option Forest) × (c : Certificate) × (d : Certificate) × IsAccepted b plan_text cert_text plan c × IsConverted b c d × (answer ≡ converted_if_short name d))
     ⊎ NotAccepted b plan_text cert_text answer

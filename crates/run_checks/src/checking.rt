@@ -5,8 +5,9 @@ ghost use Rattle.cut_model.specs.Tree.{tree};
 ghost use Rattle.cert_log.specs.declared.certificate.Certificate.{Certificate as CertificateOf};
 ghost use Rattle.cert_log.specs.Good.{HasVersion, IsGood};
 ghost use Rattle.cert_log.specs.Outcomes.{IsReading};
+ghost use Rattle.cert_log.specs.Texts.{cert_text};
 ghost use Rattle.cert_log.specs.Trees.{IsTree};
-ghost use Rattle.run_checks.specs.Checks.{Converts, IsAccepted, IsConverted, IsLawfulToo, NotAccepted, Verifies, accepted as accepted_of, cert_refusal as cert_refusal_of, converted as converted_of, loss_in, refused as refused_of, root_ranges};
+ghost use Rattle.run_checks.specs.Checks.{Converts, IsAccepted, IsConverted, IsLawfulToo, NotAccepted, Verifies, accepted as accepted_of, cert_refusal as cert_refusal_of, converted as converted_of, converted_if_short, loss_in, refused as refused_of, root_ranges, too_long_to_store as too_long_to_store_of};
 ghost use Rattle.run_plans.specs.Judgements.{unlawful as unlawful_of};
 ghost use Rattle.run_checks.specs.Said.{IsPlanIn};
 ghost use Rattle.run_checks.specs.inner.Checked.{IsUnlawful, IsWrong, RefusesCertText, RefusesPlanText};
@@ -19,11 +20,12 @@ use cert_log::{BadCert, Certificate, read_cert, write_cert};
 use command_line::Product;
 use cut_model::{Broken, Plan};
 use defect_map::{DefectMap, Ground};
-use glass_base::{Instance, Memory, Role};
+use glass_base::{Instance, Memory, Role, Run};
 use loss_area::loss;
 use plan_csv::read_plan;
 use run_frame::{
-    Notice, Refusal, Reply, Status, Stop, numbered, one_output, reply_at, reply_with, stop_at,
+    Notice, Refusal, Reply, Status, Stop, bad_input, limit, numbered, one_output, reply_at,
+    reply_with, stop_at,
 };
 use run_plans::{first_breach, plan_refusal, unlawful};
 use std::alloc::Global;
@@ -217,22 +219,42 @@ pub(crate) fn verify_texts(
     }
 }
 
-/// The reply that stores a certificate.
-fn reply_with_cert(alloc: Global, certificate: &Certificate) -> Result<Reply, Memory>
-    requires { HasVersion certificate.now }
+/// The notice of a text of this role that would be stored, and is longer than one that is read.
+pub fn too_long_to_store(alloc: Global, role: Role, text: &Run<u8>) -> Result<Notice, Memory>
+    ensures { IfOk result (λ n. notice_in n ≡ too_long_to_store_of role text.now.items) }
+{
+    bad_input(alloc, role, 18, text.len() as u64, limit(role))
+}
+
+/// The reply that stores a certificate, which has this text.
+fn reply_with_text(alloc: Global, certificate: &Certificate, text: Run<u8>) -> Result<Reply, Memory>
+    requires { text.items ≡ cert_text certificate.now }
     ensures { IfOk result (λ r. (name : Product → List ℕ)
         → answer_in name r ≡ converted_of (name Product.Certificate) certificate.now) }
 {
     let lines = bound_line(alloc, "converted", certificate)?;
-    let bytes = write_cert(alloc, certificate)?;
     Ok(Reply {
         status: Status::Done,
-        outputs: one_output(alloc, Product::Certificate, bytes)?,
+        outputs: one_output(alloc, Product::Certificate, text)?,
         lines,
     })
 }
 
-/// The reply that stores a right certificate with its causes named.
+/// The reply that stores a certificate, or a refusal where its text is longer than one that is read.
+fn reply_with_cert(alloc: Global, certificate: &Certificate) -> Result<Reply, Memory>
+    requires { HasVersion certificate.now }
+    ensures { IfOk result (λ r. (name : Product → List ℕ)
+        → answer_in name r ≡ converted_if_short (name Product.Certificate) certificate.now) }
+{
+    let text = write_cert(alloc, certificate)?;
+    if text.len() as u64 > limit(Role::Cert) {
+        let notice = too_long_to_store(alloc, Role::Cert, &text)?;
+        return Ok(reply_with(alloc, notice));
+    }
+    reply_with_text(alloc, certificate, text)
+}
+
+/// The reply that stores a right certificate with its causes named, or a refusal where what comes could not be read again.
 fn convert(alloc: Global, ground: Ground<'_>, certificate: &Certificate) -> Result<Reply, Memory>
     requires good { IsGood ground.instance.now (root_ranges ground.instance.now)
         certificate.now.loss certificate.now }
@@ -240,14 +262,14 @@ fn convert(alloc: Global, ground: Ground<'_>, certificate: &Certificate) -> Resu
     ensures { IfOk result (λ r. (d : CertificateOf)
         × IsConverted ground.entry.instance.now certificate.now d
         × ((name : Product → List ℕ) → answer_in name r
-        ≡ converted_of (name Product.Certificate) d)) }
+        ≡ converted_if_short (name Product.Certificate) d)) }
 {
     let named = reasoned(alloc, ground.instance, ground.map, certificate)?;
     reply_with_cert(alloc, &named)
 }
 
 /// The reply to the texts of a plan, or none, and of a certificate: the certificate is stored with its causes named, or refused as by
-/// [`verify_texts`].
+/// [`verify_texts`], or where what comes could not be read again.
 pub fn convert_texts(
     alloc: Global,
     instance: &Instance,

@@ -23,7 +23,7 @@ use Rattle.cert_log.specs.Outcomes.{IsHead}
 use Rattle.cert_log.specs.Texts.{cert_text, head_of}
 use Rattle.cert_log.proofs.Covers.{bounds_each_plan}
 use Rattle.run_frame.specs.Answers.{Answer}
-use Rattle.run_search.specs.Freezes.{Freezes, FreezesPlan, FreezesSaid, IsFoundFrom, frozen_planned}
+use Rattle.run_search.specs.Freezes.{Freezes, FreezesPlan, FreezesSaid, IsFoundFrom, frozen_if_short}
 use Rattle.run_search.specs.Freezes.FreezesPlan.{broken_plan}
 use Rattle.run_plans.specs.Judgements.{unlawful}
 use Rattle.run_search.specs.Plans.{HasLoss}
@@ -117,7 +117,7 @@ whole_said b plan k budget c best whole rules lawful fewer small is fits glued f
 
 -- it is stored and told
 pub freezes : (b : Problem) (plan : Forest) (k budget more : ℕ) (c : Certificate) (best : Forest) (whole : Plan) (out cert : List ℕ) (answer : Answer) → IsProblem b → IsLawfulPlan b plan → k < neighbour_count plan → budget ≤ MOST_BUDGET →
-    IsFoundBehind b plan k budget c best → Fits plan → count plan ≤ 1000000000 → Fits best → more ≡ frozen_loss b plan k → tree whole ≡ joined (first_plates k plan) best → answer ≡ frozen_planned b out cert more c (tree whole) →
+    IsFoundBehind b plan k budget c best → Fits plan → count plan ≤ 1000000000 → Fits best → more ≡ frozen_loss b plan k → tree whole ≡ joined (first_plates k plan) best → answer ≡ frozen_if_short b out cert more c (tree whole) →
     Freezes b k budget plan out cert answer
 freezes b plan k budget more c best whole out cert answer rules lawful fewer small is fits rows best_fits loses glued told = record {
   lawful = lawful;
@@ -131,7 +131,7 @@ freezes b plan k budget more c best whole out cert answer rules lawful fewer sma
   said = λ few.
       subst (λ (t : Forest). SayBoth b (Some (solution_text b t)) (cert_text c) (Some t) c) glued
       (whole_said b plan k budget c best whole rules lawful fewer small is (whole_fits b plan k budget c best (tree whole) fits rows best_fits is glued) glued (subst (λ (t : Forest). count t ≤ 1000000000) (sym glued) few));
-  answer_is = told ∙ ap (λ (n : ℕ). frozen_planned b out cert n c (tree whole)) loses ∙ ap (frozen_planned b out cert (frozen_loss b plan k) c) glued;
+  answer_is = told ∙ ap (λ (n : ℕ). frozen_if_short b out cert n c (tree whole)) loses ∙ ap (frozen_if_short b out cert (frozen_loss b plan k) c) glued;
 }
 
 -- the answer to a plan that breaks a rule

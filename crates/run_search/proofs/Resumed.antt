@@ -31,7 +31,7 @@ use Rattle.cert_resume.proofs.Numbered.{as_many, bound_for_each, by_ranges}
 use Rattle.run_checks.specs.Checks.{IsConverted, loss_in, root_ranges}
 use Rattle.run_search.specs.Plans.{HasLoss, course_from, handled}
 use Rattle.run_search.specs.Resumptions.{ResumesEachBox}
-use Rattle.run_search.specs.inner.Searches.{IsSaidByItsText}
+use Rattle.run_search.specs.inner.Searches.{IsSaidByItsText, IsShortToo}
 use Rattle.run_search.proofs.Searched.{known}
 use Rattle.run_search.proofs.StoredTexts.{both_said, is_text_of}
 
@@ -155,8 +155,8 @@ module _ (b : Problem) (budget to_beat : ℕ) (plan : Option Forest) (c named : 
         good_counts b (root_ranges b) (loss_of h.best) j joined_good,
       )
 
-  pub resumed : HasLoss b (loss_of h.best) best → IsSaidByItsText b best → ResumesEachBox b budget plan c j best
-  resumed has said =
+  pub resumed : HasLoss b (loss_of h.best) best → IsSaidByItsText b best → IsShortToo b best → ResumesEachBox b budget plan c j best
+  resumed has said short =
       let loss = s.joined.loss_is in
       let good = subst (λ (o : Option ℕ). IsGood b (root_ranges b) o j) (sym loss) joined_good in
       record {
@@ -171,6 +171,7 @@ module _ (b : Problem) (budget to_beat : ℕ) (plan : Option Forest) (c named : 
           no_worse = subst (λ (o : Option ℕ). IsAtMost o (loss_in b plan)) (sym loss) no_worse;
           bounds = bounds_each_plan b 0 (loss_of h.best) j problem joined_good;
           few = s.few;
+          plan_short = short;
           said = both_said b best j said (is_text_of b j problem good (joined_version named j s.named_version s.joined) s.few s.head);
           in_budget = omega (arith, all_handled, s.lawful.in_budget);
           spent = λ some. all_handled ∙ ap (λ (n : ℕ). handled c + n) (s.lawful.spent (left_some h.left.items (omega (arith, some, s.joined.left_is, s.left))));

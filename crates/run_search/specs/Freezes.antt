@@ -1,5 +1,5 @@
 -- What `freeze` answers to an instance and the text of a plan.
-use Rattle.std.specs.Prelude.{◌≡◌, ◌⊎◌, ◌≤◌, ◌<◌, ◌*◌, ℕ, List, length, Some, Ok, Err, Result}
+use Rattle.std.specs.Prelude.{◌≡◌, ◌⊎◌, ◌≤◌, ◌<◌, ◌*◌, ℕ, List, length, nat_le, if◌then◌else◌, Some, Ok, Err, Result}
 use Rattle.glass_base.specs.Problem.{Problem}
 use Rattle.glass_base.specs.declared.role.Role.TheVariants as role
 use Rattle.cut_model.specs.declared.broken.Broken.{Broken}
@@ -18,7 +18,7 @@ use Rattle.plan_freeze.specs.Rests.{IsRest, frozen_loss}
 use Rattle.run_frame.specs.Answers.{Answer, bad_input}
 use Rattle.run_plans.specs.Judgements.{IsFirstBroken, PlanRefused, unlawful}
 use Rattle.run_search.specs.Plans.{IsOfSearch, both_stores, ending, handled, most_work, search_summary}
-use Rattle.run_checks.specs.Checks.{root_ranges}
+use Rattle.run_checks.specs.Checks.{root_ranges, too_long_to_store}
 use Rattle.run_checks.specs.FrozenChecks.{all_frozen, raised}
 use Rattle.run_checks.specs.Said.{SayBoth}
 use Rattle.run_frame.specs.Texts.{limit_of}
@@ -52,6 +52,11 @@ frozen_planned b out cert more c whole = record {
   lines = search_summary (raised more c) (Some (neighbour_count whole));
 }
 
+-- the same, if the text of the whole plan can be read again
+abbrev pub frozen_if_short : Problem → List ℕ → List ℕ → ℕ → Certificate → Forest → Answer
+frozen_if_short b out cert more c whole =
+    if nat_le (length (solution_text b whole)) (limit_of role.Plan) then frozen_planned b out cert more c whole else too_long_to_store role.Plan (solution_text b whole)
+
 -- what such a search found is stored under these names and told
 pub record Freezes (b : Problem) (k budget : ℕ) (plan : Forest) (out cert : List ℕ) (answer : Answer) : Type 0 where
   pub lawful : IsLawful b plan
@@ -66,7 +71,7 @@ pub record Freezes (b : Problem) (k budget : ℕ) (plan : Forest) (out cert : Li
   pub few : count tail ≤ 12 * length rest.items
   pub said : count (joined (first_plates k plan) tail) ≤ 1000000000
       → SayBoth b (Some (solution_text b (joined (first_plates k plan) tail))) (cert_text certificate) (Some (joined (first_plates k plan) tail)) certificate
-  pub answer_is : answer ≡ frozen_planned b out cert (frozen_loss b plan k) certificate (joined (first_plates k plan) tail)
+  pub answer_is : answer ≡ frozen_if_short b out cert (frozen_loss b plan k) certificate (joined (first_plates k plan) tail)
 
 -- the answer to a plan: its first breach, that no plate is left to be planned, or what a search found
 pub data FreezesPlan (b : Problem) (k budget : ℕ) (plan : Forest) (out cert : List ℕ) (answer : Answer) : Type 0 where

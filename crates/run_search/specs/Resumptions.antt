@@ -1,5 +1,5 @@
 -- What `resume` answers to an instance and the texts of a plan and of a certificate.
-use Rattle.std.specs.Prelude.{◌≡◌, ◌≤◌, ◌<◌, ◌+◌, ◌*◌, ◌⊎◌, ℕ, List, length, nat_le, if◌then◌else◌, option_map, Option, Some, None}
+use Rattle.std.specs.Prelude.{◌≡◌, ◌≤◌, ◌<◌, ◌+◌, ◌*◌, ◌⊎◌, ℕ, List, length, nat_le, if◌then◌else◌, option_map, IfSome, Option, Some, None}
 use Rattle.glass_base.specs.Problem.{Problem}
 use Rattle.glass_base.specs.declared.role.Role.TheVariants as role
 use Rattle.cut_model.specs.Lawful.{IsLawful}
@@ -36,8 +36,9 @@ pub record IsResumed (b : Problem) (budget : ℕ) (plan : Option Forest) (c j : 
   pub no_worse : IsAtMost j.loss (loss_in b plan)
   -- every lawful plan loses at least its bound; where there is no bound, there is no lawful plan
   pub bounds : (other : Forest) → IsLawful b other → Reaches j.bound (loss_of b other)
-  -- the texts of both, if there is a plan, are read again as this plan and this certificate
+  -- the texts of both, if there is a plan, are read again as this plan and this certificate; that of the plan has no more bytes than one that is read
   pub few : IsNumber (length j.nodes.items)
+  pub plan_short : IfSome (option_map (solution_text b) best) (λ text. length text ≤ limit_of role.Plan)
   pub said : SayBoth b (option_map (solution_text b) best) (cert_text j) best j
   -- no more boxes were closed or split than the budget says beside those of the certificate, and exactly so many where one is left open
   pub in_budget : handled j ≤ handled c + budget

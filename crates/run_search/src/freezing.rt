@@ -1,14 +1,15 @@
 //! What `freeze` answers to an instance and the text of a plan.
 
-ghost use Rattle.std.specs.Prelude.{◌≡◌, ◌+◌, ◌*◌, ◌<◌, ◌≤◌, ◌^◌, [], ℕ, List, length, IfOk, IfSome, map, option_map};
+ghost use Rattle.std.specs.Prelude.{◌≡◌, ◌+◌, ◌*◌, ◌<◌, ◌≤◌, ◌^◌, [], ◌∷◌, ℕ, List, length, IfOk, IfSome, map, option_map};
 ghost use Rattle.cut_model.specs.Fits.{Fits};
 ghost use Rattle.cut_model.specs.Lawful.{IsLawful};
 ghost use Rattle.cut_model.specs.Tree.{count, neighbour_count, tree};
 ghost use Rattle.cert_log.specs.Good.{HasVersion};
 ghost use Rattle.cert_log.specs.Outcomes.{IsHead};
-ghost use Rattle.cert_log.specs.Texts.{head_of};
+ghost use Rattle.cert_log.specs.Texts.{cert_text, head_of};
 ghost use Rattle.plan_csv.specs.PlanTexts.{plan_said};
-ghost use Rattle.run_search.specs.Freezes.{Freezes, FreezesPlan, FreezesSaid, FreezesWithin, IsFoundFrom, frozen_planned};
+ghost use Rattle.plan_csv.specs.Solutions.{solution_text};
+ghost use Rattle.run_search.specs.Freezes.{Freezes, FreezesPlan, FreezesSaid, FreezesWithin, IsFoundFrom, frozen_if_short, frozen_planned};
 ghost use Rattle.run_frame.specs.Forms.{answer_in, store_in};
 ghost use Rattle.run_search.specs.inner.Searches.{IsFoundBehind, IsHistoryFrom};
 
@@ -26,8 +27,8 @@ use glass_base::{Instance, Memory, Role, Run, append};
 use plan_csv::{read_plan, write_plan};
 use plan_freeze::{frozen_loss, glue, rest};
 use plan_trace::trace_of;
-use run_checks::raised;
-use run_frame::{Output, Reply, bad_input, refused, reply_with};
+use run_checks::{raised, too_long_to_store};
+use run_frame::{Output, Reply, bad_input, limit, refused, reply_with};
 use run_plans::{first_breach, plan_refusal, unlawful};
 use std::alloc::Global;
 use std::sync::Wait;
@@ -92,27 +93,24 @@ fn find_from<R: Threads + Wait + Sync, G: Gate + Sync>(
     }
 }
 
-/// The whole plan, and then the certificate, as what is to be stored.
+/// The text of the whole plan, and then the certificate, as what is to be stored.
 fn outputs_of(
     alloc: Global,
-    instance: &Instance,
     certificate: &Certificate,
-    whole: &Plan,
+    text: Run<u8>,
 ) -> Result<Run<Output>, Memory>
     requires version { HasVersion certificate.now }
-    requires fits { Fits (tree whole.now) }
     ensures { IfOk result (λ outputs. (name : Product → List ℕ)
         → map (store_in name) outputs.items
-        ≡ (frozen_planned instance.now (name Product.Plan)
-        (name Product.Certificate) 0 certificate.now (tree whole.now)).stores) }
+        ≡ record { name = name Product.Plan; bytes = text.items }
+        ∷ record { name = name Product.Certificate; bytes = cert_text certificate.now } ∷ []) }
 {
     let mut outputs = Run::new(alloc);
-    let bytes = write_plan(alloc, instance, whole)?;
     append(
         &mut outputs,
         Output {
             product: Product::Plan,
-            bytes,
+            bytes: text,
         },
     )?;
     let bytes = write_cert(alloc, certificate)?;
@@ -126,20 +124,21 @@ fn outputs_of(
     Ok(outputs)
 }
 
-/// The reply that stores the whole plan and the certificate of what was planned anew, and tells of it with this loss added.
-fn reply_with_whole(
+/// The reply that stores the whole plan, which has this text, and the certificate of what was planned anew, and tells of it with this loss added.
+fn reply_with_text(
     alloc: Global,
-    instance: &Instance,
+    _instance: &Instance,
     certificate: &Certificate,
     whole: &Plan,
+    text: Run<u8>,
     more: u64,
 ) -> Result<Reply, Memory>
     requires version { HasVersion certificate.now }
-    requires fits { Fits (tree whole.now) }
+    requires text { text.items ≡ solution_text _instance.now (tree whole.now) }
     requires loss { IfSome certificate.now.loss (λ n. more + n < 2 ^ 64) }
     requires bound { IfSome certificate.now.bound (λ n. more + n < 2 ^ 64) }
     ensures { IfOk result (λ r. (name : Product → List ℕ)
-        → answer_in name r ≡ frozen_planned instance.now (name Product.Plan)
+        → answer_in name r ≡ frozen_planned _instance.now (name Product.Plan)
         (name Product.Certificate) more certificate.now (tree whole.now)) }
 {
     let lines = six_lines(
@@ -153,9 +152,34 @@ fn reply_with_whole(
     )?;
     Ok(Reply {
         status: ending(certificate),
-        outputs: outputs_of(alloc, instance, certificate, whole)?,
+        outputs: outputs_of(alloc, certificate, text)?,
         lines,
     })
+}
+
+/// The reply that stores the whole plan and the certificate of what was planned anew, and tells of it with this loss added, or a refusal where the
+/// text of the whole plan is longer than one that is read.
+fn reply_with_whole(
+    alloc: Global,
+    instance: &Instance,
+    certificate: &Certificate,
+    whole: &Plan,
+    more: u64,
+) -> Result<Reply, Memory>
+    requires version { HasVersion certificate.now }
+    requires fits { Fits (tree whole.now) }
+    requires loss { IfSome certificate.now.loss (λ n. more + n < 2 ^ 64) }
+    requires bound { IfSome certificate.now.bound (λ n. more + n < 2 ^ 64) }
+    ensures { IfOk result (λ r. (name : Product → List ℕ)
+        → answer_in name r ≡ frozen_if_short instance.now (name Product.Plan)
+        (name Product.Certificate) more certificate.now (tree whole.now)) }
+{
+    let text = write_plan(alloc, instance, whole)?;
+    if text.len() as u64 > limit(Role::Plan) {
+        let notice = too_long_to_store(alloc, Role::Plan, &text)?;
+        return Ok(reply_with(alloc, notice));
+    }
+    reply_with_text(alloc, instance, certificate, whole, text, more)
 }
 
 /// What a search finds that plans anew what stands behind the first `k` plates.
@@ -253,7 +277,7 @@ fn freeze_said<R: Threads + Wait + Sync, G: Gate + Sync>(
 }
 
 /// The reply to the text of a plan: its first `k` plates stay as they are, and the best plan that a search finds stands behind them; or a
-/// refusal, first where the number of items times the budget is above 160,000,000.
+/// refusal, first where the number of items times the budget is above 160,000,000, last where the whole plan could not be read again.
 pub fn freeze_text<R: Threads + Wait + Sync, G: Gate + Sync>(
     alloc: Global,
     workforce: &Workforce<'_, R, G>,

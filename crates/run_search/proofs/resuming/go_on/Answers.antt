@@ -42,4 +42,4 @@ returns-clause-resumed g c =
     c.in_ok-first.ensures.no_worse
     (small_too c.args.checked.now.plan first (first_loss b first) c.in_ok-first.ensures.known
     (subst (λ (n : ℕ). IfSome first (λ _. n < no_loss)) c.first_loss-loss.ensures.loss c.first_loss-loss.ensures.some))
-    c.in_ok-plan.ensures.loss c.in_ok-plan.ensures.said
+    c.in_ok-plan.ensures.loss c.in_ok-plan.ensures.said c.in_ok-plan.ensures.short
