@@ -4,19 +4,25 @@
     bench/believed.py              a line for each law of docs/BELIEVED.md
     bench/believed.py NAME ..      the definitions that NAME stands on, those that others stand on first
 
-A definition stands on those that its text names, by the imports of its file. Counted are its lines without comments, blanks and imports. Not
-opened is `LineRun Answers`: a law reads `Ended .. -> conclusion`, and `Ended` has it only so that the law speaks of what `glass` promises, whose contract
+A definition stands on those that its text names, by the imports of its file. Counted are its lines without comments, blanks and imports, those of the kit's crate csv among them. Neither
+opened nor counted is `LineRun Answers`: a law reads `Ended .. -> conclusion`, and `Ended` has it only so that the law speaks of what `glass` promises, whose contract
 is `RunsTo Answers`, and that is `LineRun Answers` where the words are a command line. Types that are declared in the sources (structs, enums) are not counted, nor is what std defines.
 """
 import os
 import re
+import subprocess
 import sys
 
 TOP = os.path.join(os.path.dirname(os.path.abspath(__file__)), "..", "crates")
+KIT = os.path.join(os.path.dirname(subprocess.run(["rt", "doc"], stdout=subprocess.PIPE, text=True, check=True).stdout.strip()), "rattle")
+# each crate whose definitions are counted, with the folder of its specs: ours, and of the kit that by which a table has its rows
+SPECS = {crate: os.path.join(TOP, crate, "specs") for crate in os.listdir(TOP)}
+SPECS["csv"] = os.path.join(KIT, "csv", "specs")
 CUT = {("run_frame", "Runs", "LineRun"), ("glass_run", "Commands", "Answers"), ("picture_run", "Pictures", "Answers")}
 LAWS = [
     ("plans_are_lawful_and_bounded", "FindsPlan"), ("resumed_plans_are_lawful_and_bounded", "ResumesPlan"),
     ("frozen_plans_are_lawful_and_bounded", "FindsPlanBehind"), ("accepted_plans_are_lawful_and_bounded", "AcceptsPlan"),
+    ("accepted_plans_behind_first_plates_are_lawful_and_bounded", "AcceptsPlanBehind"),
     ("done_drafts_are_lawful", "StoresLawfulPlan"), ("done_judgements_are_lawful", "FindsLawful"), ("unlawful_judgements_are_true", "FindsUnlawful"),
     ("done_replays_are_true", "FollowsSheet"), ("done_sheets_make_their_plans", "StoresSheet"), ("done_pictures_are_true", "StoresPicture"),
     ("searches_are_right", "StoresSearch"), ("searches_handle_each_box_once", "HandlesEachBox"),
@@ -25,6 +31,7 @@ LAWS = [
     ("done_checks_are_right", "AcceptsFrom"), ("refused_checks_are_true", "FindsWrongFrom"), ("done_conversions_are_right", "StoresConverted"),
     ("right_certificates_pass", "RightPasses"), ("right_texts_are_accepted", "RightIsAccepted"),
     ("right_texts_behind_first_plates_are_accepted", "RightBehindIsAccepted"),
+    ("complete_traces_have_courses", "TracesHaveCourses"), ("courses_bound_losses", "CoursesBoundLosses"), ("is_no_shorter", "LosesAtLeast"),
 ]
 HEAD = re.compile(r"^(?:abbrev |unfoldable )?pub (?:record |data )?([^\s:({]+)")
 WORD = re.compile(r"[^\s(){}\[\],;]+")
@@ -33,8 +40,7 @@ WORD = re.compile(r"[^\s(){}\[\],;]+")
 def read():
     """All definitions, by crate, module and name: their lines, and what they name."""
     imports, texts = {}, {}
-    for crate in sorted(os.listdir(TOP)):
-        specs = os.path.join(TOP, crate, "specs")
+    for crate, specs in sorted(SPECS.items()):
         for folder, _, files in os.walk(specs):
             for file in files:
                 if not file.endswith(".antt"):
@@ -69,16 +75,15 @@ def stands_on(start, imports, texts):
     order, seen = [], set()
 
     def visit(key):
-        if key in seen or key not in texts:
+        if key in seen or key in CUT or key not in texts:
             return
         seen.add(key)
-        if key not in CUT:
-            names = imports[key[:2]]
-            for line in texts[key]:
-                for word in WORD.findall(line.split("--")[0]):
-                    for name in {word, word.split(".")[0]}:
-                        if name in names and names[name] != key:
-                            visit(names[name])
+        names = imports[key[:2]]
+        for line in texts[key]:
+            for word in WORD.findall(line.split("--")[0]):
+                for name in {word, word.split(".")[0]}:
+                    if name in names and names[name] != key:
+                        visit(names[name])
         order.append(key)
 
     visit(start)
@@ -100,12 +105,12 @@ def main():
     lines = lambda keys: sum(len(texts[key]) for key in keys)
     every = set()
     for law, name in LAWS:
-        start = [key for key in by_name[name] if key[0] in ("glass_run", "picture_run", "plain_laws", "run_checks")][0]
+        start = [key for key in by_name[name] if key[0] in ("glass_run", "picture_run", "plain_laws", "run_checks", "front_course")][0]
         own = set(stands_on(start, imports, texts))
-        # The laws of run_checks speak of texts, and not of a run: they have no such premise.
-        both = own if start[0] == "run_checks" else own | ended
+        # The laws of run_checks and front_course speak of texts and of traces, and not of a run: they have no such premise.
+        both = own if start[0] in ("run_checks", "front_course") else own | ended
         every |= both
-        print("%-50s %-21s %4d definitions %5d lines, with its premise %4d and %5d" % (law, name, len(own), lines(own), len(both), lines(both)))
+        print("%-57s %-21s %4d definitions %5d lines, with its premise %4d and %5d" % (law, name, len(own), lines(own), len(both), lines(both)))
     print("all of them: %d definitions, %d lines" % (len(every), lines(every)))
 
 

@@ -5,7 +5,8 @@
     bench/edits.py < LOG            the same, with the goal that refused each edit, from what `rt must-fail` printed
 
 The function is the one around the first line that the edit changes; its clauses are named as its contract names them. A mistake in a function without a
-contract of its own (a closure, a loop's helper, a constant) is refused by those that call it, and a method of a trait by what the trait says of it.
+contract of its own (a closure, a loop's helper, a constant) is refused by those that call it, and a method of a trait by what the trait says of it. What is
+claimed of a worked example (a file of proofs) is refused by the definition, computed.
 """
 import os
 import re
@@ -72,7 +73,8 @@ def main():
             goal = told.get((crate, name[:-5]), "")
             module = os.path.splitext(os.path.basename(file))[0]
             where = f"`{module}::{function}`" if function else f"`{module}`"
-            what = ", ".join(clauses) if clauses else "what the callers ensure"
+            claimed = file.startswith("proofs/")
+            what = "the definition, computed" if claimed else ", ".join(clauses) if clauses else "what the callers ensure"
             print(f"| {name[:-5].replace('_', ' ')} | {where} | {what}{f' (`{goal}`)' if goal else ''} |")
 
 

@@ -12,7 +12,8 @@ use crate::verdict::{Verdict, Why};
 use crate::walk::{Tally, Walked, walk};
 use cert_log::Certificate;
 use defect_map::{DefectMap, Ground};
-use front_bound::losses::floor_up_to;
+use front_bound::losses::{FrontSearch, floor_up_to};
+use front_bound::watch::Watch;
 use glass_base::{Instance, Memory};
 use std::alloc::Global;
 
@@ -30,10 +31,15 @@ fn judge_counts(cert: &Certificate, tally: Tally) -> Option<Why>
 }
 
 /// The answer where all else is right: whether fronts show the said floor.
-fn judge_floor(alloc: Global, instance: &Instance, cert: &Certificate) -> Result<Verdict, Memory>
+fn judge_floor<W: Watch>(
+    alloc: Global,
+    instance: &Instance,
+    cert: &Certificate,
+    search: &FrontSearch<'_, W>,
+) -> Result<Verdict, Memory>
     ensures { IfOk result (JudgesFloor instance.now cert.now) }
 {
-    let found = floor_up_to(alloc, instance, cert.floor)?;
+    let found = floor_up_to(alloc, instance, cert.floor, search)?;
     if found < cert.floor {
         return Ok(Verdict::Refuse {
             line: 1,
@@ -48,15 +54,18 @@ fn judge_floor(alloc: Global, instance: &Instance, cert: &Certificate) -> Result
 
 /// Whether a certificate is right for the box of all plans, where this is the loss in mm² of the best plan that is known.
 ///
-/// Where it is accepted, each lawful plan loses at least its bound (`cert_log::laws::good_certificates_bound_each_plan`). A floor is accepted where fronts show it
-/// (`front_bound::losses::floor_up_to`), and else refused, though it may hold. Only want of memory is refused; how much is taken depends on the instance and the
-/// depth of the tree, and not on the number of nodes; for a floor also on the number of fronts.
-pub fn check_cert(
+/// Where it is accepted, each lawful plan loses at least its bound
+/// (`cert_log::laws::good_certificates_bound_each_plan`). A floor is accepted where this search over fronts shows it
+/// (`front_bound::losses::floor_up_to`), and else refused, though it may hold. Only want of memory is refused; how much
+/// is taken depends on the instance and the depth of the tree, and not on the number of nodes; for a floor also on the
+/// number of fronts and labels.
+pub fn check_cert<W: Watch>(
     alloc: Global,
     instance: &Instance,
     map: &DefectMap,
     loss: Option<u64>,
     cert: &Certificate,
+    search: &FrontSearch<'_, W>,
 ) -> Result<Verdict, Memory>
     requires map { map.now ≡ instance.now.defects }
     requires tree { IsTree cert.now.nodes.items }
@@ -74,7 +83,7 @@ pub fn check_cert(
         Walked::Fault(line, why) => Ok(Verdict::Refuse { line, why }),
         Walked::Whole(tally) => match judge_counts(cert, tally) {
             Some(why) => Ok(Verdict::Refuse { line: 1, why }),
-            None => judge_floor(alloc, instance, cert),
+            None => judge_floor(alloc, instance, cert, search),
         },
     }
 }

@@ -46,12 +46,13 @@ usual = record {
   flags = [];
 }
 
--- what commands store that search, and the numbers that can be set for a search
+-- what commands store that search for a plan
 abbrev pub found : List Product
 found = product.Plan ∷ product.Certificate ∷ []
 
-abbrev pub limits : List Count
-limits = count.Workers ∷ count.Budget ∷ []
+-- what commands are that check a certificate: they can do without a plan, and a search over fronts may show the certificate's floor
+abbrev pub check : Pattern
+check = record usual { reads = role.Batch ∷ role.Defects ∷ role.Plan ∷ role.Cert ∷ []; without = role.Plan ∷ []; counts = count.FrontsLimit ∷ [] }
 
 -- each command by its own word, and by what is not as usual
 abbrev pub pattern_of : Verb → Pattern
@@ -67,26 +68,10 @@ pattern_of verb.Gen = record usual {
   flags = flag.Fronts ∷ [];
 }
 pattern_of verb.Judge = record usual { word = codes "judge"; reads = role.Batch ∷ role.Defects ∷ role.Plan ∷ [] }
-pattern_of verb.Verify = record usual {
-  word = codes "verify";
-  reads = role.Batch ∷ role.Defects ∷ role.Plan ∷ role.Cert ∷ [];
-  without = role.Plan ∷ [];
-  counts = count.Frozen ∷ [];
-}
-pattern_of verb.Convert = record usual {
-  word = codes "convert";
-  reads = role.Batch ∷ role.Defects ∷ role.Plan ∷ role.Cert ∷ [];
-  without = role.Plan ∷ [];
-  stores = product.Certificate ∷ [];
-}
-pattern_of verb.Resume = record usual {
-  word = codes "resume";
-  reads = role.Batch ∷ role.Defects ∷ role.Plan ∷ role.Cert ∷ [];
-  without = role.Plan ∷ [];
-  stores = found;
-  counts = limits;
-}
-pattern_of verb.Freeze = record usual { word = codes "freeze"; leads = lead.Frozen ∷ []; reads = role.Batch ∷ role.Defects ∷ role.Plan ∷ []; stores = found; counts = limits }
+pattern_of verb.Verify = record check { word = codes "verify"; counts = count.Frozen ∷ count.FrontsLimit ∷ [] }
+pattern_of verb.Convert = record check { word = codes "convert"; stores = product.Certificate ∷ [] }
+pattern_of verb.Resume = record check { word = codes "resume"; stores = found; counts = count.Workers ∷ count.Budget ∷ count.FrontsLimit ∷ [] }
+pattern_of verb.Freeze = record usual { word = codes "freeze"; leads = lead.Frozen ∷ []; reads = role.Batch ∷ role.Defects ∷ role.Plan ∷ []; stores = found; counts = count.Workers ∷ count.Budget ∷ [] }
 pattern_of verb.Sheet = record usual { word = codes "sheet"; reads = role.Batch ∷ role.Defects ∷ role.Plan ∷ []; stores = product.Sheet ∷ [] }
 pattern_of verb.Replay = record usual { word = codes "replay"; reads = role.Batch ∷ role.Defects ∷ role.Sheet ∷ [] }
 pattern_of verb.Picture = record usual { word = codes "picture"; reads = role.Batch ∷ role.Defects ∷ role.Plan ∷ []; stores = product.Picture ∷ [] }
@@ -152,6 +137,7 @@ setting_of count.Workers = record { front = codes "--workers="; least = 1; most 
 setting_of count.Budget = record { front = codes "--budget="; least = 1; most = MOST_BUDGET; usual = 100000; needs = None }
 setting_of count.Frozen = record { front = codes "--frozen="; least = 0; most = MOST_PLATES; usual = 0; needs = Some role.Plan }
 setting_of count.Effort = record { front = codes "--effort="; least = 0; most = 1000000; usual = 0; needs = None }
+setting_of count.FrontsLimit = record { front = codes "--fronts-limit="; least = 1; most = 4000000000; usual = 500000000; needs = None }
 
 -- the word of an option that has no value
 abbrev pub flag_word : Flag → List ℕ

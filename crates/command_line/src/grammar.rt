@@ -118,6 +118,8 @@ pub enum Count {
     Frozen,
     /// How much work is done for a better first plan, in millions of ticks.
     Effort,
+    /// How many labels are looked at in one search over fronts that is to show the floor of a certificate.
+    FrontsLimit,
 }
 
 /// An option that has no value.
@@ -225,7 +227,7 @@ impl Verb {
                 without: &[Role::Plan],
                 stores: &[],
                 options: &[Role::Params, Role::Plates],
-                counts: &[Count::Frozen],
+                counts: &[Count::Frozen, Count::FrontsLimit],
                 flags: &[],
             },
             Verb::Convert => Form {
@@ -235,7 +237,7 @@ impl Verb {
                 without: &[Role::Plan],
                 stores: &[Product::Certificate],
                 options: &[Role::Params, Role::Plates],
-                counts: &[],
+                counts: &[Count::FrontsLimit],
                 flags: &[],
             },
             Verb::Resume => Form {
@@ -245,7 +247,7 @@ impl Verb {
                 without: &[Role::Plan],
                 stores: &[Product::Plan, Product::Certificate],
                 options: &[Role::Params, Role::Plates],
-                counts: &[Count::Workers, Count::Budget],
+                counts: &[Count::Workers, Count::Budget, Count::FrontsLimit],
                 flags: &[],
             },
             Verb::Freeze => Form {
@@ -331,6 +333,7 @@ pub(crate) fn count_front(count: Count) -> &'static str
         Count::Budget => "--budget=",
         Count::Frozen => "--frozen=",
         Count::Effort => "--effort=",
+        Count::FrontsLimit => "--fronts-limit=",
     }
 }
 
@@ -343,6 +346,7 @@ pub(crate) fn count_most(count: Count) -> u32
         Count::Budget => MOST_BUDGET,
         Count::Frozen => MOST_PLATES,
         Count::Effort => 1_000_000,
+        Count::FrontsLimit => 4_000_000_000,
     }
 }
 
@@ -355,6 +359,7 @@ pub(crate) fn count_usual(count: Count) -> u32
         Count::Budget => 100_000,
         Count::Frozen => 0,
         Count::Effort => 0,
+        Count::FrontsLimit => 500_000_000,
     }
 }
 
@@ -367,6 +372,7 @@ pub(crate) fn count_needs(count: Count) -> Option<Role>
         Count::Budget => None,
         Count::Frozen => Some(Role::Plan),
         Count::Effort => None,
+        Count::FrontsLimit => None,
     }
 }
 

@@ -218,6 +218,7 @@ fn count_about(count: Count) -> &'static str
         Count::Effort => {
             "a better first plan, for so many million ticks (300 are some ten seconds)"
         }
+        Count::FrontsLimit => "how many labels a search over fronts looks at, to show a floor",
     }
 }
 
@@ -302,7 +303,13 @@ fn told_of(program: Program) -> Manual
             name: "glass",
             verbs: &VERBS,
             options: &[Role::Params, Role::Plates],
-            counts: &[Count::Workers, Count::Budget, Count::Effort, Count::Frozen],
+            counts: &[
+                Count::Workers,
+                Count::Budget,
+                Count::Effort,
+                Count::Frozen,
+                Count::FrontsLimit,
+            ],
             flags: &[Flag::Watch, Flag::Fronts],
         },
         Program::Picture => Manual {

@@ -2,6 +2,7 @@
 
 ghost use Rattle.std.specs.Option.{option_map};
 ghost use Rattle.std.specs.Prelude.{◌≡◌, IfOk, IfSome};
+ghost use Rattle.first_plan.specs.inner.Betters.{IsBetterOf};
 ghost use Rattle.glass_base.specs.Problem.{IsProblem};
 ghost use Rattle.plan_trace.specs.Claims.{IsComplete};
 
@@ -80,6 +81,19 @@ pub(crate) fn wide_plan(
     Ok(trace_in(checked(ground, found)))
 }
 
+/// The better of what a narrow beam and a wide one found, or the only one.
+fn better_plan(instance: &Instance, narrow: Option<Found>, wide: Option<Trace>) -> Option<Trace>
+    requires problem { IsProblem instance.now }
+    requires narrow { IfSome narrow
+        (λ found. IsComplete instance.now found.trace.steps.items) }
+    requires wide { IfSome wide (λ trace. IsComplete instance.now trace.steps.items) }
+    ensures complete { IfSome result (λ trace. IsComplete instance.now trace.steps.items) }
+    ensures better { IsBetterOf instance.now (option_map (λ found. found.trace) narrow) wide
+        result }
+{
+    better_of(instance, trace_in(narrow), wide)
+}
+
 /// The better trace of two beams that has a step for each item and meets the rules, if they find one: of a narrow beam, and of a wide one.
 pub(crate) fn beam_plan(
     alloc: Global,
@@ -94,5 +108,5 @@ pub(crate) fn beam_plan(
     let narrow = narrow_plan(alloc, ground, &beams, ticks)?;
     let lost = loss_in(&narrow);
     let wide = wide_plan(alloc, ground, &beams, lost, ticks)?;
-    Ok(better_of(ground.instance, trace_in(narrow), wide))
+    Ok(better_plan(ground.instance, narrow, wide))
 }

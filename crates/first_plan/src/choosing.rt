@@ -57,6 +57,7 @@ pub(crate) fn first_of(
     requires complete { IfOk drafted (λ trace. IsComplete instance.now trace.steps.items) }
     ensures plan { IfSome result (λ trace. IsFirstPlan instance.now trace.steps.items) }
     ensures none { IfNone result ((number : ℕ) × HasNoDraft instance.now number) }
+    ensures better { IsBetterOf instance.now (result_ok drafted) found result }
 {
     shorter(instance, found, drafted)
 }

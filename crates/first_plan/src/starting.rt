@@ -6,6 +6,7 @@ ghost use Rattle.cut_model.specs.Loss.{loss_of};
 ghost use Rattle.cut_model.specs.Steps.{length_of};
 ghost use Rattle.cut_model.specs.Tree.{Forest};
 ghost use Rattle.first_plan.specs.FirstPlans.{IsFirstPlan};
+ghost use Rattle.first_plan.specs.inner.Betters.{IsBetterOf};
 ghost use Rattle.front_course.specs.Claims.{LosesAtLeast};
 ghost use Rattle.glass_base.specs.Problem.{IsProblem};
 ghost use Rattle.plan_draft.specs.Drafts.{HasNoDraft};
@@ -16,7 +17,7 @@ use crate::choosing::{effort, first_of};
 use crate::comparing::{better_of, length_of_plan};
 use cut_model::Trace;
 use defect_map::Ground;
-use front_bound::losses::{LABELS, LONGEST, loss_of_length};
+use front_bound::losses::{FrontSearch, LONGEST, loss_of_length};
 use front_bound::plans::{Shown, longest_with_plan};
 use front_bound::watch::Watch;
 use glass_base::{Instance, Memory};
@@ -41,6 +42,7 @@ fn improved(instance: &Instance, first: Option<Trace>, other: Option<Trace>) -> 
     requires other { IfSome other (λ trace. IsComplete instance.now trace.steps.items) }
     ensures plan { IfSome result (λ trace. IsFirstPlan instance.now trace.steps.items) }
     ensures none { IfNone result ((number : ℕ) × HasNoDraft instance.now number) }
+    ensures better { IsBetterOf instance.now first other result }
 {
     better_of(instance, first, other)
 }
@@ -73,12 +75,13 @@ fn floor_of(instance: &Instance, length: u64) -> u64
 /// What a search begins with: a first plan, as `first_plan` promises it, that is the best of the draft, of those that two beams find, and of one that is looked for along fronts; and
 /// the greatest floor that fronts show. Where a plan reaches the floor, no other one is looked for, since none is better.
 ///
-/// The effort is counted and not timed, so that the same instance has the same start on each machine. Where there are many fronts it may take minutes and gigabytes; where there are
-/// too many, or where there is no way to cut the items at all, the floor is 0. How far that is, is told to `watch`. It fails only where memory runs out.
+/// The effort is counted and not timed, so that the same instance has the same start on each machine. Where there are
+/// many fronts it may take minutes and gigabytes; where there are too many, or where there is no way to cut the items
+/// at all, the floor is 0. How far that is, is told to who watches the search. It fails only where memory runs out.
 pub fn start_by_fronts<W: Watch>(
     alloc: Global,
     ground: Ground<'_>,
-    watch: &W,
+    search: &FrontSearch<'_, W>,
 ) -> Result<Start, Memory>
     ensures plan { IfOk result (λ start. IfSome start.first
         (λ trace. IsFirstPlan ground.entry.instance.now trace.steps.items)) }
@@ -94,7 +97,13 @@ pub fn start_by_fronts<W: Watch>(
     let drafted = draft(alloc, ground.instance, ground.map)?;
     let first = first_of(ground.instance, trace_in(narrow), drafted);
     let most = length_of_first(ground.instance, &first);
-    let Shown { length, plan } = longest_with_plan(alloc, ground, most, LABELS, watch)?;
+    let Shown { length, plan } = longest_with_plan(
+        alloc,
+        ground,
+        most,
+        search.labels,
+        search.watch,
+    )?;
     let floor = floor_of(ground.instance, length);
     let best = improved(ground.instance, first, plan);
     if length_of_first(ground.instance, &best) <= length {

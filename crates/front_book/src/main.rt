@@ -2,14 +2,17 @@
 //!
 //!     START ITEMS
 //!     START ITEMS LENGTH
+//!     gen START ITEMS DEFECTS
 //!     PLATES WIDTH HEIGHT MIN1 MAX1 MIN2 WASTE / ITEMS
 //!     PLATES WIDTH HEIGHT MIN1 MAX1 MIN2 WASTE / ITEMS / DEFECTS
 //!     plan LINE
 //!
-//! The first two draw an instance from the start, with so many items and no defects; the others give one: its parameters, for each item its length, its width and its stack, and for each
-//! defect its plate, its lower left corner, its width and its height. All sizes are in mm. The answer is the greatest loss in mm² of which it is shown that no lawful plan loses less; where a
-//! LENGTH is asked for, whether it is shown that no lawful plan is shorter. Behind the word `plan` a line is answered by that loss and by what the plan loses that is found along the fronts, or
-//! `none`.
+//! The first three draw an instance from the start, with so many items, and no defects or so many; the others give one:
+//! its parameters, for each item its length, its width and its stack, and for each defect its plate, its lower left
+//! corner, its width and its height. All sizes are in mm. The answer is a loss in mm² of which it is shown that no
+//! lawful plan loses less, the greatest that the search comes to; where a LENGTH is asked for, whether it is shown that
+//! no lawful plan is shorter. Behind the word `plan` a line is answered by that loss and by what the plan loses that is
+//! found along the fronts, or `none`.
 #![tactic(auto)]
 
 mod given;
@@ -33,12 +36,13 @@ use plan_trace::laws::traces_keep_their_kinds;
 use std::alloc::Global;
 
 /// No more labels than this are looked at in a search.
-const LIMIT: u64 = 1_000_000_000;
+const LIMIT: u64 = 500_000_000;
 
 /// The instance that is drawn.
-fn drawn(alloc: Global, start: u32, items: u32) -> anyhow::Result<Instance> {
+fn drawn(alloc: Global, start: u32, items: u32, defects: u32) -> anyhow::Result<Instance> {
     ensure!(1 <= items && items <= 800, "1 to 800 items are drawn");
-    Ok(generate(alloc, start, items, 0)?)
+    ensure!(defects <= 20_000, "up to 20,000 defects are drawn");
+    Ok(generate(alloc, start, items, defects)?)
 }
 
 /// No plan is longer, in mm.
@@ -56,7 +60,7 @@ fn loss_at(instance: &Instance, length: u64) -> u64 {
 
 /// The loss of which it is shown that no lawful plan loses less, in mm².
 fn loss_of(alloc: Global, instance: &Instance) -> anyhow::Result<u64> {
-    let length = longest_shown(alloc, instance, most_of(instance), LIMIT)?;
+    let length = longest_shown(alloc, instance, most_of(instance), LIMIT, &Nobody)?;
     Ok(loss_at(instance, length))
 }
 
@@ -98,7 +102,7 @@ fn instance_of(alloc: Global, line: &str) -> anyhow::Result<Instance> {
     }
     let numbers = numbers_of(alloc, line)?;
     match numbers.as_slice() {
-        [start, items] => drawn(alloc, *start, *items),
+        [start, items] => drawn(alloc, *start, *items, 0),
         _ => bail!("a line that draws an instance for a plan has two numbers"),
     }
 }
@@ -107,12 +111,12 @@ fn instance_of(alloc: Global, line: &str) -> anyhow::Result<Instance> {
 fn drawn_answer(alloc: Global, numbers: &[u32]) -> anyhow::Result<String> {
     match numbers {
         [start, items] => {
-            let instance = drawn(alloc, *start, *items)?;
+            let instance = drawn(alloc, *start, *items, 0)?;
             let loss = loss_of(alloc, &instance)?;
             Ok(format!(in alloc; "{loss}")?)
         }
         [start, items, length] => {
-            let instance = drawn(alloc, *start, *items)?;
+            let instance = drawn(alloc, *start, *items, 0)?;
             let shown = is_no_shorter(alloc, &instance, u64::from(*length), LIMIT)?;
             Ok(format!(in alloc; "{shown}")?)
         }
@@ -120,11 +124,25 @@ fn drawn_answer(alloc: Global, numbers: &[u32]) -> anyhow::Result<String> {
     }
 }
 
+/// The answer to the numbers of a line that asks for a drawn instance with defects.
+fn drawn_around(alloc: Global, numbers: &[u32]) -> anyhow::Result<String> {
+    let [start, items, defects] = numbers else {
+        bail!("a line that draws an instance with defects has three numbers");
+    };
+    let instance = drawn(alloc, *start, *items, *defects)?;
+    let loss = loss_of(alloc, &instance)?;
+    Ok(format!(in alloc; "{loss}")?)
+}
+
 /// The answer to a line.
 fn answer(alloc: Global, line: &str) -> anyhow::Result<String> {
     if let Some(line) = line.strip_prefix("plan ") {
         let instance = instance_of(alloc, line)?;
         return losses_of(alloc, &instance);
+    }
+    if let Some(line) = line.strip_prefix("gen ") {
+        let numbers = numbers_of(alloc, line)?;
+        return drawn_around(alloc, numbers.as_slice());
     }
     if line.contains('/') {
         let instance = given(alloc, line)?;

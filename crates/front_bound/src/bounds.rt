@@ -18,7 +18,7 @@ use glass_base::{Instance, Memory};
 use std::alloc::Global;
 
 /// For how many labels a front counts: by the memory and the time that its row takes.
-const LABELS_A_FRONT: u64 = 50_000;
+const LABELS_A_FRONT: u64 = 25_000;
 
 /// By how much a length is first raised, in mm.
 const FIRST_STEP: u64 = 8;
@@ -108,7 +108,7 @@ fn is_shown_at_all(
 
 /// Whether it is shown that no lawful plan is shorter than a length, in mm: a plan's length is where its last plate's residual begins, with all plates before
 /// that in one line. `false` says that it was not shown: a plan may be shorter, or more than `limit` labels would be looked at in one of the searches, or there are more fronts than one for each
-/// 50,000 of them. So `limit` bounds time and memory.
+/// 25,000 of them. So `limit` bounds time and memory.
 pub fn is_no_shorter(
     alloc: Global,
     instance: &Instance,
@@ -126,7 +126,7 @@ pub fn is_no_shorter(
     }
 }
 
-/// The greatest length up to `most` of which it is shown that no course is shorter.
+/// A length up to `most` of which it is shown that no course is shorter: the greatest that the searches come to.
 pub fn longest<W: Watch>(
     alloc: Global,
     instance: &Instance,
@@ -159,30 +159,37 @@ pub fn longest<W: Watch>(
 }
 
 /// The same, with the table of fronts made for it.
-fn longest_of_all(alloc: Global, instance: &Instance, most: u64, limit: u64) -> Result<u64, Halt>
-    ensures shown { IfOk result (NoCourseShorter instance.now) }
-    ensures most { IfOk result (λ least. least ≤ most) }
-{
-    let table = table_of(alloc, instance, limit, &Nobody)?;
-    let shown = longest(alloc, instance, &table, most, limit, &Nobody)?;
-    Ok(shown)
-}
-
-/// The greatest length up to `most`, in mm, of which it is shown that no lawful plan is shorter: searches within a growing length, the last of which comes to
-/// an end. Where more than `limit` labels would be looked at in one of them, it is what those before have shown; where there are more fronts than one for each 50,000 of
-/// them, it is 0, which says nothing.
-pub fn longest_shown(
+fn longest_of_all<W: Watch>(
     alloc: Global,
     instance: &Instance,
     most: u64,
     limit: u64,
+    watch: &W,
+) -> Result<u64, Halt>
+    ensures shown { IfOk result (NoCourseShorter instance.now) }
+    ensures most { IfOk result (λ least. least ≤ most) }
+{
+    let table = table_of(alloc, instance, limit, watch)?;
+    let shown = longest(alloc, instance, &table, most, limit, watch)?;
+    Ok(shown)
+}
+
+/// A length up to `most`, in mm, of which it is shown that no lawful plan is shorter, by searches within a growing length, the last of which comes to
+/// an end; that no greater one can be shown is not promised. Where more than `limit` labels would be looked at in one of them, it is what those before have
+/// shown; where there are more fronts than one for each 25,000 of them, it is 0, which says nothing. How far that is, is told to `watch`.
+pub fn longest_shown<W: Watch>(
+    alloc: Global,
+    instance: &Instance,
+    most: u64,
+    limit: u64,
+    watch: &W,
 ) -> Result<u64, Memory>
     ensures shown { IfOk result (LosesAtLeast instance.now) }
     ensures most { IfOk result (λ least. least ≤ most) }
 {
     let _rules = instance.items();
     courses_bound_losses();
-    match longest_of_all(alloc, instance, most, limit) {
+    match longest_of_all(alloc, instance, most, limit, watch) {
         Ok(shown) => Ok(shown),
         Err(Halt::Limit) => Ok(0),
         Err(Halt::Memory) => Err(Memory),

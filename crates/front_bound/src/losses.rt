@@ -7,11 +7,18 @@ ghost use Rattle.cut_model.specs.Loss.{loss_of};
 ghost use Rattle.cut_model.specs.Tree.{Forest};
 
 use crate::bounds::longest_shown;
+use crate::watch::Watch;
 use glass_base::{Instance, Memory};
 use std::alloc::Global;
 
-/// How many labels are looked at in one search; there may be a front for each 50,000 of them. It bounds time, to minutes, and memory, to some gigabytes.
-pub const LABELS: u64 = 1_000_000_000;
+/// How fronts are searched.
+#[derive(Drop)]
+pub struct FrontSearch<'a, W> {
+    /// How many labels are looked at in one search at the most; there may be a front for each 25,000 of them. It bounds time and memory.
+    pub labels: u64,
+    /// Who is told how far it is.
+    pub watch: &'a W,
+}
 
 /// Longer than every plan, in mm.
 pub const LONGEST: u64 = 5_000_000_000;
@@ -34,11 +41,16 @@ fn length_of_loss(instance: &Instance, loss: u64) -> u64
     length.min(LONGEST)
 }
 
-/// The greatest loss up to this one, in mm², of which fronts show that no lawful plan is below it. Where there are too many fronts or labels (`LABELS`), it is what was shown before,
-/// or 0, which says nothing.
+/// A loss up to this one, in mm², of which fronts show that no lawful plan is below it: this one, where they show it. Where more labels would be looked at
+/// than the search may, or there are too many fronts for that, it is what was shown before, or 0, which says nothing.
 ///
 /// Only want of memory is refused.
-pub fn floor_up_to(alloc: Global, instance: &Instance, loss: u64) -> Result<u64, Memory>
+pub fn floor_up_to<W: Watch>(
+    alloc: Global,
+    instance: &Instance,
+    loss: u64,
+    search: &FrontSearch<'_, W>,
+) -> Result<u64, Memory>
     ensures shown { IfOk result (λ floor. (plan : Forest) → IsLawful instance.now plan
         → floor ≤ loss_of instance.now plan) }
     ensures most { IfOk result (λ floor. floor ≤ loss) }
@@ -47,6 +59,6 @@ pub fn floor_up_to(alloc: Global, instance: &Instance, loss: u64) -> Result<u64,
         return Ok(0);
     }
     let most = length_of_loss(instance, loss);
-    let length = longest_shown(alloc, instance, most, LABELS)?;
+    let length = longest_shown(alloc, instance, most, search.labels, search.watch)?;
     Ok(loss_of_length(instance, length).min(loss))
 }

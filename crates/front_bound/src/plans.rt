@@ -158,7 +158,7 @@ fn shown_by_fronts<W: Watch>(
     Ok(Shown { length, plan })
 }
 
-/// The greatest length up to `most`, in mm, of which it is shown that no lawful plan is shorter, as `longest_shown` gives it, and a plan that was looked for along a
+/// A length up to `most`, in mm, of which it is shown that no lawful plan is shorter, as `longest_shown` gives it, and a plan that was looked for along a
 /// shortest course: the trace has a step for each item and meets the rules. That one is found, and that it is so short, is not promised; where there is no defect, it mostly is,
 /// and then no plan loses less. There is none where a strip of the course is found only around defects, or where `limit` is reached; and none
 /// is looked for where `most` itself is shown, since who knows a plan of that length needs no other.

@@ -16,7 +16,7 @@ use Rattle.run_checks.specs.Checks.NotAccepted.{bad_cert, bad_plan, bad_tree, br
 use Rattle.glass_run.specs.Commands.{Answers, AnswersInstance, cert_name}
 use Rattle.command_line.specs.Grammar.{Line, count_in}
 use Rattle.command_line.specs.declared.grammar.Count.TheVariants as count
-use Rattle.glass_run.specs.Headlines.{Accepts, Ended, FindsRight, SaidBy, StoresConverted}
+use Rattle.glass_run.specs.Headlines.{Accepts, Ended, FindsRight, ReadBy, StoresConverted}
 use Rattle.run_frame.specs.Runs.{Completes, Prints, Stands, World}
 use Rattle.run_frame.specs.Texts.{Texts, limit_of, text_for, text_or_empty}
 use Rattle.command_line.specs.declared.grammar.Verb.{Verb}
@@ -25,7 +25,7 @@ use Rattle.run_frame.specs.declared.status.Status.{Status}
 use Rattle.run_frame.specs.declared.status.Status.TheVariants as status
 use Rattle.run_checks.proofs.RaisedBounds.{bounds_behind}
 use Rattle.run_frame.proofs.Stores.{one_stored, unchanged}
-use Rattle.glass_run.proofs.Headlines.{Says, completed_says, if_short, rules_of}
+use Rattle.glass_run.proofs.Headlines.{Says, completed_says, if_short, read_by}
 use Rattle.run_frame.proofs.Statuses.{IsRefused}
 use Rattle.run_plans.proofs.Statuses.{plan_refused}
 use Rattle.run_checks.proofs.Statuses.{cert_refused}
@@ -37,7 +37,7 @@ never_done b plan_text text answer is (bad_cert plan reason said reading h) = su
 never_done b plan_text text answer is (broken_plan plan c broken said unlawful first e) = let wrong = is ∙ ap (λ (a : Answer). a.status) e in cc wrong
 never_done b plan_text text answer is (bad_tree plan c at why said lawful wrong first e) = let wrong = is ∙ ap (λ (a : Answer). a.status) e in cc wrong
 
-finds_right : (line : Line) (held : Contents) (texts : Texts) (b : Problem) (plan : Option Forest) (c : Certificate) → SaidBy line held texts b →
+finds_right : (line : Line) (held : Contents) (texts : Texts) (b : Problem) (plan : Option Forest) (c : Certificate) → ReadBy line held texts b →
     IsAccepted b (text_for texts role.Plan) (text_or_empty texts role.Cert) plan c → FindsRight line held texts b c
 finds_right line held texts b plan c reads accepted = record {
   plan = plan;
@@ -45,10 +45,10 @@ finds_right line held texts b plan c reads accepted = record {
   said = accepted.said;
   lawful = accepted.lawful;
   good = accepted.good;
-  bounds = bounds_each_plan b 0 (loss_in b plan) c (rules_of line.verb line texts b reads.instance_is) accepted.good;
+  bounds = bounds_each_plan b 0 (loss_in b plan) c reads.instance_is.made.rules accepted.good;
 }
 
-accepts : (line : Line) (held : Contents) (old new : World) (answer : Answer) (texts : Texts) (b : Problem) → SaidBy line held texts b → status.Done ≡ answer.status →
+accepts : (line : Line) (held : Contents) (old new : World) (answer : Answer) (texts : Texts) (b : Problem) → ReadBy line held texts b → status.Done ≡ answer.status →
     Verifies b (text_for texts role.Plan) (text_or_empty texts role.Cert) answer → Stands answer.stores old.shelf.contents new.shelf.contents → Prints answer.lines old.paper new.paper → Accepts line held old new
 accepts line held old new answer texts b reads is verifies stored prints =
     elim verifies [
@@ -71,14 +71,14 @@ never_done_behind b k plan_text text answer is (NotAcceptedBehind.broken_plan pl
 never_done_behind b k plan_text text answer is (NotAcceptedBehind.none_left plan c said lawful few e) = let wrong = is ∙ ap (λ (a : Answer). a.status) e in cc wrong
 never_done_behind b k plan_text text answer is (NotAcceptedBehind.bad_tree plan rest c at why said lawful fewer rest_is wrong first e) = let wrong = is ∙ ap (λ (a : Answer). a.status) e in cc wrong
 
-accepts_behind : (k : ℕ) (line : Line) (held : Contents) (old new : World) (answer : Answer) (texts : Texts) (b : Problem) → SaidBy line held texts b → status.Done ≡ answer.status →
+accepts_behind : (k : ℕ) (line : Line) (held : Contents) (old new : World) (answer : Answer) (texts : Texts) (b : Problem) → ReadBy line held texts b → status.Done ≡ answer.status →
     VerifiesBehind b k (text_or_empty texts role.Plan) (text_or_empty texts role.Cert) answer → Stands answer.stores old.shelf.contents new.shelf.contents → Prints answer.lines old.paper new.paper →
     AcceptsBehind k line held old new
 accepts_behind k line held old new answer texts b reads is verifies stored prints =
     elim verifies [
       | inl v ↦
           let right = v.3 in
-          let frozen : IsFrozen b v.0 k v.1 = record { problem = rules_of line.verb line texts b reads.instance_is; lawful = right.lawful; fewer = right.fewer; rest_is = right.rest_is } in
+          let frozen : IsFrozen b v.0 k v.1 = record { problem = reads.instance_is.made.rules; lawful = right.lawful; fewer = right.fewer; rest_is = right.rest_is } in
           record {
             texts = texts;
             b = b;
@@ -94,7 +94,7 @@ accepts_behind k line held old new answer texts b reads is verifies stored print
       | inr other ↦ absurd (never_done_behind b k (text_or_empty texts role.Plan) (text_or_empty texts role.Cert) answer is other)
     ]
 
-accepts_from : (k : ℕ) (line : Line) (held : Contents) (old new : World) (answer : Answer) (texts : Texts) (b : Problem) → SaidBy line held texts b → status.Done ≡ answer.status →
+accepts_from : (k : ℕ) (line : Line) (held : Contents) (old new : World) (answer : Answer) (texts : Texts) (b : Problem) → ReadBy line held texts b → status.Done ≡ answer.status →
     VerifiesFrom k b (text_for texts role.Plan) (text_or_empty texts role.Cert) answer → Stands answer.stores old.shelf.contents new.shelf.contents → Prints answer.lines old.paper new.paper → AcceptsFrom k line held old new
 accepts_from zero line held old new answer texts b reads is verifies stored prints = accepts line held old new answer texts b reads is verifies stored prints
 accepts_from (suc k) line held old new answer texts b reads is verifies stored prints = accepts_behind (suc k) line held old new answer texts b reads is verifies stored prints
@@ -115,7 +115,7 @@ converts line held old new answer of is s stored prints =
             b = s.b;
             certificate = v.1;
             converted = v.2;
-            right = finds_right line held s.texts s.b v.0 v.1 s.reads v.3;
+            right = finds_right line held s.texts s.b v.0 v.1 (read_by verb.Convert line held s.texts s.b tt of s.reads) v.3;
             names = v.4;
             readable = kept.0;
             stored = one_stored (record { name = cert_name line; bytes = cert_text v.2 }) old.shelf.contents new.shelf.contents (subst (λ (a : Answer). Stands a.stores old.shelf.contents new.shelf.contents) kept.1 stored);
@@ -130,7 +130,7 @@ done_check words line held old new e =
     let s = completed_says line held old new status.Done e.told (λ h. h) c in
     let verifies : VerifiesFrom (count_in line count.Frozen) s.b (text_for s.texts role.Plan) (text_or_empty s.texts role.Cert) c.answer =
     subst (λ (v : Verb). AnswersInstance v line s.texts s.b c.answer) e.verb_is s.answers in
-    accepts_from (count_in line count.Frozen) line held old new c.answer s.texts s.b s.reads c.status_is verifies c.stored c.prints
+    accepts_from (count_in line count.Frozen) line held old new c.answer s.texts s.b (read_by verb.Verify line held s.texts s.b tt e.verb_is s.reads) c.status_is verifies c.stored c.prints
 
 pub done_conversion : (words : List (List ℕ)) (line : Line) (held : Contents) (old new : World) → Ended words verb.Convert line held old new status.Done → StoresConverted line held old new
 done_conversion words line held old new e =

@@ -19,7 +19,7 @@ use Rattle.glass_run.specs.Commands.{Answers, AnswersInstance, cert_name, plan_n
 use Rattle.command_line.specs.Grammar.{Line, count_in}
 use Rattle.command_line.specs.declared.grammar.Count.TheVariants as count
 use Rattle.run_plans.specs.Judgements.{IsFirstBroken, unlawful as unlawful_of}
-use Rattle.glass_run.specs.Headlines.{Ended, FindsUnlawful, FindsWrong, IsCheck, IsJudging, SaidBy}
+use Rattle.glass_run.specs.Headlines.{Ended, FindsUnlawful, FindsWrong, IsCheck, IsJudging, ReadBy}
 use Rattle.run_search.specs.Plans.{planned}
 use Rattle.run_search.specs.Resumptions.{GoesOn, GoesOnWithin, Resumes, too_long_to_read}
 use Rattle.run_frame.specs.Runs.{Completes, Prints, Stands, World}
@@ -31,14 +31,14 @@ use Rattle.run_frame.specs.declared.status.Status.{Status}
 use Rattle.run_frame.specs.declared.status.Status.TheVariants as status
 use Rattle.glass_run.proofs.FreezeHeadline.{unlawful_freeze}
 use Rattle.run_frame.proofs.Stores.{unchanged}
-use Rattle.glass_run.proofs.Headlines.{Says, completed_says, neither, unlawful_judgement}
+use Rattle.glass_run.proofs.Headlines.{ReadsInstance, Says, completed_says, neither, read_by, unlawful_judgement}
 use Rattle.glass_run.proofs.SheetHeadline.{unlawful_sheet}
 use Rattle.run_frame.proofs.Statuses.{IsRefused}
 use Rattle.run_plans.proofs.Statuses.{plan_refused}
 use Rattle.run_checks.proofs.Statuses.{cert_refused}
 
 -- an answer whose status is `Refused` tells the first check that a certificate fails
-wrong_tree : (line : Line) (held : Contents) (old new : World) (answer : Answer) (texts : Texts) (b : Problem) → SaidBy line held texts b → status.Refused ≡ answer.status →
+wrong_tree : (line : Line) (held : Contents) (old new : World) (answer : Answer) (texts : Texts) (b : Problem) → ReadBy line held texts b → status.Refused ≡ answer.status →
     NotAccepted b (text_for texts role.Plan) (text_or_empty texts role.Cert) answer →
     Stands answer.stores old.shelf.contents new.shelf.contents → Prints answer.lines old.paper new.paper → FindsWrong line held old new
 wrong_tree line held old new answer texts b reads is (bad_plan reason refused h) stored prints = absurd (subst IsRefused (sym is) (plan_refused reason answer h))
@@ -66,7 +66,7 @@ SaysRefused status.Refused = Unit {0}
 SaysRefused _ = ⊥
 
 -- so where some plates are cut already
-wrong_tree_behind : (k : ℕ) (line : Line) (held : Contents) (old new : World) (answer : Answer) (texts : Texts) (b : Problem) → SaidBy line held texts b → status.Refused ≡ answer.status →
+wrong_tree_behind : (k : ℕ) (line : Line) (held : Contents) (old new : World) (answer : Answer) (texts : Texts) (b : Problem) → ReadBy line held texts b → status.Refused ≡ answer.status →
     NotAcceptedBehind b k (text_or_empty texts role.Plan) (text_or_empty texts role.Cert) answer →
     Stands answer.stores old.shelf.contents new.shelf.contents → Prints answer.lines old.paper new.paper → FindsWrongBehind k line held old new
 wrong_tree_behind k line held old new answer texts b reads is (NotAcceptedBehind.bad_plan reason refused h) stored prints = absurd (subst IsRefused (sym is) (plan_refused reason answer h))
@@ -97,7 +97,7 @@ abbrev NotAcceptedFrom : ℕ → Problem → Texts → Answer → Type 0
 NotAcceptedFrom zero b texts answer = NotAccepted b (text_for texts role.Plan) (text_or_empty texts role.Cert) answer
 NotAcceptedFrom (suc k) b texts answer = NotAcceptedBehind b (suc k) (text_or_empty texts role.Plan) (text_or_empty texts role.Cert) answer
 
-wrong_tree_from : (k : ℕ) (line : Line) (held : Contents) (old new : World) (answer : Answer) (texts : Texts) (b : Problem) → SaidBy line held texts b → status.Refused ≡ answer.status → NotAcceptedFrom k b texts answer →
+wrong_tree_from : (k : ℕ) (line : Line) (held : Contents) (old new : World) (answer : Answer) (texts : Texts) (b : Problem) → ReadBy line held texts b → status.Refused ≡ answer.status → NotAcceptedFrom k b texts answer →
     Stands answer.stores old.shelf.contents new.shelf.contents → Prints answer.lines old.paper new.paper → FindsWrongFrom k line held old new
 wrong_tree_from zero line held old new answer texts b reads is other stored prints = wrong_tree line held old new answer texts b reads is other stored prints
 wrong_tree_from (suc k) line held old new answer texts b reads is other stored prints = wrong_tree_behind (suc k) line held old new answer texts b reads is other stored prints
@@ -137,7 +137,7 @@ broken_from : (k : ℕ) (b : Problem) (texts : Texts) (answer : Answer) → stat
 broken_from zero b texts answer is other = broken b (text_for texts role.Plan) (text_or_empty texts role.Cert) answer is other
 broken_from (suc k) b texts answer is other = broken_behind b (suc k) (text_for texts role.Plan) (text_or_empty texts role.Cert) answer is other
 
-finds_unlawful : (line : Line) (held : Contents) (old new : World) (answer : Answer) (texts : Texts) (b : Problem) → SaidBy line held texts b → IsBroken b (text_for texts role.Plan) answer →
+finds_unlawful : (line : Line) (held : Contents) (old new : World) (answer : Answer) (texts : Texts) (b : Problem) → ReadBy line held texts b → IsBroken b (text_for texts role.Plan) answer →
     Stands answer.stores old.shelf.contents new.shelf.contents → Prints answer.lines old.paper new.paper → FindsUnlawful line held old new
 finds_unlawful line held old new answer texts b reads k stored prints = record {
   texts = texts;
@@ -176,6 +176,19 @@ no_refusal b budget plan c out new answer is within =
       | inl g ↦ goes_well b budget plan c out new answer is g.1
       | inr much ↦ subst (λ (a : Answer). IsRefusal a.status) much.1 is
     ]
+
+check_reads : (check : Verb) → IsCheck check → ReadsInstance check
+check_reads verb.Draft is = absurd is
+check_reads verb.Plan is = absurd is
+check_reads verb.Gen is = absurd is
+check_reads verb.Judge is = absurd is
+check_reads verb.Verify is = tt
+check_reads verb.Convert is = tt
+check_reads verb.Resume is = tt
+check_reads verb.Freeze is = absurd is
+check_reads verb.Sheet is = absurd is
+check_reads verb.Replay is = absurd is
+check_reads verb.Picture is = absurd is
 
 -- an answer of a check that refuses a plan or a certificate is one to what is not accepted
 not_done : (check : Verb) (line : Line) (held : Contents) (answer : Answer) → IsCheck check → line.verb ≡ check → IsRefusal answer.status → (s : Says line held answer) →
@@ -219,7 +232,7 @@ pub refused_check : (words : List (List ℕ)) (line : Line) (held : Contents) (o
 refused_check words line held old new check is e =
     let c : Completes Answers line old new status.Refused = e.runs in
     let s = completed_says line held old new status.Refused e.told (λ h. h) c in
-    wrong_tree_from (cut_already check line) line held old new c.answer s.texts s.b s.reads c.status_is
+    wrong_tree_from (cut_already check line) line held old new c.answer s.texts s.b (read_by check line held s.texts s.b (check_reads check is) e.verb_is s.reads) c.status_is
     (not_done check line held c.answer is e.verb_is (subst IsRefusal c.status_is tt) s) c.stored c.prints
 
 unlawful_check : (words : List (List ℕ)) (line : Line) (held : Contents) (old new : World) (check : Verb) → IsCheck check → Ended words check line held old new status.Unlawful → FindsUnlawful line held old new
@@ -227,7 +240,7 @@ unlawful_check words line held old new check is e =
     let c : Completes Answers line old new status.Unlawful = e.runs in
     let s = completed_says line held old new status.Unlawful e.told (λ h. h) c in
     let other = not_done check line held c.answer is e.verb_is (subst IsRefusal c.status_is tt) s in
-    finds_unlawful line held old new c.answer s.texts s.b s.reads (broken_from (cut_already check line) s.b s.texts c.answer c.status_is other) c.stored c.prints
+    finds_unlawful line held old new c.answer s.texts s.b (read_by check line held s.texts s.b (check_reads check is) e.verb_is s.reads) (broken_from (cut_already check line) s.b s.texts c.answer c.status_is other) c.stored c.prints
 
 pub judged_unlawful_by : (words : List (List ℕ)) (line : Line) (held : Contents) (old new : World) (judging : Verb) → IsJudging judging → Ended words judging line held old new status.Unlawful → FindsUnlawful line held old new
 judged_unlawful_by words line held old new verb.Draft is e = absurd is

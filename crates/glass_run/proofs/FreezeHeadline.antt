@@ -38,7 +38,7 @@ use Rattle.run_frame.specs.declared.status.Status.TheVariants as status
 use Rattle.run_checks.proofs.RaisedBounds.{bounds_behind}
 use Rattle.run_search.proofs.FrozenTexts.{right_behind, same_loss}
 use Rattle.run_frame.proofs.Stores.{unchanged}
-use Rattle.glass_run.proofs.Headlines.{Says, completed_says, if_short, neither, rules_of}
+use Rattle.glass_run.proofs.Headlines.{Says, completed_says, if_short, neither, read_by, rules_of}
 use Rattle.glass_run.proofs.SearchHeadline.{accepts, bound_exact, completes, left_stopped, stopped_left}
 use Rattle.run_frame.proofs.SmallTexts.{text_short}
 use Rattle.run_frame.proofs.Statuses.{IsRefused}
@@ -102,7 +102,7 @@ stores_freeze line held old new answer result of end is s stored prints =
             rest = f.rest;
             tail = f.tail;
             certificate = c;
-            reads = s.reads;
+            reads = read_by verb.Freeze line held s.texts b tt of s.reads;
             said = said.1;
             lawful = f.lawful;
             fewer = f.fewer;
@@ -157,26 +157,26 @@ differ : status.Unlawful ≢ status.BadInput
 differ e = cc e
 
 -- an answer whose status is `Unlawful` tells the first breach of the plan that PLAN says
-said_broken : (line : Line) (held : Contents) (old new : World) (answer : Answer) (s : Says line held answer) (k budget : ℕ) (said : Result Forest BadPlan) (out cert : List ℕ) → plan_said s.b (text_or_empty s.texts role.Plan) ≡ said →
+said_broken : (line : Line) (held : Contents) (old new : World) (answer : Answer) → line.verb ≡ verb.Freeze → (s : Says line held answer) (k budget : ℕ) (said : Result Forest BadPlan) (out cert : List ℕ) → plan_said s.b (text_or_empty s.texts role.Plan) ≡ said →
     status.Unlawful ≡ answer.status → FreezesSaid s.b k budget said out cert answer → Stands answer.stores old.shelf.contents new.shelf.contents → Prints answer.lines old.paper new.paper → FindsUnlawful line held old new
-said_broken line held old new answer s k budget (Ok plan) out cert says is (broken_plan broken wrong first e) stored prints = record {
+said_broken line held old new answer of s k budget (Ok plan) out cert says is (broken_plan broken wrong first e) stored prints = record {
   texts = s.texts;
   b = s.b;
   plan = plan;
   broken = broken;
-  reads = s.reads;
+  reads = read_by verb.Freeze line held s.texts s.b tt of s.reads;
   said = says;
   unlawful = wrong;
   first = first;
   unchanged = unchanged old.shelf.contents new.shelf.contents (subst (λ (a : Answer). Stands a.stores old.shelf.contents new.shelf.contents) e stored);
   prints = subst (λ (a : Answer). Prints a.lines old.paper new.paper) e prints;
 }
-said_broken line held old new answer s k budget (Ok plan) out cert says is (none_left lawful le e) stored prints = absurd (differ (is ∙ ap status_of e))
-said_broken line held old new answer s k budget (Ok plan) out cert says is (planned_anew f) stored prints =
+said_broken line held old new answer of s k budget (Ok plan) out cert says is (none_left lawful le e) stored prints = absurd (differ (is ∙ ap status_of e))
+said_broken line held old new answer of s k budget (Ok plan) out cert says is (planned_anew f) stored prints =
     let whole : Forest = joined (first_plates k plan) f.tail in
     absurd (neither (λ (of : Status). status.Unlawful ≡ of) (nat_le (length (solution_text s.b whole)) (limit_of role.Plan)) (frozen_planned s.b out cert (frozen_loss s.b plan k) f.certificate whole)
     (too_long_to_store role.Plan (solution_text s.b whole)) (λ e. ends_no_other_way (f.certificate.left == 0) (is_some f.certificate.loss) (sym e)) differ (is ∙ ap status_of f.answer_is))
-said_broken line held old new answer s k budget (Err reason) out cert says is refused stored prints = absurd (subst IsRefused (sym is) (plan_refused reason answer refused))
+said_broken line held old new answer of s k budget (Err reason) out cert says is refused stored prints = absurd (subst IsRefused (sym is) (plan_refused reason answer refused))
 
 pub unlawful_freeze : (words : List (List ℕ)) (line : Line) (held : Contents) (old new : World) → Ended words verb.Freeze line held old new status.Unlawful → FindsUnlawful line held old new
 unlawful_freeze words line held old new e =
@@ -185,6 +185,6 @@ unlawful_freeze words line held old new e =
     let within : FreezesWithin s.b (frozen_in line) (count_in line count.Budget) (text_or_empty s.texts role.Plan) (plan_name line) (cert_name line) c.answer =
     subst (λ (v : Verb). AnswersInstance v line s.texts s.b c.answer) e.verb_is s.answers in
     elim within [
-      | inl w ↦ said_broken line held old new c.answer s (frozen_in line) (count_in line count.Budget) (plan_said s.b (text_or_empty s.texts role.Plan)) (plan_name line) (cert_name line) refl c.status_is w.1 c.stored c.prints
+      | inl w ↦ said_broken line held old new c.answer e.verb_is s (frozen_in line) (count_in line count.Budget) (plan_said s.b (text_or_empty s.texts role.Plan)) (plan_name line) (cert_name line) refl c.status_is w.1 c.stored c.prints
       | inr refused ↦ absurd (differ (c.status_is ∙ ap status_of refused.1))
     ]

@@ -12,11 +12,12 @@ use Rattle.plan_csv.specs.declared.bad_plan.BadPlan.{BadPlan}
 use Rattle.run_frame.specs.Answers.{Answer}
 use Rattle.glass_run.specs.Commands.{Answers, AnswersInstance, AnswersTexts, HasInstance, plan_name}
 use Rattle.run_plans.specs.Drafts.{Drafts}
+use Rattle.run_plans.specs.Instances.{IsInstanceOf}
 use Rattle.command_line.specs.Grammar.{Line, files_of}
-use Rattle.glass_run.specs.Headlines.{Ended, FindsLawful, FindsNoDraft, FindsUnlawful, SaidBy, StoresLawfulPlan}
+use Rattle.glass_run.specs.Headlines.{Ended, FindsLawful, FindsNoDraft, FindsUnlawful, ReadBy, SaidBy, StoresLawfulPlan}
 use Rattle.run_plans.specs.Judgements.{Judges, JudgesSaid}
 use Rattle.run_frame.specs.Runs.{AnswersTold, Completes, Prints, Stands, World}
-use Rattle.run_frame.specs.Texts.{AnswersFetched, Texts, text_or_empty, texts_of}
+use Rattle.run_frame.specs.Texts.{AnswersFetched, Texts, text_for, text_or_empty, texts_of}
 use Rattle.command_line.specs.declared.grammar.Verb.{Verb}
 use Rattle.command_line.specs.declared.grammar.Verb.TheVariants as verb
 use Rattle.run_frame.specs.declared.status.Status.{Status}
@@ -39,6 +40,32 @@ rules_of verb.Freeze line texts b h = h.made.rules
 rules_of verb.Sheet line texts b h = h.made.rules
 rules_of verb.Replay line texts b h = h.made.rules
 rules_of verb.Picture line texts b h = h.made.rules
+
+-- the commands whose files say an instance, the defects among them
+abbrev pub ReadsInstance : Verb → Type 0
+ReadsInstance verb.Draft = ⊥
+ReadsInstance verb.Gen = ⊥
+ReadsInstance _ = Unit {0}
+
+instance_read : (of : Verb) (line : Line) (texts : Texts) (b : Problem) → ReadsInstance of → HasInstance of line texts b → IsInstanceOf texts (text_for texts role.Defects) b
+instance_read verb.Draft line texts b reads h = absurd reads
+instance_read verb.Plan line texts b reads h = h
+instance_read verb.Gen line texts b reads h = absurd reads
+instance_read verb.Judge line texts b reads h = h
+instance_read verb.Verify line texts b reads h = h
+instance_read verb.Convert line texts b reads h = h
+instance_read verb.Resume line texts b reads h = h
+instance_read verb.Freeze line texts b reads h = h
+instance_read verb.Sheet line texts b reads h = h
+instance_read verb.Replay line texts b reads h = h
+instance_read verb.Picture line texts b reads h = h
+
+pub read_by : (of : Verb) (line : Line) (held : Contents) (texts : Texts) (b : Problem) → ReadsInstance of → line.verb ≡ of → SaidBy line held texts b → ReadBy line held texts b
+read_by of line held texts b reads is said = record { texts_are = said.texts_are; instance_is = instance_read of line texts b reads (subst (λ (v : Verb). HasInstance v line texts b) is said.instance_is) }
+
+-- and what the files say is the instance of a line that goes on from a certificate
+pub said_by : (line : Line) (held : Contents) (texts : Texts) (b : Problem) → line.verb ≡ verb.Resume → ReadBy line held texts b → SaidBy line held texts b
+said_by line held texts b is read = record { texts_are = read.texts_are; instance_is = subst (λ (v : Verb). HasInstance v line texts b) (sym is) read.instance_is }
 
 -- an answer to an instance that the files say
 pub record Says (line : Line) (held : Contents) (answer : Answer) : Type 0 where
@@ -127,14 +154,14 @@ record SaysPlan (line : Line) (held : Contents) (answer : Answer) : Type 0 where
   pub texts : Texts
   pub b : Problem
   plan : Forest
-  pub reads : SaidBy line held texts b
+  pub reads : ReadBy line held texts b
   said : plan_said b (text_or_empty texts role.Plan) ≡ Ok plan
   judges : Judges b plan answer
 
 judge_says : (line : Line) (held : Contents) (answer : Answer) → line.verb ≡ verb.Judge → ¬ Refuses answer → Says line held answer → SaysPlan line held answer
 judge_says line held answer of accepts s =
     let judged = said_judged s.b (plan_said s.b (text_or_empty s.texts role.Plan)) answer accepts (subst (λ (v : Verb). AnswersInstance v line s.texts s.b answer) of s.answers) in
-    record { texts = s.texts; b = s.b; plan = judged.0; reads = s.reads; said = judged.1; judges = judged.2 }
+    record { texts = s.texts; b = s.b; plan = judged.0; reads = read_by verb.Judge line held s.texts s.b tt of s.reads; said = judged.1; judges = judged.2 }
 
 -- the answer to a plan whose status is `Done` says that it is lawful
 judged_lawful : (line : Line) (held : Contents) (old new : World) (answer : Answer) → status.Done ≡ answer.status → SaysPlan line held answer →

@@ -21,7 +21,7 @@ use Rattle.run_search.specs.Resumptions.{GoesOn, GoesOnWithin, Resumes, too_long
 use Rattle.run_frame.specs.Runs.{Prints, Stands, World}
 use Rattle.run_frame.specs.Texts.{limit_of, text_for, text_or_empty}
 use Rattle.run_frame.specs.declared.status.Status.{Status}
-use Rattle.glass_run.proofs.Headlines.{Says, completed_says, if_short, rules_of}
+use Rattle.glass_run.proofs.Headlines.{Says, completed_says, if_short, read_by, rules_of}
 use Rattle.glass_run.proofs.SearchHeadline.{accepts, bound_exact, completes, left_stopped, stopped_left}
 use Rattle.run_plans.proofs.Statuses.{plan_refused}
 use Rattle.run_checks.proofs.Statuses.{cert_refused}
@@ -40,10 +40,10 @@ is_stored : (b : Problem) (budget : ℕ) (plan : Option Forest) (c : Certificate
 is_stored b budget plan c out new answer end g =
     if_short IsSearchEnd (cert_text g.certificate) (limit_of role.Cert) (planned b out new g.certificate g.best None) (too_long_to_read g.certificate) answer end (λ h. h) g.answer_is
 
-stores_more : (line : Line) (held : Contents) (old new : World) (answer : Answer) (result : Status) (s : Says line held answer) (plan : Option Forest) (c : Certificate) →
+stores_more : (line : Line) (held : Contents) (old new : World) (answer : Answer) (result : Status) → line.verb ≡ verb.Resume → (s : Says line held answer) (plan : Option Forest) (c : Certificate) →
     IsAccepted s.b (text_for s.texts role.Plan) (text_or_empty s.texts role.Cert) plan c → GoesOn s.b (count_in line count.Budget) plan c (plan_name line) (cert_name line) answer → IsSearchEnd answer.status → result ≡ answer.status →
     Stands answer.stores old.shelf.contents new.shelf.contents → Prints answer.lines old.paper new.paper → StoresResumed line held old new result × HandlesOpenBoxes line held old new
-stores_more line held old new answer result s plan c right g end is stored prints =
+stores_more line held old new answer result of s plan c right g end is stored prints =
     let j = g.certificate in
     let kept = is_stored s.b (count_in line count.Budget) plan c (plan_name line) (cert_name line) answer end g in
     let ended : result ≡ ending j = is ∙ ap (λ (a : Answer). a.status) kept.1 in
@@ -54,7 +54,7 @@ stores_more line held old new answer result s plan c right g end is stored print
       certificate = c;
       right = record {
         plan = plan;
-        reads = s.reads;
+        reads = read_by verb.Resume line held s.texts s.b tt of s.reads;
         said = right.said;
         lawful = right.lawful;
         good = right.good;
@@ -75,7 +75,7 @@ stores_more line held old new answer result s plan c right g end is stored print
         spent = λ e. made.spent (stopped_left j (sym ended ∙ e));
         exact = λ ne. bound_exact s.b (root_ranges s.b) j.loss j made.good (λ some. ne (ended ∙ left_stopped j some));
       },
-      record { found = stores; resumed = g.resumed },
+      record { found = stores; grown = made.grown; handles = g.resumed.handles },
     )
 
 stores_resumed : (line : Line) (held : Contents) (old new : World) (answer : Answer) (result : Status) → line.verb ≡ verb.Resume → IsSearchEnd result → result ≡ answer.status → Says line held answer →
@@ -87,7 +87,7 @@ stores_resumed line held old new answer result of end is s stored prints =
       | inl v ↦
           let within : GoesOnWithin s.b budget v.0 v.1 (plan_name line) (cert_name line) answer = v.3 in
           elim within [
-            | inl g ↦ stores_more line held old new answer result s v.0 v.1 v.2 g.1 (subst IsSearchEnd is end) is stored prints
+            | inl g ↦ stores_more line held old new answer result of s v.0 v.1 v.2 g.1 (subst IsSearchEnd is end) is stored prints
             | inr much ↦ absurd (subst IsSearchEnd (is ∙ ap (λ (a : Answer). a.status) much.1) end)
           ]
       | inr other ↦ absurd (never_ended s.b (text_for s.texts role.Plan) (text_or_empty s.texts role.Cert) answer (subst IsSearchEnd is end) other)

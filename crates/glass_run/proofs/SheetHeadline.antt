@@ -35,7 +35,7 @@ use Rattle.run_plans.specs.Sheets.{Sheets, SheetsSaid, SheetsText}
 use Rattle.run_frame.specs.Texts.{text_or_empty}
 use Rattle.run_frame.specs.declared.status.Status.TheVariants as status
 use Rattle.run_frame.proofs.Stores.{one_stored, unchanged}
-use Rattle.glass_run.proofs.Headlines.{Says, completed_says, rules_of}
+use Rattle.glass_run.proofs.Headlines.{Says, completed_says, read_by, rules_of}
 use Rattle.run_frame.proofs.Statuses.{IsRefused, Refuses}
 use Rattle.run_plans.proofs.Statuses.{plan_refused}
 use Rattle.glass_base.specs.declared.limits.TheConstants.{MOST_PLATES}
@@ -75,7 +75,7 @@ stores_sheet line held old new answer of is s stored prints =
             b = s.b;
             plan = plan;
             sheet = sheet_in plan;
-            reads = s.reads;
+            reads = read_by verb.Sheet line held s.texts s.b tt of s.reads;
             said = said.1;
             lawful = l.0;
             stored = one_stored (record { name = stored_as line product.Sheet; bytes = sheet_text (sheet_in plan) }) old.shelf.contents new.shelf.contents (subst (λ (a : Answer). Stands a.stores old.shelf.contents new.shelf.contents) l.1 stored);
@@ -100,7 +100,7 @@ finds_broken line held old new answer of is s stored prints =
         b = s.b;
         plan = said.0;
         broken = j.0;
-        reads = s.reads;
+        reads = read_by verb.Sheet line held s.texts s.b tt of s.reads;
         said = said.1;
         unlawful = j.1;
         first = j.2;
@@ -137,7 +137,7 @@ follows_sheet line held old new answer of is s stored prints =
             b = s.b;
             sheet = read.0;
             made = k.made;
-            reads = s.reads;
+            reads = read_by verb.Replay line held s.texts s.b tt of s.reads;
             said = read.1;
             makes = k.makes;
             whole = sheet_balanced s.b read.0 k.made k.makes;

@@ -25,7 +25,7 @@ use Rattle.glass_io.specs.Told.{SameContents}
 use Rattle.run_checks.specs.Checks.{bound_line, refused_line, root_ranges}
 use Rattle.glass_run.specs.Commands.{cert_name, plan_name}
 use Rattle.run_checks.specs.FrozenChecks.{IsAcceptedBehind, loss_behind, raised}
-use Rattle.glass_run.specs.Headlines.{Accepts, FindsWrong, SaidBy}
+use Rattle.glass_run.specs.Headlines.{Accepts, FindsWrong, ReadBy}
 use Rattle.run_checks.specs.Said.{SayBoth}
 use Rattle.run_search.specs.Plans.{AreReadable, IsOfSearch, both_stores, handled, search_summary}
 use Rattle.run_frame.specs.Runs.{Prints, Stands, World}
@@ -50,7 +50,7 @@ pub record StoresWhole (line : Line) (held : Contents) (old new : World) : Type 
   pub rest : Problem
   pub tail : Forest
   pub certificate : Certificate
-  pub reads : SaidBy line held texts b
+  pub reads : ReadBy line held texts b
   pub said : plan_said b (text_or_empty texts role.Plan) ≡ Ok plan
   pub lawful : IsLawful b plan
   pub fewer : frozen_in line < neighbour_count plan
@@ -106,7 +106,7 @@ pub record AcceptsBehind (k : ℕ) (line : Line) (held : Contents) (old new : Wo
   pub plan : Forest
   pub rest : Problem
   pub certificate : Certificate
-  pub reads : SaidBy line held texts b
+  pub reads : ReadBy line held texts b
   pub right : IsAcceptedBehind b k (text_or_empty texts role.Plan) (text_or_empty texts role.Cert) plan rest certificate
   pub bounds : (other : Forest) → BeginsWith k plan other → IsLawful b other → Reaches (option_map (λ n. frozen_loss b plan k + n) certificate.bound) (loss_of b other)
   pub unchanged : SameContents old.shelf.contents new.shelf.contents
@@ -127,7 +127,7 @@ pub record FindsWrongBehind (k : ℕ) (line : Line) (held : Contents) (old new :
   pub certificate : Certificate
   pub at : ℕ
   pub why : Why
-  pub reads : SaidBy line held texts b
+  pub reads : ReadBy line held texts b
   pub said : SayBoth b (Some (text_or_empty texts role.Plan)) (text_or_empty texts role.Cert) (Some plan) certificate
   pub lawful : IsLawful b plan
   pub fewer : k < neighbour_count plan

@@ -22,10 +22,11 @@ use Rattle.plan_csv.specs.Solutions.{solution_text}
 use Rattle.run_checks.specs.Checks.{IsAccepted, IsConverted, IsLawfulToo, bound_line, loss_in, refused_line, root_ranges}
 use Rattle.glass_run.specs.Commands.{Answers, HasInstance, cert_name, plan_name}
 use Rattle.run_plans.specs.Drafts.{no_draft_line, summary}
+use Rattle.run_plans.specs.Instances.{IsInstanceOf}
 use Rattle.command_line.specs.Grammar.{Line, count_in, files_of, flag_in, line_of}
 use Rattle.run_plans.specs.Judgements.{IsFirstBroken, lawful_line, unlawful_line}
 use Rattle.run_search.specs.Plans.{AreReadable, AreTold, HasLoss, IsOfSearch, both_stores, ending, handled, search_lines, search_summary}
-use Rattle.run_search.specs.Resumptions.{IsResumed, ResumesEachBox}
+use Rattle.run_search.specs.Resumptions.{HandlesOpen, IsGrown, IsResumed}
 use Rattle.run_frame.specs.Runs.{LineRun, Prints, Stands, World}
 use Rattle.run_checks.specs.Said.{SayBoth}
 use Rattle.run_frame.specs.Texts.{Texts, limit_of, text_for, text_or_empty, texts_of}
@@ -47,6 +48,11 @@ pub record Ended (words : List (List ℕ)) (verb : Verb) (line : Line) (held : C
 pub record SaidBy (line : Line) (held : Contents) (texts : Texts) (b : Problem) : Type 0 where
   pub texts_are : texts_of held (files_of line) ≡ Ok texts
   pub instance_is : HasInstance line.verb line texts b
+
+-- the texts of the files of a line say this instance, the defects among them
+pub record ReadBy (line : Line) (held : Contents) (texts : Texts) (b : Problem) : Type 0 where
+  pub texts_are : texts_of held (files_of line) ≡ Ok texts
+  pub instance_is : IsInstanceOf texts (text_for texts role.Defects) b
 
 -- OUT holds the text of a lawful plan of the instance, and its loss and its number of plates are printed
 pub record StoresLawfulPlan (line : Line) (held : Contents) (old new : World) : Type 0 where
@@ -73,7 +79,7 @@ pub record FindsLawful (line : Line) (held : Contents) (old new : World) : Type 
   pub texts : Texts
   pub b : Problem
   pub plan : Forest
-  pub reads : SaidBy line held texts b
+  pub reads : ReadBy line held texts b
   pub said : plan_said b (text_or_empty texts role.Plan) ≡ Ok plan
   pub lawful : IsLawful b plan
   pub unchanged : SameContents old.shelf.contents new.shelf.contents
@@ -85,7 +91,7 @@ pub record FindsUnlawful (line : Line) (held : Contents) (old new : World) : Typ
   pub b : Problem
   pub plan : Forest
   pub broken : Broken
-  pub reads : SaidBy line held texts b
+  pub reads : ReadBy line held texts b
   pub said : plan_said b (text_or_empty texts role.Plan) ≡ Ok plan
   pub unlawful : ¬ IsLawful b plan
   pub first : IsFirstBroken b plan broken
@@ -181,7 +187,7 @@ pub record HandlesEachBox (line : Line) (held : Contents) (old new : World) : Ty
 -- loss; so every lawful plan loses at least its bound, and where it has none, there is no lawful plan
 pub record FindsRight (line : Line) (held : Contents) (texts : Texts) (b : Problem) (certificate : Certificate) : Type 0 where
   pub plan : Option Forest
-  pub reads : SaidBy line held texts b
+  pub reads : ReadBy line held texts b
   pub said : SayBoth b (text_for texts role.Plan) (text_or_empty texts role.Cert) plan certificate
   pub lawful : IsLawfulToo b plan
   pub good : IsGood b (root_ranges b) (loss_in b plan) certificate
@@ -244,7 +250,8 @@ pub record StoresResumed (line : Line) (held : Contents) (old new : World) (resu
 pub record HandlesOpenBoxes (line : Line) (held : Contents) (old new : World) : Type 0 where
   pub found : StoresJoined line held old new
   pub open found use *
-  pub resumed : ResumesEachBox b (count_in line count.Budget) right.plan certificate joined plan
+  pub grown : IsGrown b certificate joined
+  pub handles : HandlesOpen b (count_in line count.Budget) right.plan certificate joined grown
 
 -- the plan that PLAN says is lawful, if there is one, and the certificate that CERT says is not right for the box of all plans and for this
 -- plan's loss, or its floor is not shown; the first check that it fails is printed
@@ -255,7 +262,7 @@ pub record FindsWrong (line : Line) (held : Contents) (old new : World) : Type 0
   pub certificate : Certificate
   pub at : ℕ
   pub why : Why
-  pub reads : SaidBy line held texts b
+  pub reads : ReadBy line held texts b
   pub said : SayBoth b (text_for texts role.Plan) (text_or_empty texts role.Cert) plan certificate
   pub lawful : IsLawfulToo b plan
   pub wrong : SaysWrong b (root_ranges b) (loss_in b plan) certificate why

@@ -18,7 +18,7 @@ use Rattle.command_line.specs.declared.grammar.Product.TheVariants as product
 use Rattle.command_line.specs.Grammar.{stored_as, Line}
 use Rattle.run_frame.specs.Answers.{Answer}
 use Rattle.glass_run.specs.Commands.{}
-use Rattle.glass_run.specs.Headlines.{SaidBy}
+use Rattle.glass_run.specs.Headlines.{ReadBy}
 use Rattle.run_plans.specs.Replays.{ReplaysText, followed, replay_line}
 use Rattle.run_frame.specs.Runs.{Prints, World}
 use Rattle.run_plans.specs.Sheets.{instructions_line}
@@ -30,7 +30,7 @@ pub record StoresSheet (line : Line) (held : Contents) (old new : World) : Type 
   pub b : Problem
   pub plan : Forest
   pub sheet : List Instr
-  pub reads : SaidBy line held texts b
+  pub reads : ReadBy line held texts b
   pub said : plan_said b (text_or_empty texts role.Plan) ≡ Ok plan
   pub lawful : IsLawful b plan
   pub stored : Stored (stored_as line product.Sheet) (sheet_text sheet) old.shelf.contents new.shelf.contents
@@ -48,7 +48,7 @@ pub record FollowsSheet (line : Line) (held : Contents) (old new : World) : Type
   pub b : Problem
   pub sheet : List Instr
   pub made : List Made
-  pub reads : SaidBy line held texts b
+  pub reads : ReadBy line held texts b
   pub said : IsText (text_or_empty texts role.Sheet) sheet
   pub makes : replayed b sheet ≡ Ok made
   pub whole : MakesUp b made

@@ -8,12 +8,15 @@ ghost use Rattle.glass_run.specs.Commands.{AnswersInstance, HasInstance, HasNoIn
 ghost use Rattle.glass_run.specs.inner.Asked.{IsAsked, MaySearch};
 ghost use Rattle.run_frame.specs.Forms.{OnTold, answer_in, texts_in};
 
+use box_workers::Gate;
 use command_line::{CommandLine, Count, Lead, Verb};
+use front_bound::losses::FrontSearch;
 use glass_base::{Instance, Memory, Role, Run};
 use glass_gen::generate;
 use run_checks::{convert_texts, verify_from};
 use run_frame::{Reply, Stop, Text, reply_at, reply_with, text_of_role, text_or_empty};
 use run_plans::{draft_instance, instance_of, judge_text, replay_text, sheet_text};
+use run_search::FrontWatch;
 use std::alloc::Global;
 
 /// What a command comes to without a search.
@@ -35,12 +38,14 @@ pub(crate) fn searches(verb: Verb) -> bool
     matches!(verb, Verb::Plan | Verb::Gen | Verb::Resume | Verb::Freeze)
 }
 
-/// The reply of a command that does not search to the instance that its texts say.
-fn reply_at_once(
+/// The reply of a command that does not search for a plan to the instance that its texts say. How far a search over
+/// fronts is that shows a floor, is told to the gate.
+fn reply_at_once<G: Gate>(
     alloc: Global,
     line: &CommandLine<'_>,
     texts: &[Text],
     instance: &Instance,
+    gate: &G,
 ) -> Result<Reply, Memory>
     requires at_once { Searches (line_in line.now).verb → ⊥ }
     requires known { IsCommand (line_in line.now).verb }
@@ -48,6 +53,10 @@ fn reply_at_once(
         (λ r. AnswersInstance said.verb said (texts_in texts.now) instance.now
         (answer_in (stored_as said) r)) }
 {
+    let search = FrontSearch {
+        labels: u64::from(line.count(Count::FrontsLimit)),
+        watch: &FrontWatch { gate },
+    };
     match line.verb {
         Verb::Draft => draft_instance(alloc, instance),
         Verb::Judge => {
@@ -57,11 +66,13 @@ fn reply_at_once(
         Verb::Verify => {
             let plan = text_of_role(texts, Role::Plan);
             let k = line.count(Count::Frozen);
-            verify_from(alloc, instance, plan, text_or_empty(texts, Role::Cert), k)
+            let cert = text_or_empty(texts, Role::Cert);
+            verify_from(alloc, instance, plan, cert, k, &search)
         }
         Verb::Convert => {
             let plan = text_of_role(texts, Role::Plan);
-            convert_texts(alloc, instance, plan, text_or_empty(texts, Role::Cert))
+            let cert = text_or_empty(texts, Role::Cert);
+            convert_texts(alloc, instance, plan, cert, &search)
         }
         Verb::Sheet => sheet_text(alloc, instance, text_or_empty(texts, Role::Plan)),
         Verb::Replay => {
@@ -125,10 +136,11 @@ fn instance_for(alloc: Global, line: &CommandLine<'_>, texts: &[Text]) -> Result
 }
 
 /// What a command comes to with its texts, as far as that takes no search.
-pub(crate) fn asked_of_texts(
+pub(crate) fn asked_of_texts<G: Gate>(
     alloc: Global,
     line: &CommandLine<'_>,
     texts: Run<Text>,
+    gate: &G,
 ) -> Result<Asked, Memory>
     requires { IsCommand (line_in line.now).verb }
     ensures asked { let said = line_in line.now in
@@ -142,6 +154,6 @@ pub(crate) fn asked_of_texts(
     if searches(line.verb) {
         return Ok(Asked::Search { instance, texts });
     }
-    let reply = reply_at_once(alloc, line, texts.as_slice(), &instance)?;
+    let reply = reply_at_once(alloc, line, texts.as_slice(), &instance, gate)?;
     Ok(Asked::Reply(reply))
 }

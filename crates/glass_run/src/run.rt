@@ -53,6 +53,7 @@ fn reply_by_search<R: Threads + Wait + Sync, G: Gate + Sync>(
             let watch = line.flag(Flag::Watch);
             let opening = Opening {
                 fronts: line.flag(Flag::Fronts),
+                labels: u64::from(line.count(Count::FrontsLimit)),
                 effort: line.count(Count::Effort),
             };
             plan_instance(alloc, &workforce, instance, watch, opening)
@@ -60,7 +61,8 @@ fn reply_by_search<R: Threads + Wait + Sync, G: Gate + Sync>(
         Verb::Resume => {
             let plan = text_of_role(texts, Role::Plan);
             let cert = text_or_empty(texts, Role::Cert);
-            resume_texts(alloc, &workforce, instance, plan, cert)
+            let labels = u64::from(line.count(Count::FrontsLimit));
+            resume_texts(alloc, &workforce, instance, plan, cert, labels)
         }
         Verb::Freeze => {
             let plan = text_or_empty(texts, Role::Plan);
@@ -78,10 +80,11 @@ fn reply_by_search<R: Threads + Wait + Sync, G: Gate + Sync>(
 }
 
 /// What a command line comes to with what stands under the names of its files, as far as that takes no search.
-fn asked_of_files<F: Files>(
+fn asked_of_files<F: Files, G: Gate>(
     alloc: Global,
     files: &mut F,
     line: &CommandLine<'_>,
+    gate: &G,
 ) -> Result<Asked, NoReply>
     requires { IsCommand (line_in line.now).verb }
     ensures same { SameContents (F.shelf files.old).contents (F.shelf files.new).contents }
@@ -95,7 +98,7 @@ fn asked_of_files<F: Files>(
     ensures keeps { F.reliable files.old → F.reliable files.new × IfErr result (OnFault (λ _. ⊥)) }
 {
     match fetch_files(alloc, files, line)? {
-        Ok(texts) => Ok(asked_of_texts(alloc, line, texts)?),
+        Ok(texts) => Ok(asked_of_texts(alloc, line, texts, gate)?),
         Err(notice) => Ok(Asked::Reply(reply_with(alloc, notice))),
     }
 }
@@ -139,7 +142,7 @@ fn reply_of<R: Threads + Wait + Sync, F: Files, G: Gate + Sync>(
     ensures faults { CountsFetches (F.shelf files.old) (F.shelf files.new) result }
     ensures keeps { F.reliable files.old → F.reliable files.new × IfErr result (OnFault (λ _. ⊥)) }
 {
-    let asked = asked_of_files(alloc, files, line)?;
+    let asked = asked_of_files(alloc, files, line, gate)?;
     Ok(reply_to_asked(rt, alloc, line, asked, gate)?)
 }
 

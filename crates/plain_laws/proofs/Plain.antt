@@ -11,6 +11,7 @@ use Rattle.cert_log.specs.Good.{Reaches}
 use Rattle.cert_log.specs.Texts.{cert_text}
 use Rattle.command_line.specs.Grammar.{Line, count_in}
 use Rattle.command_line.specs.declared.grammar.Count.TheVariants as count
+use Rattle.command_line.specs.declared.grammar.Verb.TheVariants as verb
 use Rattle.plan_freeze.specs.Rests.{frozen_loss}
 use Rattle.glass_run.specs.FreezeHeadlines.{AcceptsBehind, AcceptsFrom, StoresFreeze, frozen_in, whole_of}
 use Rattle.run_checks.specs.FrozenChecks.{raised}
@@ -19,6 +20,7 @@ use Rattle.run_search.specs.Plans.{HasLoss, counted_lines, ended_lines, ending, 
 use Rattle.run_frame.specs.Runs.{Prints, World}
 use Rattle.run_frame.specs.declared.status.Status.{Status}
 use Rattle.run_frame.specs.declared.status.Status.TheVariants as status
+use Rattle.glass_run.proofs.Headlines.{said_by}
 use Rattle.plain_laws.specs.Plain.{AcceptsPlan, AcceptsPlanBehind, FindsPlan, FindsPlanBehind, IsBounded, PrintsEnd, ResumesPlan, word_of}
 
 optimal_not_stopped : (result : Status) → result ≡ status.Optimal → result ≢ status.Stopped
@@ -90,12 +92,12 @@ finds_plan line held old new result s = record {
   prints = prints_end s.certificate result (option_map neighbour_count s.plan) s.told old new s.ends s.prints;
 }
 
-pub resumes_plan : (line : Line) (held : Contents) (old new : World) (result : Status) → StoresResumed line held old new result → ResumesPlan line held old new result
-resumes_plan line held old new result s = record {
+pub resumes_plan : (line : Line) (held : Contents) (old new : World) (result : Status) → line.verb ≡ verb.Resume → StoresResumed line held old new result → ResumesPlan line held old new result
+resumes_plan line held old new result of s = record {
   found = record {
     texts = s.texts;
     b = s.b;
-    reads = s.right.reads;
+    reads = said_by line held s.texts s.b of s.right.reads;
     plan = s.plan;
     loss = s.joined.loss;
     bound = s.joined.bound;

@@ -18,7 +18,7 @@ use Rattle.plan_freeze.specs.Frozen.{BeginsWith}
 use Rattle.run_frame.specs.Answers.{Store}
 use Rattle.run_checks.specs.Checks.{IsLawfulToo, loss_in}
 use Rattle.glass_run.specs.Commands.{cert_name, plan_name}
-use Rattle.glass_run.specs.Headlines.{SaidBy}
+use Rattle.glass_run.specs.Headlines.{ReadBy, SaidBy}
 use Rattle.run_search.specs.Plans.{HasLoss, ended_lines, plan_stores}
 use Rattle.run_frame.specs.Runs.{Prints, Stands, World}
 use Rattle.run_checks.specs.Said.{IsPlanIn}
@@ -73,7 +73,7 @@ pub record ResumesPlan (line : Line) (held : Contents) (old new : World) (result
 pub record FindsPlanBehind (line : Line) (held : Contents) (old new : World) (result : Status) : Type 0 where
   pub texts : Texts
   pub b : Problem
-  pub reads : SaidBy line held texts b
+  pub reads : ReadBy line held texts b
   pub before : Forest
   pub said : plan_said b (text_or_empty texts role.Plan) ≡ Ok before
   pub lawful_before : IsLawful b before
@@ -95,7 +95,7 @@ PrintsBound bound old new = (left : ℕ) × Prints (codes "accepted" ++ codes " 
 pub record AcceptsPlan (line : Line) (held : Contents) (old new : World) : Type 0 where
   pub texts : Texts
   pub b : Problem
-  pub reads : SaidBy line held texts b
+  pub reads : ReadBy line held texts b
   pub plan : Option Forest
   pub said : IsPlanIn b (text_for texts role.Plan) plan
   pub lawful : IsLawfulToo b plan
@@ -108,7 +108,7 @@ pub record AcceptsPlan (line : Line) (held : Contents) (old new : World) : Type 
 pub record AcceptsPlanBehind (k : ℕ) (line : Line) (held : Contents) (old new : World) : Type 0 where
   pub texts : Texts
   pub b : Problem
-  pub reads : SaidBy line held texts b
+  pub reads : ReadBy line held texts b
   pub plan : Forest
   pub said : plan_said b (text_or_empty texts role.Plan) ≡ Ok plan
   pub lawful : IsLawful b plan

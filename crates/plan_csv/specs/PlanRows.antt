@@ -76,15 +76,5 @@ row_in row fields =
       kind ← type_in row (field_at fields 6)
       cut ← number_in row 8 4 (field_at fields 7)
       parent ← parent_in row (field_at fields 8)
-      Ok (record {
-        plate = plate;
-        node = node;
-        x = x;
-        y = y;
-        width = width;
-        height = height;
-        kind = kind;
-        cut = cut;
-        parent = parent;
-      }))
+      Ok (record { plate = plate; node = node; x = x; y = y; width = width; height = height; kind = kind; cut = cut; parent = parent }))
     else Err (bad.Record row (length fields))

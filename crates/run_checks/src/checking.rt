@@ -20,6 +20,8 @@ use cert_log::{BadCert, Certificate, read_cert, write_cert};
 use command_line::Product;
 use cut_model::{Broken, Plan};
 use defect_map::{DefectMap, Ground};
+use front_bound::losses::FrontSearch;
+use front_bound::watch::Watch;
 use glass_base::{Instance, Memory, Role, Run};
 use loss_area::loss;
 use plan_csv::read_plan;
@@ -144,11 +146,12 @@ fn loss_of_plan(instance: &Instance, plan: &Option<Plan>) -> Option<u64>
 }
 
 /// Goes on where a certificate is right for the box of all plans and for this loss.
-pub(crate) fn check_cert_in(
+pub(crate) fn check_cert_in<W: Watch>(
     alloc: Global,
     ground: Ground<'_>,
     loss: Option<u64>,
     certificate: &Certificate,
+    search: &FrontSearch<'_, W>,
 ) -> Result<(), Stop>
     requires tree { IsTree certificate.now.nodes.items }
     requires version { HasVersion certificate.now }
@@ -156,7 +159,14 @@ pub(crate) fn check_cert_in(
         MatchResult result (λ _. IsGood b (root_ranges b) loss certificate.now)
         (OnTold (IsWrong b loss certificate.now)) }
 {
-    match check_cert(alloc, ground.instance, ground.map, loss, certificate)? {
+    match check_cert(
+        alloc,
+        ground.instance,
+        ground.map,
+        loss,
+        certificate,
+        search,
+    )? {
         Verdict::Accept { .. } => Ok(()),
         Verdict::Refuse { line, why } => Err(stop_at_check(alloc, line, why)),
     }
@@ -169,13 +179,15 @@ pub struct Checked {
     pub certificate: Certificate,
 }
 
-/// The certificate that a text says, where it is right for the loss of the plan that another one says, and this is lawful, with this plan; or
-/// what is told of the first that fails: the text of the plan, that of the certificate, the plan, the certificate.
-pub fn accepted_texts(
+/// The certificate that a text says, where it is right for the loss of the plan that another one says, and this is
+/// lawful, with this plan; or what is told of the first that fails: the text of the plan, that of the certificate, the
+/// plan, the certificate. Its floor is shown by this search over fronts.
+pub fn accepted_texts<W: Watch>(
     alloc: Global,
     ground: Ground<'_>,
     plan_text: Option<&[u8]>,
     cert_text: &[u8],
+    search: &FrontSearch<'_, W>,
 ) -> Result<Checked, Stop>
     ensures accepted { let b = ground.entry.instance.now in
         MatchResult result (λ a. IsAccepted b
@@ -189,16 +201,17 @@ pub fn accepted_texts(
     let certificate = read_cert_in(alloc, cert_text)?;
     judge_plan_in(alloc, ground, &plan)?;
     let loss = loss_of_plan(ground.instance, &plan);
-    check_cert_in(alloc, ground, loss, &certificate)?;
+    check_cert_in(alloc, ground, loss, &certificate, search)?;
     Ok(Checked { plan, certificate })
 }
 
 /// The reply to the texts of a plan, or none, and of a certificate: its bound and its number of open boxes, or a refusal.
-pub(crate) fn verify_texts(
+pub(crate) fn verify_texts<W: Watch>(
     alloc: Global,
     instance: &Instance,
     plan_text: Option<&[u8]>,
     cert_text: &[u8],
+    search: &FrontSearch<'_, W>,
 ) -> Result<Reply, Memory>
     ensures { IfOk result (λ r. (name : Product → List ℕ)
         → Verifies instance.now (option_map (λ bytes. bytes.now) plan_text.entry) cert_text.now
@@ -213,6 +226,7 @@ pub(crate) fn verify_texts(
         },
         plan_text,
         cert_text,
+        search,
     ) {
         Ok(texts) => Ok(reply_with(alloc, accepted(alloc, &texts.certificate)?)),
         Err(stop) => reply_at(alloc, stop),
@@ -270,11 +284,12 @@ fn convert(alloc: Global, ground: Ground<'_>, certificate: &Certificate) -> Resu
 
 /// The reply to the texts of a plan, or none, and of a certificate: the certificate is stored with its causes named, or refused as by
 /// [`verify_texts`], or where what comes could not be read again.
-pub fn convert_texts(
+pub fn convert_texts<W: Watch>(
     alloc: Global,
     instance: &Instance,
     plan_text: Option<&[u8]>,
     cert_text: &[u8],
+    search: &FrontSearch<'_, W>,
 ) -> Result<Reply, Memory>
     ensures { IfOk result (λ r. (name : Product → List ℕ)
         → Converts instance.now (option_map (λ bytes. bytes.now) plan_text.entry) cert_text.now
@@ -285,7 +300,7 @@ pub fn convert_texts(
         instance,
         map: &map,
     };
-    let accepted = match accepted_texts(alloc, ground, plan_text, cert_text) {
+    let accepted = match accepted_texts(alloc, ground, plan_text, cert_text, search) {
         Ok(accepted) => accepted,
         Err(stop) => return reply_at(alloc, stop),
     };

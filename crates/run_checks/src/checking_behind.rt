@@ -18,6 +18,8 @@ use cert_log::Certificate;
 use command_line::Product;
 use cut_model::{Plan, plates_used};
 use defect_map::{DefectMap, Ground};
+use front_bound::losses::FrontSearch;
+use front_bound::watch::Watch;
 use glass_base::{Instance, Memory, Role};
 use loss_area::loss;
 use plan_csv::read_plan;
@@ -74,12 +76,13 @@ fn leaves_some(alloc: Global, plan: &Plan, k: u32) -> Result<(), Stop>
 }
 
 /// Goes on where a certificate is right for the instance that is left behind the first `k` plates, and for what the plan loses there.
-fn check_behind(
+fn check_behind<W: Watch>(
     alloc: Global,
     instance: &Instance,
     plan: &Plan,
     k: u32,
     certificate: &Certificate,
+    search: &FrontSearch<'_, W>,
 ) -> Result<(), Stop>
     requires fits { Fits (tree plan.now) }
     requires lawful { IsLawful instance.now (tree plan.now) }
@@ -96,7 +99,7 @@ fn check_behind(
         instance: &left,
         map: &map,
     };
-    check_cert_in(alloc, ground, Some(lost), certificate)
+    check_cert_in(alloc, ground, Some(lost), certificate, search)
 }
 
 /// A lawful plan, and a certificate that is right behind its first plates.
@@ -109,12 +112,13 @@ struct CheckedBehind {
 /// The certificate that a text says, where it is right behind the first `k` plates of the plan that another one says, and this is lawful and has
 /// more of them, with this plan; or what is told of the first that fails: the text of the plan, that of the certificate, the plan, its number of
 /// plates, the certificate.
-fn accepted_behind(
+fn accepted_behind<W: Watch>(
     alloc: Global,
     ground: Ground<'_>,
     plan_text: &[u8],
     cert_text: &[u8],
     k: u32,
+    search: &FrontSearch<'_, W>,
 ) -> Result<CheckedBehind, Stop>
     ensures accepted { let b = ground.entry.instance.now in
         MatchResult result (λ a. IsAcceptedBehindFor b k plan_text.now cert_text.now
@@ -125,7 +129,7 @@ fn accepted_behind(
     let certificate = read_cert_in(alloc, cert_text)?;
     judge_whole(alloc, ground, &plan)?;
     leaves_some(alloc, &plan, k)?;
-    check_behind(alloc, ground.instance, &plan, k, &certificate)?;
+    check_behind(alloc, ground.instance, &plan, k, &certificate, search)?;
     Ok(CheckedBehind { plan, certificate })
 }
 
@@ -154,12 +158,13 @@ fn accepted_with(alloc: Global, certificate: &Certificate, more: u64) -> Result<
 
 /// The reply to the texts of a plan, of which the first `k` plates are cut already, and of a certificate: the bound with what these plates lose,
 /// and the number of open boxes, or a refusal.
-fn verify_behind(
+fn verify_behind<W: Watch>(
     alloc: Global,
     instance: &Instance,
     plan_text: &[u8],
     cert_text: &[u8],
     k: u32,
+    search: &FrontSearch<'_, W>,
 ) -> Result<Reply, Memory>
     ensures { IfOk result (λ r. (name : Product → List ℕ)
         → VerifiesBehind instance.now k plan_text.now cert_text.now (answer_in name r)) }
@@ -176,6 +181,7 @@ fn verify_behind(
         plan_text,
         cert_text,
         k,
+        search,
     ) {
         Ok(checked) => {
             let more = frozen_loss(instance, &checked.plan, k);
@@ -198,19 +204,20 @@ fn or_empty(text: Option<&[u8]>) -> &[u8]
 
 /// The reply to the texts of a plan, or none, and of a certificate: its bound and its number of open boxes, or a refusal. The first `k` plates of
 /// the plan are cut already.
-pub fn verify_from(
+pub fn verify_from<W: Watch>(
     alloc: Global,
     instance: &Instance,
     plan_text: Option<&[u8]>,
     cert_text: &[u8],
     k: u32,
+    search: &FrontSearch<'_, W>,
 ) -> Result<Reply, Memory>
     ensures { IfOk result (λ r. (name : Product → List ℕ)
         → VerifiesFrom k instance.now (option_map
         (λ bytes. bytes.now) plan_text.entry) cert_text.now (answer_in name r)) }
 {
     if k == 0 {
-        return verify_texts(alloc, instance, plan_text, cert_text);
+        return verify_texts(alloc, instance, plan_text, cert_text, search);
     }
-    verify_behind(alloc, instance, or_empty(plan_text), cert_text, k)
+    verify_behind(alloc, instance, or_empty(plan_text), cert_text, k, search)
 }

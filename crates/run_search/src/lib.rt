@@ -12,5 +12,5 @@ mod workforce;
 pub use freezing::freeze_text;
 pub use planning::plan_instance;
 pub use resuming::resume_texts;
-pub use starting::Opening;
+pub use starting::{FrontWatch, Opening};
 pub use workforce::Workforce;

@@ -18,6 +18,7 @@ ghost use Rattle.run_frame.specs.Forms.{answer_in};
 
 use crate::planning::{Found, MOST_WORK, best_plan, reply_with_text};
 use crate::searching::history_of_boxes;
+use crate::starting::FrontWatch;
 use crate::workforce::Workforce;
 use box_workers::{Gate, first_loss};
 use cert_check::reasoned;
@@ -27,6 +28,7 @@ use command_line::Product;
 use cut_model::{Plan, Trace};
 use defect_map::{DefectMap, Ground};
 use first_plan::Start;
+use front_bound::losses::FrontSearch;
 use glass_base::limits::MOST_CERT_BYTES;
 use glass_base::{Instance, Memory, Role, Run};
 use plan_box::PlanBox;
@@ -194,14 +196,16 @@ fn resume_within<R: Threads + Wait + Sync, G: Gate + Sync>(
     reply_if_readable(alloc, ground.instance, &found)
 }
 
-/// The reply to the texts of a plan, or none, and of a certificate: what a search finds that goes on in the boxes that the certificate leaves
-/// open, or a refusal as by `verify`, or of what would be too much work.
+/// The reply to the texts of a plan, or none, and of a certificate: what a search finds that goes on in the boxes that
+/// the certificate leaves open, or a refusal as by `verify`, or of what would be too much work. Its floor is shown by a
+/// search over fronts with so many labels at the most.
 pub fn resume_texts<R: Threads + Wait + Sync, G: Gate + Sync>(
     alloc: Global,
     workforce: &Workforce<'_, R, G>,
     instance: &Instance,
     plan_text: Option<&[u8]>,
     cert_text: &[u8],
+    labels: u64,
 ) -> Result<Reply, Memory>
     ensures { IfOk result (λ r. (name : Product → List ℕ)
         → Resumes instance.now (option_map
@@ -213,7 +217,13 @@ pub fn resume_texts<R: Threads + Wait + Sync, G: Gate + Sync>(
         instance,
         map: &map,
     };
-    match accepted_texts(alloc, ground, plan_text, cert_text) {
+    let search = FrontSearch {
+        labels,
+        watch: &FrontWatch {
+            gate: workforce.gate,
+        },
+    };
+    match accepted_texts(alloc, ground, plan_text, cert_text, &search) {
         Ok(checked) => resume_within(alloc, workforce, ground, &checked),
         Err(stop) => reply_at(alloc, stop),
     }

@@ -3,6 +3,8 @@ ghost use Rattle.std.specs.Prelude.{◌≡◌};
 use cert_check::{Verdict, Why, check_cert};
 use cert_log::{BadCert, read_cert};
 use defect_map::DefectMap;
+use front_bound::losses::FrontSearch;
+use front_bound::watch::Nobody;
 use glass_base::{Instance, Item, Memory, Params, Run, append};
 use plan_box::Var;
 use std::alloc::Global;
@@ -34,7 +36,17 @@ fn answer(
     requires { map.now ≡ instance.now.defects }
 {
     match read_cert(alloc, text.as_bytes()) {
-        Ok(cert) => Ok(Ok(check_cert(alloc, instance, map, Some(813_000), &cert)?)),
+        Ok(cert) => Ok(Ok(check_cert(
+            alloc,
+            instance,
+            map,
+            Some(813_000),
+            &cert,
+            &FrontSearch {
+                labels: 1_000_000,
+                watch: &Nobody,
+            },
+        )?)),
         Err(bad) => Ok(Err(bad)),
     }
 }

@@ -5,11 +5,11 @@ use Rattle.glass_run.proofs.Given.{said_instance}
 use Rattle.glass_run.proofs.answering.asked_of_texts.Goals as goal
 
 pub returns-then-searches-clause-asked : goal.returns-then-searches-clause-asked
-returns-then-searches-clause-asked c = λ answer answers.
+returns-then-searches-clause-asked g c = λ answer answers.
     said_instance (line_in c.args.line.now) (texts_in c.args.texts.items) c.in-Ok.instance answer (rw c.as_slice.ensures at c.in-Ok.ensures) answers
 
 pub returns-clause-asked : goal.returns-clause-asked
-returns-clause-asked c =
+returns-clause-asked g c =
     let line = line_in c.args.line.now in
     said_instance line (texts_in c.args.texts.items) c.in-Ok.instance (answer_in (stored_as line) c.in_ok-reply.reply) (rw c.as_slice.ensures at c.in-Ok.ensures)
     (rw c.as_slice-2.ensures at c.in_ok-reply.ensures)

@@ -4,5 +4,5 @@ use Rattle.run_checks.proofs.Accepting.{verifies_none}
 use Rattle.run_checks.proofs.checking.verify_texts.Goals as goal
 
 pub returns : goal.returns
-returns c =
+returns g c =
     IfOk-weaker c.reply_at.result _ _ (λ r told names. verifies_none c.args.instance.now _ c.args.cert_text.now (answer_in names r) c.in-Err.stop c.in-Err.ensures.accepted (told names)) c.reply_at.ensures
