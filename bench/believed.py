@@ -4,8 +4,8 @@
     bench/believed.py              a line for each law of docs/BELIEVED.md
     bench/believed.py NAME ..      the definitions that NAME stands on, those that others stand on first
 
-A definition stands on those that its text names, by the imports of its file. Counted are its lines without comments, blanks and imports, those of the kit's crate csv among them. Neither
-opened nor counted is `LineRun Answers`: a law reads `Ended .. -> conclusion`, and `Ended` has it only so that the law speaks of what `glass` promises, whose contract
+A definition stands on those that its text names, by the imports of its file. Counted are its lines without comments, blanks and imports, those of the kit's crate csv among them.
+Counted but not opened is `LineRun Answers`: a law reads `Ended .. -> conclusion`, and `Ended` has it only so that the law speaks of what `glass` promises, whose contract
 is `RunsTo Answers`, and that is `LineRun Answers` where the words are a command line. Types that are declared in the sources (structs, enums) are not counted, nor is what std defines.
 """
 import os
@@ -75,13 +75,13 @@ def stands_on(start, imports, texts):
     order, seen = [], set()
 
     def visit(key):
-        if key in seen or key in CUT or key not in texts:
+        if key in seen or key not in texts:
             return
         seen.add(key)
         names = imports[key[:2]]
-        for line in texts[key]:
+        for line in texts[key] if key not in CUT else []:
             for word in WORD.findall(line.split("--")[0]):
-                for name in {word, word.split(".")[0]}:
+                for name in {word, word.split(".")[0], "◌%s◌" % word}:
                     if name in names and names[name] != key:
                         visit(names[name])
         order.append(key)

@@ -15,15 +15,12 @@ use Rattle.cert_check.specs.Faults.{Answers}
 abbrev pub IsTrueCause : Problem → List Ranges → Cause → Type 0
 IsTrueCause b rs (Cause.Reason r) = IsFirstReason b rs r
 IsTrueCause b rs Cause.Bound = ¬ IsRefuted b rs
-IsTrueCause b rs Cause.Floor = ⊥
-IsTrueCause b rs Cause.Unsaid = ⊥
+IsTrueCause b rs cause = ⊥
 
 -- a cause that was not said is named, by the true one; one that was said stays
 abbrev pub IsNamed : Problem → List Ranges → Cause → Cause → Type 0
 IsNamed b rs Cause.Unsaid named = IsTrueCause b rs named
-IsNamed b rs Cause.Floor named = named ≡ Cause.Floor
-IsNamed b rs Cause.Bound named = named ≡ Cause.Bound
-IsNamed b rs (Cause.Reason r) named = named ≡ Cause.Reason r
+IsNamed b rs cause named = named ≡ cause
 
 -- the second tree is the first one with its causes named, walking both from the box
 abbrev pub AreNamed : Problem → List Ranges → Tree → Tree → Type 0

@@ -1,20 +1,17 @@
 -- Which lines of nodes may follow each other.
 use Rattle.std.specs.Prelude.{◌≡◌, ℕ, ◌+◌, ◌-◌, ◌<◌, ◌≤◌, List, [], ◌∷◌, ◌++◌, true, false, replicate}
 use Rattle.std.specs.List.{flat_map}
-use Rattle.cert_log.specs.declared.history.Cause.{Cause}
 use Rattle.cert_log.specs.declared.certificate.Node.{Node}
 use Rattle.cert_log.specs.declared.place.Place.{Place}
 use Rattle.cert_log.specs.Texts.{Line, splits, closes, opens_one, opens, line_text}
+use Rattle.cert_log.specs.Trees.{FitsVersion}
 use Rattle.glass_base.specs.declared.limits.TheConstants.{MOST_ITEMS}
 
 -- the line is one of this version, and may come where so many places are left in the tree:
 -- it has no more open nodes, and open nodes with their number follow no such line
 abbrev pub MayCome : ℕ → Place → Line → Type 0
 MayCome version at (splits step v) = step < MOST_ITEMS
-MayCome version at (closes Cause.Unsaid) = version ≡ 1
-MayCome version at (closes Cause.Floor) = 3 ≤ version
-MayCome version at (closes Cause.Bound) = 2 ≤ version
-MayCome version at (closes (Cause.Reason r)) = 2 ≤ version
+MayCome version at (closes cause) = FitsVersion version (Node.Closed cause)
 MayCome version at opens_one = version ≡ 1
 MayCome version at (opens n) = (2 ≤ version) × (0 < n) × (n ≤ at.places) × (at.after_open ≡ false)
 

@@ -1,5 +1,5 @@
 -- A right certificate with a right part in the place of each open node is right.
-use Rattle.std.proofs.Common.{◌≡◌, ℕ, ◌+◌, ◌≤◌, inl, inr, List, [], ◌∷◌, ◌++◌, length, refl, sym, ap, ◌∙◌, subst, fold, append_assoc, map, max, None, Option, Some, arith, All}
+use Rattle.std.proofs.Common.{◌≡◌, ℕ, ◌+◌, ◌≤◌, inl, inr, List, [], ◌∷◌, ◌++◌, length, refl, sym, ap, ◌∙◌, subst, fold, append_assoc, map, max, None, Option, Some, option_map, arith, All}
 use Rattle.std.specs.Prelude.{sum_by}
 use Rattle.std.specs.List.{AllZip}
 use Rattle.std.proofs.lemmas.Grind.{fold-append}
@@ -16,7 +16,7 @@ use Rattle.cert_log.specs.declared.history.Cause.{Cause}
 use Rattle.cert_log.specs.Good.{IsFloor, IsGood, MayClose, Reaches, lesser}
 use Rattle.cert_log.specs.Trees.{Tree, halved, closed, waiting, nodes_of}
 use Rattle.cert_log.proofs.Walked.{Stands, open_bounds, good_bound_is, good_left_is, good_of, good_stands}
-use Rattle.cert_resume.specs.Joins.{AreRightParts, IsAtMost, IsJoined, KeepsRight, bounds_of, filled, lesser_of, nodes_in, raised}
+use Rattle.cert_resume.specs.Joins.{AreRightParts, IsAtMost, IsJoined, KeepsRight, bounds_of, filled, lesser_of, nodes_in}
 use Rattle.cert_resume.specs.OpenBoxes.{open_boxes}
 use Rattle.cert_resume.proofs.Least.{at_most_itself, at_most_least, least_raised, reaches_less}
 
@@ -98,7 +98,7 @@ record IsGrown (b : Problem) (floor : ℕ) (m : Option ℕ) (rs : List Ranges) (
   stands : Stands b floor m rs tree
   nodes_are : (later : List Node) (more : List (List Node)) → filled (nodes ++ later) (nodes_in parts ++ more) ≡ nodes_of tree ++ filled later more
   left_is : sum_by left_in parts ≡ length (open_bounds b floor rs tree)
-  bound_is : (x : Option ℕ) → IsAtMost x m → fold lesser_of x (map (raised floor) (bounds_of parts)) ≡ fold lesser x (open_bounds b floor rs tree)
+  bound_is : (x : Option ℕ) → IsAtMost x m → fold lesser_of x (map (option_map (max floor)) (bounds_of parts)) ≡ fold lesser x (open_bounds b floor rs tree)
 
 -- both halves of a box
 both : (b : Problem) (floor : ℕ) (m : Option ℕ) (rs : List Ranges) (step : ℕ) (v : Var) (lows highs : List Node) (first second : List Certificate) → Stands b floor m rs (halved step v waiting waiting)
@@ -124,13 +124,13 @@ both b floor m rs step v lows highs first second free l u =
         ∙ ap (λ (ns : List Node). nodes_of l.tree ++ ns) (u.nodes_are later more)
         ∙ sym (append_assoc (nodes_of l.tree) (nodes_of u.tree) (filled later more))
 
-    bound : (x : Option ℕ) → IsAtMost x m → fold lesser_of x (map (raised floor) (bounds_of (first ++ second))) ≡ fold lesser x (open_bounds b floor (half_at lower_half rs step v) l.tree ++ open_bounds b floor (half_at upper_half rs step v) u.tree)
+    bound : (x : Option ℕ) → IsAtMost x m → fold lesser_of x (map (option_map (max floor)) (bounds_of (first ++ second))) ≡ fold lesser x (open_bounds b floor (half_at lower_half rs step v) l.tree ++ open_bounds b floor (half_at upper_half rs step v) u.tree)
     bound x at_most =
         let low = open_bounds b floor (half_at lower_half rs step v) l.tree in let high = open_bounds b floor (half_at upper_half rs step v) u.tree in
-        ap (λ (os : List (Option ℕ)). fold lesser_of x (map (raised floor) os)) (map-append (λ (p : Certificate). p.bound) first second)
-        ∙ ap (λ (os : List (Option ℕ)). fold lesser_of x os) (map-append (raised floor) (bounds_of first) (bounds_of second))
-        ∙ fold-append lesser_of x (map (raised floor) (bounds_of first)) (map (raised floor) (bounds_of second))
-        ∙ ap (λ (o : Option ℕ). fold lesser_of o (map (raised floor) (bounds_of second))) (l.bound_is x at_most)
+        ap (λ (os : List (Option ℕ)). fold lesser_of x (map (option_map (max floor)) os)) (map-append (λ (p : Certificate). p.bound) first second)
+        ∙ ap (λ (os : List (Option ℕ)). fold lesser_of x os) (map-append (option_map (max floor)) (bounds_of first) (bounds_of second))
+        ∙ fold-append lesser_of x (map (option_map (max floor)) (bounds_of first)) (map (option_map (max floor)) (bounds_of second))
+        ∙ ap (λ (o : Option ℕ). fold lesser_of o (map (option_map (max floor)) (bounds_of second))) (l.bound_is x at_most)
         ∙ u.bound_is (fold lesser x low) (at_most_least x m low at_most)
         ∙ sym (fold-append lesser x low high)
 
@@ -162,7 +162,7 @@ grows b floor m before waiting rs (p ∷ []) at_most stands right =
           (let left = good_left_is b rs m p good in
           let count = count_raised b p.floor floor rs good.tree low in omega (arith, left, count));
       bound_is = λ x less.
-          ap (λ (o : Option ℕ). lesser_of x (raised floor o)) (good_bound_is b rs m p good)
+          ap (λ (o : Option ℕ). lesser_of x (option_map (max floor) o)) (good_bound_is b rs m p good)
           ∙ least_raised floor x m (open_bounds b p.floor rs good.tree) less
           ∙ ap (λ (ns : List ℕ). fold lesser x ns) (raised_more b p.floor floor rs good.tree low);
     }

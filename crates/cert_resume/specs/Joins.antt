@@ -1,20 +1,19 @@
 -- A certificate with the tree of a part in the place of each open node.
-use Rattle.std.specs.Prelude.{◌≡◌, ℕ, ◌≤◌, max, List, [], ◌∷◌, ◌++◌, fold, map, sum_by, Option, Some, None}
+use Rattle.std.specs.Prelude.{◌≡◌, ℕ, max, List, [], ◌∷◌, ◌++◌, fold, map, sum_by, Option, IfSome, option_map}
 use Rattle.std.specs.List.{AllZip}
+use Rattle.std.specs.Option.{option_map_or}
 use Rattle.glass_base.specs.Problem.{Problem}
 use Rattle.plan_box.specs.Ranges.{Ranges}
 use Rattle.cert_log.specs.declared.certificate.Certificate.{Certificate}
 use Rattle.cert_log.specs.declared.certificate.Node.{Node}
-use Rattle.cert_log.specs.Good.{IsGood, IsVersion, lesser}
+use Rattle.cert_log.specs.Good.{IsGood, IsVersion, Reaches, lesser}
 use Rattle.cert_resume.specs.OpenBoxes.{open_boxes}
 
 -- the nodes with those of a part in the place of each open one, in their order, as long as there are parts
 abbrev pub filled : List Node → List (List Node) → List Node
 filled [] parts = []
-filled (Node.Split step v ∷ nodes) parts = Node.Split step v ∷ filled nodes parts
-filled (Node.Closed cause ∷ nodes) parts = Node.Closed cause ∷ filled nodes parts
-filled (Node.Left ∷ nodes) [] = Node.Left ∷ filled nodes []
 filled (Node.Left ∷ nodes) (part ∷ parts) = part ++ filled nodes parts
+filled (node ∷ nodes) parts = node ∷ filled nodes parts
 
 abbrev pub nodes_in : List Certificate → List (List Node)
 nodes_in parts = map (λ (p : Certificate). p.nodes.items) parts
@@ -24,13 +23,7 @@ bounds_of parts = map (λ (p : Certificate). p.bound) parts
 
 -- the lesser of a loss and a bound; what is none is greater than every number
 abbrev pub lesser_of : Option ℕ → Option ℕ → Option ℕ
-lesser_of loss None = loss
-lesser_of loss (Some n) = lesser loss n
-
--- a bound, raised to a floor
-abbrev pub raised : ℕ → Option ℕ → Option ℕ
-raised floor None = None
-raised floor (Some n) = Some (max floor n)
+lesser_of loss bound = option_map_or (lesser loss) bound loss
 
 -- the certificate with the nodes of a part in the place of each open one; the open nodes are those of the parts, and the bound is
 -- the least of the loss and the bounds of the parts, each raised to the floor
@@ -40,13 +33,11 @@ pub record IsJoined (c : Certificate) (parts : List Certificate) (loss : Option 
   pub loss_is : j.loss ≡ loss
   pub left_is : j.left ≡ sum_by (λ (p : Certificate). p.left) parts
   pub floor_is : j.floor ≡ c.floor
-  pub bound_is : j.bound ≡ fold lesser_of loss (map (raised c.floor) (bounds_of parts))
+  pub bound_is : j.bound ≡ fold lesser_of loss (map (option_map (max c.floor)) (bounds_of parts))
 
--- a loss is no greater than another one; none is greater than every number
+-- a loss is no greater than another one, where there is one; none is greater than every number
 abbrev pub IsAtMost : Option ℕ → Option ℕ → Type 0
-IsAtMost loss None = Unit {0}
-IsAtMost None (Some n) = ⊥
-IsAtMost (Some m) (Some n) = m ≤ n
+IsAtMost loss other = IfSome other (Reaches loss)
 
 -- each part is right for its box
 abbrev pub AreRightParts : Problem → Option ℕ → List (List Ranges) → List Certificate → Type 0

@@ -1,6 +1,6 @@
 //! A certificate with a tree in the place of each open node.
 
-ghost use Rattle.std.specs.Prelude.{◌≡◌, ◌+◌, ◌<◌, ◌≤◌, ◌^◌, ◌∷◌, ◌++◌, List, All, IfOk, count_by, fold, length, map, sum_by};
+ghost use Rattle.std.specs.Prelude.{◌≡◌, ◌+◌, ◌<◌, ◌≤◌, ◌^◌, ◌∷◌, ◌++◌, List, All, IfOk, count_by, fold, length, map, max, option_map, sum_by};
 ghost use Rattle.cert_log.specs.declared.certificate.Certificate.{Certificate as CertificateOf};
 ghost use Rattle.cert_log.specs.declared.certificate.Node.{Node as NodeOf};
 ghost use Rattle.cert_log.specs.Good.{HasVersion, IsVersionFor, lesser};
@@ -8,7 +8,7 @@ ghost use Rattle.cert_log.specs.Outcomes.{IsHead};
 ghost use Rattle.cert_log.specs.Texts.{head_of};
 ghost use Rattle.cert_log.specs.Trees.{is_left};
 ghost use Rattle.cert_log.specs.Values.{IsNumber};
-ghost use Rattle.cert_resume.specs.Joins.{IsJoined, KeepsRight, bounds_of, filled, lesser_of, nodes_in, raised};
+ghost use Rattle.cert_resume.specs.Joins.{IsJoined, KeepsRight, bounds_of, filled, lesser_of, nodes_in};
 
 use cert_log::{Certificate, Node};
 use glass_base::{Memory, Run, append};
@@ -27,7 +27,7 @@ fn with_bound(loss: Option<u64>, bound: Option<u64>) -> Option<u64>
 
 /// A bound, raised to a floor.
 fn raise(floor: u64, bound: Option<u64>) -> Option<u64>
-    ensures { result ≡ raised floor bound }
+    ensures { result ≡ option_map (max floor) bound }
 {
     match bound {
         Some(bound) => Some(floor.max(bound)),
@@ -37,7 +37,7 @@ fn raise(floor: u64, bound: Option<u64>) -> Option<u64>
 
 /// The least of a loss and the bounds of some certificates, each raised to a floor.
 fn least_bound(floor: u64, loss: Option<u64>, parts: &[Certificate]) -> Option<u64>
-    ensures { result ≡ fold lesser_of loss (map (raised floor) (bounds_of parts.now)) }
+    ensures { result ≡ fold lesser_of loss (map (option_map (max floor)) (bounds_of parts.now)) }
 {
     let mut least = loss;
     for part in parts {

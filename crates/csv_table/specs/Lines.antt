@@ -1,7 +1,8 @@
 -- The lines of a table.
-use Rattle.std.specs.Prelude.{◌≡◌, ◌++◌, ℕ, List, [], ◌∷◌, Bool, Option, Some, None, Vec, false}
+use Rattle.std.specs.Prelude.{◌≡◌, ◌++◌, ℕ, List, [], ◌∷◌, Bool, Option, Some, Vec, false}
 use Rattle.std.specs.Fmt.{decimal}
 use Rattle.std.specs.List.{join_with_byte}
+use Rattle.std.specs.Option.{option_map_or}
 use Rattle.std.specs.declared.alloc.Global.{Global}
 use Rattle.csv.specs.Writing.{default_writer, fields_written, has_written, needs_quotes, text_written, writer_setup}
 use Rattle.csv.specs.declared.writer.Writer.{Writer}
@@ -18,8 +19,7 @@ line_of fields = join_with_byte 59 fields ++ 10 ∷ []
 
 -- a field without a number is empty
 abbrev pub number_or_none : Option ℕ → List ℕ
-number_or_none None = []
-number_or_none (Some n) = decimal n
+number_or_none n = option_map_or decimal n []
 
 -- how lines are written
 abbrev pub semicolons : WriterBuilder

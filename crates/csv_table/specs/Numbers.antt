@@ -1,5 +1,5 @@
 -- What a number is in a table.
-use Rattle.std.specs.Prelude.{◌==◌, ◌||◌, ◌&&◌, ◌+◌, ◌-◌, ◌*◌, ◌^◌, ◌<◌, ◌≤◌, Bool, ℕ, List, Option, Some, None, length, take, drop, nat_lt, nat_le, position, if◌then◌else◌}
+use Rattle.std.specs.Prelude.{◌==◌, ◌||◌, ◌&&◌, ◌+◌, ◌-◌, ◌*◌, ◌^◌, ◌<◌, ◌≤◌, Bool, ℕ, List, Option, Some, None, option_map, length, take, drop, nat_lt, nat_le, position, if◌then◌else◌}
 use Rattle.std.specs.Char.{is_ascii_digit}
 use Rattle.std.specs.List.{list_all, prefix_len, suffix_len}
 use Rattle.std.specs.Str.Parse.{digits_value}
@@ -24,11 +24,6 @@ abbrev pub digits : ℕ → List ℕ → Option ℕ
 digits most text =
     if nat_lt 0 (length text) && nat_le (length text) most && list_all is_ascii_digit text then Some (digits_value 10 text) else None
 
--- digits without a point
-abbrev pub without_point : Option ℕ → Option Decimal
-without_point None = None
-without_point (Some n) = Some (record { whole = n; millionths = 0 })
-
 -- digits around a point, of which `places` stand behind it
 abbrev pub around_point : ℕ → Option ℕ → Option ℕ → Option Decimal
 around_point places None behind = None
@@ -37,7 +32,7 @@ around_point places (Some n) (Some f) = Some (record { whole = n; millionths = f
 
 -- one to nine digits, or these, a point and one to six digits
 abbrev pub number_at : List ℕ → Option ℕ → Option Decimal
-number_at text None = without_point (digits 9 text)
+number_at text None = option_map (λ n. record { whole = n; millionths = 0 }) (digits 9 text)
 number_at text (Some at) = around_point (length (drop (at + 1) text)) (digits 9 (take at text)) (digits 6 (drop (at + 1) text))
 
 -- the number that a field says, between blanks

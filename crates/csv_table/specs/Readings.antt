@@ -1,5 +1,5 @@
 -- What a reader of a table gives, or its first refusal.
-use Rattle.std.specs.Prelude.{◌≡◌, ◌==◌, ◌+◌, ◌*◌, ℕ, List, [], ◌∷◌, drop, nat_le, if◌then◌else◌, Option, Some, None, Result, Ok, Err}
+use Rattle.std.specs.Prelude.{◌≡◌, ◌==◌, ◌+◌, ◌*◌, ℕ, List, [], ◌∷◌, drop, nat_le, if◌then◌else◌, Option, option_and_then, Some, None, Result, Ok, Err}
 use Rattle.glass_base.specs.declared.bad_text.BadText.{BadText}
 use Rattle.glass_base.specs.declared.bad_text.BadText.TheVariants as bad
 use Rattle.csv_table.specs.Numbers.{decimal, millionths_in}
@@ -8,7 +8,7 @@ use Rattle.csv_table.specs.declared.number.Decimal.{Decimal}
 
 -- what is read next is read from this, unless it was refused
 infixl 10 ◌>>=◌
-abbrev pub ◌>>=◌ : {A B : Type 0} → Result A BadText → (A → Result B BadText) → Result B BadText
+abbrev pub ◌>>=◌ : {A B E : Type 0} → Result A E → (A → Result B E) → Result B E
 (Ok x) >>= f = f x
 (Err e) >>= f = Err e
 
@@ -34,12 +34,8 @@ whole_number row column most (Some n) =
     if n.millionths == 0 then (if nat_le n.whole most then Ok n.whole else Err (bad.Range row column)) else Err (bad.Number row column)
 
 -- the number in a field of such a column
-abbrev pub whole : ℕ → ℕ → ℕ → List ℕ → Result ℕ BadText
-whole row column most field = whole_number row column most (decimal field)
-
 abbrev pub whole_in : ℕ → ℕ → ℕ → Option (List ℕ) → Result ℕ BadText
-whole_in row column most None = Err (bad.Number row column)
-whole_in row column most (Some field) = whole row column most field
+whole_in row column most field = whole_number row column most (option_and_then decimal field)
 
 -- a number of a column whose numbers may have decimals and are at most this
 abbrev pub measured : ℕ → ℕ → ℕ → Option Decimal → Result Decimal BadText
@@ -48,8 +44,7 @@ measured row column most (Some n) = if nat_le (millionths_in n) (most * 1000000)
 
 -- the number in a field of such a column
 abbrev pub measure_in : ℕ → ℕ → ℕ → Option (List ℕ) → Result Decimal BadText
-measure_in row column most None = Err (bad.Number row column)
-measure_in row column most (Some field) = measured row column most (decimal field)
+measure_in row column most field = measured row column most (option_and_then decimal field)
 
 -- what rows say that are numbered from this one on, row by row: the first refusal decides
 abbrev pub each_row : {A : Type 0} → (ℕ → List (List ℕ) → Result A BadText) → ℕ → List (List (List ℕ)) → Result (List A) BadText

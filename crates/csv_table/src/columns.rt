@@ -3,7 +3,7 @@
 ghost use Rattle.std.specs.Prelude.{◌≡◌, ◌<◌, ◌≤◌, ◌-◌, IfOk};
 ghost use Rattle.csv.specs.Records.{field_at, fields_of};
 ghost use Rattle.csv_table.specs.Numbers.{IsAtMost, decimal};
-ghost use Rattle.csv_table.specs.Readings.{measure_in, measured, whole, whole_in};
+ghost use Rattle.csv_table.specs.Readings.{measure_in, measured, whole_in, whole_number};
 
 use crate::number::{Decimal, decimal_of};
 use csv::ByteRecord;
@@ -11,7 +11,7 @@ use glass_base::BadText;
 
 /// The whole number, at most `most`, of a field.
 fn whole_of(row: u64, column: u64, most: u32, field: &[u8]) -> Result<u32, BadText>
-    ensures value { result ≡ whole row column most field.now }
+    ensures value { result ≡ whole_number row column most (decimal field.now) }
     ensures range { IfOk result (λ number. number ≤ most) }
 {
     match decimal_of(field) {

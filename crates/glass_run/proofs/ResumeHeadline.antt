@@ -75,7 +75,7 @@ stores_more line held old new answer result of s plan c right g end is stored pr
         spent = λ e. made.spent (stopped_left j (sym ended ∙ e));
         exact = λ ne. bound_exact s.b (root_ranges s.b) j.loss j made.good (λ some. ne (ended ∙ left_stopped j some));
       },
-      record { found = stores; grown = made.grown; handles = g.resumed.handles },
+      record { found = stores; resumed = g.resumed },
     )
 
 stores_resumed : (line : Line) (held : Contents) (old new : World) (answer : Answer) (result : Status) → line.verb ≡ verb.Resume → IsSearchEnd result → result ≡ answer.status → Says line held answer →

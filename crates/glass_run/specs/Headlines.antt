@@ -26,7 +26,7 @@ use Rattle.run_plans.specs.Instances.{IsInstanceOf}
 use Rattle.command_line.specs.Grammar.{Line, count_in, files_of, flag_in, line_of}
 use Rattle.run_plans.specs.Judgements.{IsFirstBroken, lawful_line, unlawful_line}
 use Rattle.run_search.specs.Plans.{AreReadable, AreTold, HasLoss, IsOfSearch, both_stores, ending, handled, search_lines, search_summary}
-use Rattle.run_search.specs.Resumptions.{HandlesOpen, IsGrown, IsResumed}
+use Rattle.run_search.specs.Resumptions.{IsResumed, ResumesEachBox}
 use Rattle.run_frame.specs.Runs.{LineRun, Prints, Stands, World}
 use Rattle.run_checks.specs.Said.{SayBoth}
 use Rattle.run_frame.specs.Texts.{Texts, limit_of, text_for, text_or_empty, texts_of}
@@ -250,8 +250,7 @@ pub record StoresResumed (line : Line) (held : Contents) (old new : World) (resu
 pub record HandlesOpenBoxes (line : Line) (held : Contents) (old new : World) : Type 0 where
   pub found : StoresJoined line held old new
   pub open found use *
-  pub grown : IsGrown b certificate joined
-  pub handles : HandlesOpen b (count_in line count.Budget) right.plan certificate joined grown
+  pub resumed : ResumesEachBox b (count_in line count.Budget) right.plan certificate joined plan
 
 -- the plan that PLAN says is lawful, if there is one, and the certificate that CERT says is not right for the box of all plans and for this
 -- plan's loss, or its floor is not shown; the first check that it fails is printed

@@ -134,7 +134,7 @@ freezes_plan line held old new result s =
     let more : ℕ = frozen_loss s.b s.plan (frozen_in line) in
     let whole : Forest = whole_of line s.plan s.tail in
     let c : Certificate = s.certificate in
-    let later : List ℕ = counted_lines (Some (neighbour_count whole)) (handled c) c.left in
+    let counted : List ℕ = counted_lines (Some (neighbour_count whole)) (handled c) c.left in
     let bound : Option ℕ = option_map (λ n. more + n) c.bound in
     record {
       texts = s.texts;
@@ -156,9 +156,9 @@ freezes_plan line held old new result s =
           subst (λ (o : Option ℕ). Reaches o (loss_of s.b other)) s.loss_is least;
       stored = (cert_text c, s.stored);
       prints = (
-        later,
-        subst (λ (how : List ℕ). Prints (ended_lines how (Some (loss_of s.b whole)) bound ++ later) old.paper new.paper) (freeze_word more (loss_of s.b whole) c result s.loss_is s.left_open (λ h. (s.exact h).0))
-            (subst (λ (o : Option ℕ). Prints (ended_lines (ending_word (raised more c)) o bound ++ later) old.paper new.paper) s.loss_is s.prints),
+        counted,
+        subst (λ (how : List ℕ). Prints (ended_lines how (Some (loss_of s.b whole)) bound ++ counted) old.paper new.paper) (freeze_word more (loss_of s.b whole) c result s.loss_is s.left_open (λ h. (s.exact h).0))
+            (subst (λ (o : Option ℕ). Prints (ended_lines (ending_word (raised more c)) o bound ++ counted) old.paper new.paper) s.loss_is s.prints),
       );
     }
 

@@ -5,18 +5,19 @@ use Rattle.std.proofs.lemmas.Bool.{and_parts, leb-true}
 use Rattle.std.proofs.lemmas.Option.{cond_some}
 use Rattle.std.specs.Char.{is_ascii_digit}
 use Rattle.std.specs.List.{list_all}
-use Rattle.std.specs.Prelude.{Option, Some, None, Result, Ok, Err, ℤ, pos, negsuc, nat_le, nat_lt, position}
+use Rattle.std.specs.Prelude.{Option, Some, None, Result, Ok, Err, ℤ, pos, negsuc, nat_le, nat_lt, position, ok_or, option_and_then, option_map}
+use Rattle.std.specs.Result.{result_ok}
 use Rattle.std.specs.Str.Parse.{digits_value}
 use Rattle.csv.specs.Records.{field_at}
 use Rattle.glass_base.specs.declared.bad_text.BadText.TheVariants as text
 use Rattle.cut_model.specs.declared.family.Row.{Row}
 use Rattle.csv_table.specs.declared.number.Decimal.{Decimal}
-use Rattle.csv_table.specs.Numbers.{around_point, decimal, digits, is_point, number_at, trimmed, without_point}
-use Rattle.csv_table.specs.Readings.{whole_number}
+use Rattle.csv_table.specs.Numbers.{around_point, decimal, digits, is_point, number_at, trimmed}
+use Rattle.csv_table.specs.Readings.{◌>>=◌, whole_number}
 use Rattle.csv_table.proofs.DigitFacts.{value_below}
 use Rattle.plan_csv.specs.declared.bad_plan.BadPlan.{BadPlan}
 use Rattle.plan_csv.specs.declared.bad_plan.BadPlan.TheVariants as bad
-use Rattle.plan_csv.specs.PlanRows.{◌>>=◌, item_type, number_in, or_refused, parent_in, row_in, signed_type, type_in, type_or_refused, type_text, whole_text, without_decimals}
+use Rattle.plan_csv.specs.PlanRows.{number_in, parent_in, row_in, signed_type, type_in, type_text, whole_text}
 use Rattle.plan_csv.proofs.WrittenNumbers.{IsParent, IsRowInRange, IsType}
 use Rattle.glass_base.specs.declared.limits.TheConstants.{MOST_NUMBER, MOST_SIDE}
 
@@ -26,12 +27,12 @@ read_behind (Ok y) f z h = (y, refl, h)
 read_behind (Err e) f z h = cc h
 
 -- a number of a column, from what its field says
-whole_at_most : (row column most n : ℕ) (said : Option Decimal) → or_refused row column (whole_number row column most said) ≡ Ok n → n ≤ most
+whole_at_most : (row column most n : ℕ) (said : Option Decimal) → ok_or (result_ok (whole_number row column most said)) (bad.Number row column) ≡ Ok n → n ≤ most
 whole_at_most row column most n None h = cc h
 whole_at_most row column most n (Some d) h = by (d.millionths == 0) (nat_le d.whole most) refl h
   where
     by : (exact small : Bool) → nat_le d.whole most ≡ small
-        → or_refused row column (if exact then (if small then Ok d.whole else Err (text.Range row column)) else Err (text.Number row column)) ≡ Ok n → n ≤ most
+        → ok_or (result_ok (if exact then (if small then Ok d.whole else Err (text.Range row column)) else Err (text.Number row column))) (bad.Number row column) ≡ Ok n → n ≤ most
     by true true le k = let same : d.whole ≡ n = cc k in omega (arith, leb-true d.whole most le)
     by true false le k = cc k
     by false small le k = cc k
@@ -51,18 +52,22 @@ digits_most text n h =
     let power : 10 ^ length text ≤ 10 ^ 9 = pow-le-pow_right (omega arith) short in
     omega (arith, value_below text a.1, power, k.1)
 
+-- the number without decimals that is 0 behind its point
+abbrev without_decimals : Decimal → Option ℕ
+without_decimals n = if n.millionths == 0 then Some n.whole else None
+
 -- a whole number of one to nine digits, with decimals that are 0 or without
-whole_most : (text : List ℕ) (point : Option ℕ) (n : ℕ) → without_decimals (number_at text point) ≡ Some n → n ≤ MOST_NUMBER
+whole_most : (text : List ℕ) (point : Option ℕ) (n : ℕ) → option_and_then without_decimals (number_at text point) ≡ Some n → n ≤ MOST_NUMBER
 whole_most text None n h = by (digits 9 text) (digits_most text) h
   where
-    by : (said : Option ℕ) → ((m : ℕ) → said ≡ Some m → m ≤ MOST_NUMBER) → without_decimals (without_point said) ≡ Some n → n ≤ MOST_NUMBER
+    by : (said : Option ℕ) → ((m : ℕ) → said ≡ Some m → m ≤ MOST_NUMBER) → option_and_then without_decimals (option_map (λ m. record { whole = m; millionths = 0 }) said) ≡ Some n → n ≤ MOST_NUMBER
     by None small k = cc k
     by (Some m) small k = let same : m ≡ n = cc k in omega (arith, small m refl)
 whole_most text (Some point) n h =
     by (digits 9 (take point text)) (digits 6 (drop (point + 1) text)) (digits_most (take point text)) h
   where
     by : (said behind : Option ℕ) → ((m : ℕ) → said ≡ Some m → m ≤ MOST_NUMBER)
-        → without_decimals (around_point (length (drop (point + 1) text)) said behind) ≡ Some n → n ≤ MOST_NUMBER
+        → option_and_then without_decimals (around_point (length (drop (point + 1) text)) said behind) ≡ Some n → n ≤ MOST_NUMBER
     by None behind small k = cc k
     by (Some m) None small k = cc k
     by (Some m) (Some f) small k =
@@ -70,7 +75,7 @@ whole_most text (Some point) n h =
         omega (arith, small m refl, same.1)
 
 -- a type without a minus sign
-item_type_is : (said : Option ℕ) (kind : ℤ) → ((m : ℕ) → said ≡ Some m → m ≤ MOST_NUMBER) → item_type said ≡ Some kind → IsType kind
+item_type_is : (said : Option ℕ) (kind : ℤ) → ((m : ℕ) → said ≡ Some m → m ≤ MOST_NUMBER) → option_map (λ n. pos n) said ≡ Some kind → IsType kind
 item_type_is None kind small h = cc h
 item_type_is (Some m) kind small h = let same : pos m ≡ kind = cc h in subst IsType same (small m refl)
 
@@ -87,7 +92,7 @@ type_text_is : (text : List ℕ) (kind : ℤ) → type_text text ≡ Some kind �
 type_text_is [] kind h = cc h
 type_text_is (byte ∷ text) kind h = by (byte == 45) h
   where
-    by : (b : Bool) → (if b then signed_type (whole_text text) else item_type (whole_text (byte ∷ text))) ≡ Some kind → IsType kind
+    by : (b : Bool) → (if b then signed_type (whole_text text) else option_map (λ n. pos n) (whole_text (byte ∷ text))) ≡ Some kind → IsType kind
     by true k = signed_type_is (whole_text text) kind k
     by false k = item_type_is (whole_text (byte ∷ text)) kind (whole_most (byte ∷ text) (position is_point (byte ∷ text))) k
 
@@ -96,7 +101,7 @@ type_is : (row : ℕ) (kind : ℤ) (field : Option (List ℕ)) → type_in row f
 type_is row kind None h = cc h
 type_is row kind (Some field) h = by (type_text (trimmed field)) (type_text_is (trimmed field) kind) h
   where
-    by : (said : Option ℤ) → (said ≡ Some kind → IsType kind) → type_or_refused row said ≡ Ok kind → IsType kind
+    by : (said : Option ℤ) → (said ≡ Some kind → IsType kind) → ok_or said (bad.Number row 7) ≡ Ok kind → IsType kind
     by None small k = cc k
     by (Some z) small k = let same : z ≡ kind = cc k in small (ap Some same)
 

@@ -6,7 +6,8 @@ use Rattle.cut_model.specs.declared.family.Row.{Row}
 use Rattle.cut_model.specs.Tree.{Forest}
 use Rattle.plan_csv.specs.declared.bad_plan.BadPlan.{BadPlan}
 use Rattle.plan_csv.specs.declared.bad_plan.BadPlan.TheVariants as bad
-use Rattle.plan_csv.specs.PlanRows.{◌>>=◌, row_in}
+use Rattle.csv_table.specs.Readings.{◌>>=◌}
+use Rattle.plan_csv.specs.PlanRows.{row_in}
 use Rattle.plan_csv.specs.PlanTexts.{or_refusal, plan_said, row_refusal, rows_behind, rows_said, tree_of}
 use Rattle.plan_csv.specs.inner.ReadNodes.{Refused, rows_with}
 

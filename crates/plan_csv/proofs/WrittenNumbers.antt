@@ -4,12 +4,12 @@ use Rattle.std.proofs.lemmas.Bool.{and_parts, le-leb}
 use Rattle.std.specs.Char.{is_ascii_digit}
 use Rattle.std.specs.Fmt.{decimal, signed_decimal}
 use Rattle.std.specs.List.{list_all}
-use Rattle.std.specs.Prelude.{ℤ, pos, negsuc, Ok}
+use Rattle.std.specs.Prelude.{ℤ, pos, negsuc, Ok, option_map}
 use Rattle.csv.specs.Records.{field_at}
 use Rattle.cut_model.specs.declared.family.Row.{Row}
 use Rattle.csv_table.specs.Lines.{number_or_none}
 use Rattle.csv_table.proofs.DigitTexts.{blanks_in_digits, digit_other, digits_of_decimal, few_digits, number_of_decimal, trimmed_digits, trimmed_none}
-use Rattle.plan_csv.specs.PlanRows.{item_type, number_in, parent_in, row_in, type_in, type_text, whole_text}
+use Rattle.plan_csv.specs.PlanRows.{number_in, parent_in, row_in, type_in, type_text, whole_text}
 use Rattle.plan_csv.specs.Solutions.{row_fields}
 use Rattle.glass_base.specs.declared.limits.TheConstants.{MOST_NUMBER, MOST_SIDE}
 
@@ -23,7 +23,7 @@ whole_read : (n : ℕ) → n ≤ MOST_NUMBER → whole_text (decimal n) ≡ Some
 whole_read n h = rw (number_of_decimal n h) refl
 
 -- digits are the type of an item
-type_of_digits : (text : List ℕ) → list_all is_ascii_digit text ≡ true → 0 < length text → type_text text ≡ item_type (whole_text text)
+type_of_digits : (text : List ℕ) → list_all is_ascii_digit text ≡ true → 0 < length text → type_text text ≡ option_map (λ n. pos n) (whole_text text)
 type_of_digits [] h some = absurd (omega arith)
 type_of_digits (c ∷ text) h some =
     let k = and_parts (is_ascii_digit c) (list_all is_ascii_digit text) h in

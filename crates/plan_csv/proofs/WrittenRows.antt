@@ -11,7 +11,7 @@ use Rattle.csv_table.specs.Lines.{IsPlain, line_of, number_or_none}
 use Rattle.csv_table.specs.Rows.{table_rows}
 use Rattle.csv_table.proofs.DigitTexts.{digits_of_decimal, plain_digits}
 use Rattle.csv_table.proofs.PlainRows.{IsLine, no_mark, rows_of_lines}
-use Rattle.plan_csv.specs.PlanRows.{◌>>=◌}
+use Rattle.csv_table.specs.Readings.{◌>>=◌}
 use Rattle.plan_csv.specs.PlanTexts.{or_refusal, row_refusal, rows_behind}
 use Rattle.plan_csv.specs.Solutions.{header, row_fields, rows_text}
 use Rattle.plan_csv.specs.declared.bad_plan.BadPlan.{BadPlan}

@@ -14,10 +14,11 @@ use Rattle.cut_model.specs.Lawful.{plate_rows}
 use Rattle.cut_model.specs.Loss.{names_residual}
 use Rattle.cut_model.specs.Parents.{rows_in, sum_along}
 use Rattle.cut_model.specs.Tree.{Forest, nothing, neighbours, tree, count, is_branch, sort_named}
+use Rattle.csv_table.specs.Readings.{◌>>=◌}
 use Rattle.csv_table.specs.Rows.{table_rows}
 use Rattle.plan_csv.specs.declared.bad_plan.BadPlan.{BadPlan}
 use Rattle.plan_csv.specs.declared.bad_plan.BadPlan.TheVariants as bad
-use Rattle.plan_csv.specs.PlanRows.{◌>>=◌, row_in}
+use Rattle.plan_csv.specs.PlanRows.{row_in}
 use Rattle.glass_base.specs.declared.limits.TheConstants.{MOST_SIDE}
 
 -- a refusal, unless this holds

@@ -1,8 +1,8 @@
 //! The fields of a row of a solution text.
 
-ghost use Rattle.std.specs.Prelude.{◌≡◌, ◌<◌, ◌-◌, IfOk, IfSome};
+ghost use Rattle.std.specs.Prelude.{◌≡◌, ◌<◌, ◌-◌, IfOk, IfSome, option_map, pos};
 ghost use Rattle.csv.specs.Records.{field_at, fields_of};
-ghost use Rattle.plan_csv.specs.PlanRows.{item_type as item_type_of, number_in, parent_in, row_in, signed_type as signed_type_of, type_in, type_text, whole_text};
+ghost use Rattle.plan_csv.specs.PlanRows.{number_in, parent_in, row_in, signed_type as signed_type_of, type_in, type_text, whole_text};
 ghost use Rattle.cut_model.specs.Tree.{IsRowType};
 
 use crate::bad_plan::BadPlan;
@@ -43,7 +43,7 @@ fn whole_of(text: &[u8]) -> Option<u32>
 
 /// The type of an item of this number.
 fn item_type(number: Option<u32>) -> Option<i64>
-    ensures value { result ≡ item_type_of number }
+    ensures value { result ≡ option_map (λ n. pos n) number }
     ensures typed { IfSome result IsRowType }
 {
     match number {

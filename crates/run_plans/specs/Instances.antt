@@ -1,6 +1,7 @@
 -- The instance that the texts of a command say: its items are those of the batch; its defects those of a text, if there is one; its
 -- parameters those of the parameters file, or the challenge's; the widths of its plates those of the plates file, or the parameters'.
 use Rattle.std.specs.Prelude.{◌≡◌, ℕ, List, [], Option, Some, None, Result, Ok, Err}
+use Rattle.std.specs.Option.{option_map_or}
 use Rattle.glass_base.specs.BadInstance.{RefusesLists}
 use Rattle.glass_base.specs.Problem.{Problem, IsMadeOf}
 use Rattle.glass_base.specs.Sizes.{AreUsual}
@@ -22,8 +23,7 @@ abbrev pub items_said : Texts → Result (List Item) BadText
 items_said texts = items_of (text_or_empty texts role.Batch)
 
 abbrev pub defects_in : Option (List ℕ) → Result (List Defect) BadText
-defects_in None = Ok []
-defects_in (Some text) = defects_of text
+defects_in text = option_map_or defects_of text (Ok [])
 
 -- the challenge's parameters, or those of a text
 abbrev pub AreParams : Option (List ℕ) → Params → Type 0
@@ -36,8 +36,7 @@ RefusesParams None reason = ⊥
 RefusesParams (Some text) reason = RefusesSettings reason (settings_of text)
 
 abbrev pub widths_in : Params → Option (List ℕ) → Result (List ℕ) BadText
-widths_in params None = Ok (same_widths params)
-widths_in params (Some text) = widths_said params text
+widths_in params text = option_map_or (widths_said params) text (Ok (same_widths params))
 
 -- the items and defects that the texts say
 pub record SayLists (texts : Texts) (flaws : Option (List ℕ)) (items : List Item) (defects : List Defect) : Type 0 where

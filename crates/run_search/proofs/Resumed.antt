@@ -161,12 +161,10 @@ module _ (b : Problem) (budget to_beat : ℕ) (plan : Option Forest) (c named : 
       let good = subst (λ (o : Option ℕ). IsGood b (root_ranges b) o j) (sym loss) joined_good in
       record {
         made = record {
-          grown = record {
-            named = named;
-            names = s.names;
-            parts = parts;
-            joined = subst (λ (o : Option ℕ). IsJoined named parts o j) (sym loss) s.joined;
-          };
+          named = named;
+          names = s.names;
+          parts = parts;
+          joined = subst (λ (o : Option ℕ). IsJoined named parts o j) (sym loss) s.joined;
           good = good;
           version = joined_version named j s.named_version s.joined;
           plan_is = subst (λ (o : Option ℕ). HasLoss b o best) (sym loss) has;
@@ -178,13 +176,11 @@ module _ (b : Problem) (budget to_beat : ℕ) (plan : Option Forest) (c named : 
           in_budget = omega (arith, all_handled, s.lawful.in_budget);
           spent = λ some. all_handled ∙ ap (λ (n : ℕ). handled c + n) (s.lawful.spent (left_some h.left.items (omega (arith, some, s.joined.left_is, s.left))));
         };
-        handles = record {
-          to_beat = to_beat;
-          searched = s.searched;
-          no_greater = at_most;
-          history = h;
-          lawful = subst (λ (n : ℕ). IsLawful b (course_from (left_boxes_of b s.names.good.tree) to_beat budget n) h) (sym s.joined.floor_is) s.lawful;
-          handled_is = all_handled;
-          left_is = omega (arith, s.joined.left_is, s.left);
-        };
+        to_beat = to_beat;
+        searched = s.searched;
+        no_greater = at_most;
+        history = h;
+        lawful = subst (λ (n : ℕ). IsLawful b (course_from (left_boxes_of b s.names.good.tree) to_beat budget n) h) (sym s.joined.floor_is) s.lawful;
+        handled_is = all_handled;
+        left_is = omega (arith, s.joined.left_is, s.left);
       }

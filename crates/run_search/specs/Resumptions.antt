@@ -21,17 +21,14 @@ use Rattle.run_search.specs.Plans.{HasLoss, course_from, handled, most_work, pla
 use Rattle.run_checks.specs.Said.{SayBoth}
 use Rattle.run_frame.specs.Texts.{limit_of}
 
--- the tree of the second certificate is that of the one that names the causes of the first, with the tree of a part in the place of each open node
-pub record IsGrown (b : Problem) (c j : Certificate) : Type 0 where
+-- what a search of this budget made of a certificate, which was right for the loss of this plan, if there is one: a joined certificate and the
+-- best plan
+pub record IsResumed (b : Problem) (budget : ℕ) (plan : Option Forest) (c j : Certificate) (best : Option Forest) : Type 0 where
+  -- its tree is that of the certificate that names the causes, with the tree of a part in the place of each open node
   pub named : Certificate
   pub names : IsConverted b c named
   pub parts : List Certificate
   pub joined : IsJoined named parts j.loss j
-
--- what a search of this budget made of a certificate, which was right for the loss of this plan, if there is one: a joined certificate and the
--- best plan
-pub record IsResumed (b : Problem) (budget : ℕ) (plan : Option Forest) (c j : Certificate) (best : Option Forest) : Type 0 where
-  pub grown : IsGrown b c j
   -- it is right for the box of all plans and for the loss of the best plan, which is no greater than that of the plan
   pub good : IsGood b (root_ranges b) j.loss j
   pub version : HasVersion j
@@ -47,22 +44,19 @@ pub record IsResumed (b : Problem) (budget : ℕ) (plan : Option Forest) (c j : 
   pub in_budget : handled j ≤ handled c + budget
   pub spent : 0 < j.left → handled j ≡ handled c + budget
 
--- each box that the certificate leaves open, and each of its parts, was handled once or is left open
-pub record HandlesOpen (b : Problem) (budget : ℕ) (plan : Option Forest) (c j : Certificate) (grown : IsGrown b c j) : Type 0 where
+-- and each box that the certificate leaves open, and each of its parts, was handled once or is left open
+pub record ResumesEachBox (b : Problem) (budget : ℕ) (plan : Option Forest) (c j : Certificate) (best : Option Forest) : Type 0 where
+  pub made : IsResumed b budget plan c j best
+  pub open made use *
   -- in the trees put in no box was split that is refuted, or whose bound reaches this loss; it is no greater than that of the plan
   pub to_beat : ℕ
-  pub searched : AreSearched b to_beat (left_boxes_of b grown.names.good.tree) grown.parts
+  pub searched : AreSearched b to_beat (left_boxes_of b names.good.tree) parts
   pub no_greater : IsAtMost (Some to_beat) (loss_in b plan)
   -- they are those of a lawful history of a search from the open boxes, in which each box was handled once or is left open
   pub history : History
-  pub lawful : IsLawfulHistory b (course_from (left_boxes_of b grown.names.good.tree) to_beat budget j.floor) history
+  pub lawful : IsLawfulHistory b (course_from (left_boxes_of b names.good.tree) to_beat budget j.floor) history
   pub handled_is : handled j ≡ handled c + length history.log.items
   pub left_is : j.left ≡ length history.left.items
-
--- so it is both
-pub record ResumesEachBox (b : Problem) (budget : ℕ) (plan : Option Forest) (c j : Certificate) (best : Option Forest) : Type 0 where
-  pub made : IsResumed b budget plan c j best
-  pub handles : HandlesOpen b budget plan c j made.grown
 
 -- the answer where the text of a joined certificate has more bytes than one that is read: nothing is stored
 abbrev pub too_long_to_read : Certificate → Answer

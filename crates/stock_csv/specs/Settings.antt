@@ -1,5 +1,6 @@
 -- The parameters that a parameters file says, or its first refusal.
-use Rattle.std.specs.Prelude.{◌≡◌, ◌==◌, ℕ, List, length, if◌then◌else◌, codes, fold, Option, Some, None, Result, Ok, Err}
+use Rattle.std.specs.Prelude.{◌≡◌, ◌==◌, ℕ, List, length, if◌then◌else◌, codes, fold, Option, Some, None, option_and_then, Result, Ok, Err}
+use Rattle.std.specs.Option.{option_map_or}
 use Rattle.std.specs.Str.{bytes_eq}
 use Rattle.csv.specs.Records.{field_at}
 use Rattle.glass_base.specs.Sizes.{AreSizes, RefusesSizes, usual_sizes}
@@ -28,8 +29,7 @@ parameter_named name =
 
 -- the parameter that a field names, between blanks
 abbrev pub parameter_in : Option (List ℕ) → Option Name
-parameter_in None = None
-parameter_in (Some field) = parameter_named (trimmed field)
+parameter_in field = option_and_then (λ name. parameter_named (trimmed name)) field
 
 -- a row of another name is ignored with its value
 abbrev pub setting : ℕ → Option Name → Option (List ℕ) → Result (Option Setting) BadText
@@ -52,8 +52,7 @@ set_to s Min2 n = record s { min2 = n }
 set_to s Waste n = record s { waste = n }
 
 abbrev pub set_by : Sizes → Option Setting → Sizes
-set_by s None = s
-set_by s (Some x) = set_to s x.name x.value
+set_by s said = option_map_or (λ (x : Setting). set_to s x.name x.value) said s
 
 -- the usual sizes with those that are set: of a repeated name the last row counts
 abbrev pub sizes_of : List (Option Setting) → Sizes

@@ -12,7 +12,8 @@ use Rattle.cut_model.specs.Tree.{Forest, IsRowType, nothing, sort_named}
 use Rattle.glass_base.specs.Problem.{Problem}
 use Rattle.plan_csv.specs.declared.bad_plan.BadPlan.{BadPlan}
 use Rattle.plan_csv.specs.declared.bad_plan.BadPlan.TheVariants as bad
-use Rattle.plan_csv.specs.PlanRows.{◌>>=◌, row_in}
+use Rattle.csv_table.specs.Readings.{◌>>=◌}
+use Rattle.plan_csv.specs.PlanRows.{row_in}
 use Rattle.plan_csv.specs.PlanTexts.{cell_refusal, filled_by, grown, lies, names_branch, or_refusal, row_refusal}
 use Rattle.plan_csv.specs.declared.nodes.Node.{Node}
 use Rattle.plan_csv.specs.declared.nodes.Nodes.{Nodes}

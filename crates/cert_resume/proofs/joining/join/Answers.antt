@@ -1,17 +1,17 @@
-use Rattle.std.proofs.Common.{◌≡◌, ◌+◌, ◌≤◌, List, ℕ, Option, map, refl, ap, ◌∙◌, sym, subst, fold, length}
+use Rattle.std.proofs.Common.{◌≡◌, ◌+◌, ◌≤◌, List, ℕ, Option, map, max, option_map, refl, ap, ◌∙◌, sym, subst, fold, length}
 use Rattle.std.specs.Prelude.{All, sum_by}
 use Rattle.cert_log.specs.declared.certificate.Certificate.{Certificate}
 use Rattle.cert_log.specs.declared.certificate.Node.{Node}
 use Rattle.cert_log.specs.Good.{IsVersion, IsVersionFor}
 use Rattle.cert_log.specs.Trees.{FitsVersion}
-use Rattle.cert_resume.specs.Joins.{IsJoined, bounds_of, filled, lesser_of, nodes_in, raised}
+use Rattle.cert_resume.specs.Joins.{IsJoined, bounds_of, filled, lesser_of, nodes_in}
 use Rattle.cert_resume.proofs.Filling.{fills_count, fills_version, low_floors}
 use Rattle.cert_resume.proofs.Grown.{keeps_right}
 use Rattle.cert_resume.proofs.joining.join.Goals as goal
 
 -- what is made of these nodes is what the certificate and the parts are joined to
 joined : (c : Certificate) (parts : List Certificate) (loss : Option ℕ) (j : Certificate) → IsVersion c.version c → 2 ≤ c.version → All (IsVersionFor c.floor) parts → j.version ≡ c.version → j.nodes.items ≡ filled c.nodes.items (nodes_in parts)
-    → j.loss ≡ loss → j.left ≡ sum_by (λ (p : Certificate). p.left) parts → j.floor ≡ c.floor → j.bound ≡ fold lesser_of loss (map (raised c.floor) (bounds_of parts)) → IsJoined c parts loss j
+    → j.loss ≡ loss → j.left ≡ sum_by (λ (p : Certificate). p.left) parts → j.floor ≡ c.floor → j.bound ≡ fold lesser_of loss (map (option_map (max c.floor)) (bounds_of parts)) → IsJoined c parts loss j
 joined c parts loss j version later versions is nodes loss_is left floor bound = record {
   version = (is, subst (All (FitsVersion c.version)) (sym nodes) (fills_version c parts later version versions), λ low. floor ∙ version.2 low);
   floor_is = floor;
@@ -27,7 +27,7 @@ returns-clause-joined c =
     (c.in_ok-nodes.ensures ∙ rw (c.as_slice.ensures, c.as_slice-2.ensures) refl) refl
     (c.all_left.ensures ∙ ap (λ (ps : List Certificate). sum_by (λ (p : Certificate). p.left) ps) c.as_slice-4.ensures)
     refl
-    (c.least_bound.ensures ∙ ap (λ (ps : List Certificate). fold lesser_of c.args.loss (map (raised c.args.cert.now.floor) (bounds_of ps))) c.as_slice-3.ensures)
+    (c.least_bound.ensures ∙ ap (λ (ps : List Certificate). fold lesser_of c.args.loss (map (option_map (max c.args.cert.now.floor)) (bounds_of ps))) c.as_slice-3.ensures)
 
 pub returns-clause-right : goal.returns-clause-right
 returns-clause-right c =
@@ -36,7 +36,7 @@ returns-clause-right c =
     (c.in_ok-nodes.ensures ∙ rw (c.as_slice.ensures, c.as_slice-2.ensures) refl) refl
     (c.all_left.ensures ∙ ap (λ (ps : List Certificate). sum_by (λ (p : Certificate). p.left) ps) c.as_slice-4.ensures)
     refl
-    (c.least_bound.ensures ∙ ap (λ (ps : List Certificate). fold lesser_of c.args.loss (map (raised c.args.cert.now.floor) (bounds_of ps))) c.as_slice-3.ensures))
+    (c.least_bound.ensures ∙ ap (λ (ps : List Certificate). fold lesser_of c.args.loss (map (option_map (max c.args.cert.now.floor)) (bounds_of ps))) c.as_slice-3.ensures))
 
 pub returns-clause-nodes : goal.returns-clause-nodes
 returns-clause-nodes c =
