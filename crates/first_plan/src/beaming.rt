@@ -46,13 +46,14 @@ pub(crate) fn loss_in(found: &Option<Found>) -> Option<u64>
     }
 }
 
-/// How many ticks of all the narrow beam has.
-fn narrow_part(ticks: u64) -> u64 {
+/// How many ticks of all the first beam has.
+fn first_part(ticks: u64) -> u64 {
     ticks / 16
 }
 
-/// What a narrow beam finds, where its trace has a step for each item and meets the rules. It takes a sixteenth of the ticks.
-pub(crate) fn narrow_plan(
+/// What the first beam finds, where its trace has a step for each item and meets the rules. It takes a sixteenth of the
+/// ticks.
+pub(crate) fn by_first_beam(
     alloc: Global,
     ground: Ground<'_>,
     beams: &Beams,
@@ -61,12 +62,13 @@ pub(crate) fn narrow_plan(
     ensures { IfOk result (λ found. IfSome found
         (λ found. IsComplete ground.entry.instance.now found.trace.steps.items)) }
 {
-    let found = beams.first(alloc, ground.instance, narrow_part(ticks))?;
+    let found = beams.first(alloc, ground.instance, first_part(ticks))?;
     Ok(checked(ground, found))
 }
 
-/// What a wide beam finds with the other ticks, where the narrow one lost so much, if its trace has a step for each item and meets the rules.
-pub(crate) fn wide_plan(
+/// What the second beam finds with the other ticks, where the first one lost so much, if its trace has a step for each
+/// item and meets the rules.
+pub(crate) fn by_second_beam(
     alloc: Global,
     ground: Ground<'_>,
     beams: &Beams,
@@ -76,25 +78,25 @@ pub(crate) fn wide_plan(
     ensures { IfOk result (λ found. IfSome found
         (λ trace. IsComplete ground.entry.instance.now trace.steps.items)) }
 {
-    let wide = ticks.saturating_sub(narrow_part(ticks));
-    let found = beams.second(alloc, ground.instance, lost, wide)?;
+    let left = ticks.saturating_sub(first_part(ticks));
+    let found = beams.second(alloc, ground.instance, lost, left)?;
     Ok(trace_in(checked(ground, found)))
 }
 
-/// The better of what a narrow beam and a wide one found, or the only one.
-fn better_plan(instance: &Instance, narrow: Option<Found>, wide: Option<Trace>) -> Option<Trace>
+/// The better of what the first beam and the second one found, or the only one.
+fn better_plan(instance: &Instance, first: Option<Found>, second: Option<Trace>) -> Option<Trace>
     requires problem { IsProblem instance.now }
-    requires narrow { IfSome narrow
+    requires first { IfSome first
         (λ found. IsComplete instance.now found.trace.steps.items) }
-    requires wide { IfSome wide (λ trace. IsComplete instance.now trace.steps.items) }
+    requires second { IfSome second (λ trace. IsComplete instance.now trace.steps.items) }
     ensures complete { IfSome result (λ trace. IsComplete instance.now trace.steps.items) }
-    ensures better { IsBetterOf instance.now (option_map (λ found. found.trace) narrow) wide
+    ensures better { IsBetterOf instance.now (option_map (λ found. found.trace) first) second
         result }
 {
-    better_of(instance, trace_in(narrow), wide)
+    better_of(instance, trace_in(first), second)
 }
 
-/// The better trace of two beams that has a step for each item and meets the rules, if they find one: of a narrow beam, and of a wide one.
+/// The better trace of two beams that has a step for each item and meets the rules, if they find one.
 pub(crate) fn beam_plan(
     alloc: Global,
     ground: Ground<'_>,
@@ -105,8 +107,8 @@ pub(crate) fn beam_plan(
         (λ trace. IsComplete ground.entry.instance.now trace.steps.items)) }
 {
     let beams = Beams::new(alloc, ground.instance)?;
-    let narrow = narrow_plan(alloc, ground, &beams, ticks)?;
-    let lost = loss_in(&narrow);
-    let wide = wide_plan(alloc, ground, &beams, lost, ticks)?;
-    Ok(better_plan(ground.instance, narrow, wide))
+    let first = by_first_beam(alloc, ground, &beams, ticks)?;
+    let lost = loss_in(&first);
+    let second = by_second_beam(alloc, ground, &beams, lost, ticks)?;
+    Ok(better_plan(ground.instance, first, second))
 }

@@ -12,7 +12,7 @@ ghost use Rattle.glass_base.specs.Problem.{IsProblem};
 ghost use Rattle.plan_draft.specs.Drafts.{HasNoDraft};
 ghost use Rattle.plan_trace.specs.Claims.{IsComplete};
 
-use crate::beaming::{loss_in, narrow_plan, trace_in, wide_plan};
+use crate::beaming::{by_first_beam, by_second_beam, loss_in, trace_in};
 use crate::choosing::{effort, first_of};
 use crate::comparing::{better_of, length_of_plan};
 use cut_model::Trace;
@@ -92,10 +92,10 @@ pub fn start_by_fronts<W: Watch>(
 {
     let ticks = effort(ground.instance.items().len());
     let beams = Beams::new(alloc, ground.instance)?;
-    let narrow = narrow_plan(alloc, ground, &beams, ticks)?;
-    let lost = loss_in(&narrow);
+    let found = by_first_beam(alloc, ground, &beams, ticks)?;
+    let lost = loss_in(&found);
     let drafted = draft(alloc, ground.instance, ground.map)?;
-    let first = first_of(ground.instance, trace_in(narrow), drafted);
+    let first = first_of(ground.instance, trace_in(found), drafted);
     let most = length_of_first(ground.instance, &first);
     let Shown { length, plan } = longest_with_plan(
         alloc,
@@ -109,7 +109,7 @@ pub fn start_by_fronts<W: Watch>(
     if length_of_first(ground.instance, &best) <= length {
         return Ok(Start { first: best, floor });
     }
-    let wide = wide_plan(alloc, ground, &beams, lost, ticks)?;
-    let first = improved(ground.instance, best, wide);
+    let other = by_second_beam(alloc, ground, &beams, lost, ticks)?;
+    let first = improved(ground.instance, best, other);
     Ok(Start { first, floor })
 }

@@ -1,4 +1,4 @@
-//! All nodes of a wide beam from which a candidate comes.
+//! All nodes of a beam from which a candidate comes.
 
 use crate::node::Node;
 use crate::pools::Pool;
@@ -15,22 +15,6 @@ pub struct Arena {
     pub nodes: Vec<Node>,
     /// How many there were after it was swept last.
     live: usize,
-}
-
-/// Marks a node's parent.
-pub fn mark_parent(marks: &mut Vec<bool>, node: &Node) {
-    if let Some(parent) = node.parent {
-        if let Some(mark) = marks.get_mut(parent as usize) {
-            *mark = true;
-        }
-    }
-}
-
-/// Gives a node's parent its new place.
-pub fn move_parent(places: &[u32], node: &mut Node) {
-    if let Some(parent) = node.parent {
-        node.parent = places.get(parent as usize).copied();
-    }
 }
 
 impl Arena {
@@ -53,12 +37,12 @@ impl Arena {
         for (place, mark) in marks.iter_mut().enumerate() {
             *mark = place >= first;
         }
-        next.mark_parents(&mut marks);
-        after.mark_parents(&mut marks);
+        next.mark_parents(marks.as_mut_slice());
+        after.mark_parents(marks.as_mut_slice());
         for place in (0..self.nodes.len()).rev() {
             let is_marked = marks.get(place).copied().unwrap_or(false);
             if let (true, Some(node)) = (is_marked, self.nodes.get(place)) {
-                mark_parent(&mut marks, node);
+                node.mark_parent(marks.as_mut_slice());
             }
         }
         Ok(marks)
@@ -72,7 +56,7 @@ impl Arena {
             places.push(kept)?;
             if let (true, Some(node)) = (*mark, self.nodes.get(place).copied()) {
                 let mut moved = node;
-                move_parent(places.as_slice(), &mut moved);
+                moved.move_parent(places.as_slice());
                 if let Some(seat) = self.nodes.get_mut(kept as usize) {
                     *seat = moved;
                 }
@@ -83,8 +67,8 @@ impl Arena {
         Ok(places)
     }
 
-    /// Drops the nodes from which no candidate comes, where there are many and twice as many as were left the last time. Those of this level and of the one before stay
-    /// together, since they are seated by their places.
+    /// Drops the nodes from which no candidate comes, where there are many and twice as many as were left the last
+    /// time. Those of this level and of the one before stay together, since they are seated by their places.
     pub fn sweep(
         &mut self,
         alloc: Global,

@@ -1,7 +1,8 @@
 //! What defects ask of the place of a new cell.
 
 use crate::measure::Length;
-use crate::scene::{Band, Cell, Reach, Rectangle, Scene};
+use crate::scene::Scene;
+use crate::shapes::{Band, Cell, Reach, Rectangle};
 use crate::sheet::Sheet;
 
 /// What a defect asks of a place.
@@ -80,7 +81,8 @@ fn demand_of_band(sheet: &Sheet, scene: &Scene, defect: &Rectangle, d: Length) -
     Demand::Nothing
 }
 
-/// What a defect of the band asks of the cells that the band has already. Where neither side is shifted they are lawful.
+/// What a defect of the band asks of the cells that the band has already. Where neither side is shifted they are
+/// lawful.
 fn demand_of_cells(scene: &Scene, defect: &Rectangle, reach: Reach) -> Demand {
     if reach.b <= scene.b && reach.d <= scene.d {
         return Demand::Nothing;

@@ -1,12 +1,13 @@
 //! The children of a node.
 
-use crate::fitting::{note_bottoms, note_lefts};
+use crate::fitting::{MOST_BEHIND, first_reach, note_behind};
 use crate::form::{Base, Form, Forms};
-use crate::keeping::{Keeper, Ledger};
+use crate::ledger::Ledger;
 use crate::measure::Length;
 use crate::node::{Begins, Candidate, Node};
-use crate::placing::place;
-use crate::scene::{Reach, Scene};
+use crate::placing::{least_key, place};
+use crate::scene::Scene;
+use crate::shapes::Reach;
 use crate::strip::{OpenStrip, ROOM, closed};
 use crate::task::Task;
 use glass_base::Memory;
@@ -17,24 +18,26 @@ use std::alloc::Global;
 pub struct Bench {
     forms: Forms,
     strip: OpenStrip,
-    attempt: Attempt,
+    attempts: Attempts,
 }
 
-/// How the attempts of a node went.
+/// How the attempts to put the forms of a node went.
 #[derive(Drop)]
-struct Attempt {
+struct Attempts {
+    /// Left sides of cells right of defects.
     tries: Vec<Length>,
-    /// Places of bands and strips behind defects.
+    /// Where bands begin above defects, or strips right of them.
     behind: Vec<Length>,
     /// Whether the plate takes a child.
     any: bool,
-    /// Whether no child was passed over for its waste.
+    /// Whether no form was passed over for its waste.
     hope: bool,
 }
 
 /// An empty strip from `x` on, on this plate, if there is such a plate.
 fn strip_from<'b>(
     task: &Task,
+    arena: &'b [Node],
     parent: Option<u32>,
     base: &'b Candidate,
     plate: u16,
@@ -42,6 +45,7 @@ fn strip_from<'b>(
 ) -> Option<Scene<'b>> {
     match task.sheet.plates.get(usize::from(plate)) {
         Some(sheet) => Some(Scene {
+            arena,
             parent,
             base,
             begins: Begins::Strip,
@@ -52,6 +56,7 @@ fn strip_from<'b>(
             b: x,
             c: Length::ZERO,
             d: Length::ZERO,
+            lax: Reach::ZERO,
             defects: &[],
             bands: &[],
             cells: &[],
@@ -60,201 +65,126 @@ fn strip_from<'b>(
     }
 }
 
-/// The furthest right side of a strip.
-fn furthest(task: &Task, scene: &Scene) -> Length {
-    scene.wide.min(scene.a + task.sheet.max1)
+/// Whether strip and band may reach so far.
+fn is_within(task: &Task, scene: &Scene, reach: Reach) -> bool {
+    let furthest = scene.wide.min(scene.a + task.sheet.max1);
+    reach.b <= furthest && reach.d <= task.sheet.high
 }
 
-/// Puts a form into the open band, behind its last cell.
-fn put_cell<K: Keeper>(
-    task: &Task,
-    ledger: &mut Ledger<K>,
-    scene: &Scene,
-    form: &mut Form,
-    attempt: &mut Attempt,
-) -> Result<(), Memory> {
-    let right = scene.base.node.right();
-    let least = Reach {
-        b: scene.b.max(right + form.width),
-        d: scene.d.max(scene.c + form.height),
-    };
-    if least.b > furthest(task, scene) || least.d > task.sheet.high {
-        return Ok(());
+/// Whether a cell leaves strip and band as they are, so that it needs no looser place: a cell that begins a band
+/// leaves the strip.
+fn is_snug(scene: &Scene, reach: Reach) -> bool {
+    match scene.begins {
+        Begins::Cell => reach.b == scene.b && reach.d == scene.d,
+        Begins::Plate | Begins::Strip | Begins::Band => reach.b == scene.b,
     }
-    if ledger.kept.is_late(task, scene, form, right, least) {
-        attempt.hope = false;
-        return Ok(());
-    }
-    let found = place(task, ledger, scene, form, right, least, &mut attempt.tries)?;
-    if let Some(reach) = found {
-        attempt.any = true;
-        form.done = !task.guide.loose && reach.b == scene.b && reach.d == scene.d;
-    }
-    Ok(())
 }
 
-/// Puts a form into a new band over the open one.
-fn put_band<K: Keeper>(
-    task: &Task,
-    ledger: &mut Ledger<K>,
-    scene: &Scene,
-    form: &mut Form,
-    attempt: &mut Attempt,
-) -> Result<(), Memory> {
-    let high = form.height.max(task.sheet.min2);
-    let least = Reach {
-        b: scene.b.max(scene.a + form.width),
-        d: scene.c + high,
-    };
-    if form.done || least.b > furthest(task, scene) || least.d > task.sheet.high {
-        return Ok(());
-    }
-    if ledger.kept.is_late(task, scene, form, scene.a, least) {
-        attempt.hope = false;
-        return Ok(());
-    }
-    let found = place(
-        task,
-        ledger,
-        scene,
-        form,
-        scene.a,
-        least,
-        &mut attempt.tries,
-    )?;
-    if let Some(reach) = found {
-        attempt.any = true;
-        form.done = !task.guide.loose && reach.b == scene.b;
-    }
-    if task.guide.more && found != Some(least) {
-        return put_bands_behind(task, ledger, scene, form, high, attempt);
-    }
-    Ok(())
-}
-
-/// Puts a form into new bands whose bottoms are above defects.
-fn put_bands_behind<K: Keeper>(
-    task: &Task,
-    ledger: &mut Ledger<K>,
-    scene: &Scene,
-    form: &Form,
-    high: Length,
-    attempt: &mut Attempt,
-) -> Result<(), Memory> {
-    note_bottoms(task.sheet, scene, scene.c, &mut attempt.behind)?;
-    for bottom in &attempt.behind {
-        let least = Reach {
+/// How far strip and band reach at the least with a form that is put behind a defect. A band is to leave the strip as
+/// it is.
+fn reach_behind(task: &Task, scene: &Scene, form: &Form) -> Reach {
+    let reach = first_reach(task.sheet, scene, &form.cell(scene.left(), false));
+    match scene.begins {
+        Begins::Band => Reach {
             b: scene.b,
-            d: *bottom + high,
-        };
-        if least.d <= task.sheet.high {
-            let over = Scene {
-                c: *bottom,
-                d: *bottom,
-                ..*scene
+            ..reach
+        },
+        Begins::Plate | Begins::Strip | Begins::Cell => reach,
+    }
+}
+
+impl Attempts {
+    /// Puts a form where strip and band reach as far as `least` at the least, or around the defects that hinder it.
+    fn place(
+        &mut self,
+        task: &Task,
+        ledger: &mut Ledger,
+        scene: &Scene,
+        form: &Form,
+        least: Reach,
+    ) -> Result<Option<Reach>, Memory> {
+        let e = scene.left();
+        let found = place(task, ledger, scene, form, e, least, &mut self.tries)?;
+        if found.is_some() {
+            self.any = true;
+        }
+        Ok(found)
+    }
+
+    /// Puts a form into new bands above defects, or into new strips right of them.
+    fn put_behind(
+        &mut self,
+        task: &Task,
+        ledger: &mut Ledger,
+        scene: &Scene,
+        form: &Form,
+    ) -> Result<(), Memory> {
+        note_behind(task.sheet, scene, &mut self.behind)?;
+        for number in 0..MOST_BEHIND {
+            let Some(side) = self.behind.get(number).copied() else {
+                return Ok(());
             };
-            let found = place(
-                task,
-                ledger,
-                &over,
-                form,
-                scene.a,
-                least,
-                &mut attempt.tries,
-            )?;
-            if found.is_some() {
-                attempt.any = true;
+            let behind = scene.begun_at(side);
+            let least = reach_behind(task, &behind, form);
+            if least.b <= scene.wide && least.d <= task.sheet.high {
+                self.place(task, ledger, &behind, form, least)?;
             }
         }
+        Ok(())
     }
-    Ok(())
-}
 
-/// How far a new strip and its band reach at the least for a form.
-fn strip_reach(task: &Task, scene: &Scene, form: &Form) -> Reach {
-    Reach {
-        b: scene.a + form.width.max(task.sheet.min1),
-        d: form.height.max(task.sheet.min2),
-    }
-}
-
-/// Whether a new strip is wide enough for a form that is not done.
-fn has_strip(task: &Task, scene: &Scene, form: &Form) -> bool {
-    !form.done && strip_reach(task, scene, form).b <= scene.wide
-}
-
-/// Whether so much is lost left of a new strip that a form is of no use there.
-fn is_strip_late<K: Keeper>(task: &Task, kept: &K, scene: &Scene, form: &Form) -> bool {
-    let least = strip_reach(task, scene, form);
-    kept.is_late(task, scene, form, scene.a, least)
-}
-
-/// Puts a form into a new strip.
-fn put_strip<K: Keeper>(
-    task: &Task,
-    ledger: &mut Ledger<K>,
-    scene: &Scene,
-    form: &Form,
-    attempt: &mut Attempt,
-) -> Result<(), Memory> {
-    if !has_strip(task, scene, form) {
-        return Ok(());
-    }
-    if is_strip_late(task, &ledger.kept, scene, form) {
-        attempt.hope = false;
-        return Ok(());
-    }
-    let least = strip_reach(task, scene, form);
-    let found = place(
-        task,
-        ledger,
-        scene,
-        form,
-        scene.a,
-        least,
-        &mut attempt.tries,
-    )?;
-    if found.is_some() {
-        attempt.any = true;
-    }
-    if task.guide.more && found != Some(least) {
-        return put_strips_behind(task, ledger, scene, form, attempt);
-    }
-    Ok(())
-}
-
-/// Puts a form into new strips whose left sides are right of defects.
-fn put_strips_behind<K: Keeper>(
-    task: &Task,
-    ledger: &mut Ledger<K>,
-    scene: &Scene,
-    form: &Form,
-    attempt: &mut Attempt,
-) -> Result<(), Memory> {
-    note_lefts(task.sheet, scene, scene.a, &mut attempt.behind)?;
-    for left in &attempt.behind {
-        let right = Scene {
-            a: *left,
-            b: *left,
-            ..*scene
-        };
-        let least = strip_reach(task, &right, form);
-        if least.b <= scene.wide {
-            let found = place(task, ledger, &right, form, *left, least, &mut attempt.tries)?;
-            if found.is_some() {
-                attempt.any = true;
-            }
+    /// Puts a form that has no snug place yet.
+    fn put(
+        &mut self,
+        task: &Task,
+        ledger: &mut Ledger,
+        scene: &Scene,
+        form: &mut Form,
+    ) -> Result<(), Memory> {
+        if form.done {
+            return Ok(());
         }
+        let e = scene.left();
+        let least = first_reach(task.sheet, scene, &form.cell(e, false));
+        if !is_within(task, scene, least) {
+            return Ok(());
+        }
+        if least_key(task, scene, form, e, least) >= form.limit {
+            self.hope = false;
+            return Ok(());
+        }
+        let found = self.place(task, ledger, scene, form, least)?;
+        if let Some(reach) = found {
+            form.done = !task.guide.loose && is_snug(scene, reach);
+        }
+        if task.guide.more && found != Some(least) && scene.begins.is_band() {
+            return self.put_behind(task, ledger, scene, form);
+        }
+        Ok(())
     }
-    Ok(())
+
+    /// Puts each of these forms.
+    fn put_each(
+        &mut self,
+        task: &Task,
+        ledger: &mut Ledger,
+        scene: &Scene,
+        forms: &mut [Form],
+    ) -> Result<(), Memory> {
+        for form in forms.iter_mut() {
+            self.put(task, ledger, scene, form)?;
+        }
+        Ok(())
+    }
 }
 
 impl Bench {
+    /// A bench on which no form is wider than `widest`.
     pub fn new(alloc: Global, widest: Length) -> Result<Bench, Memory> {
         Ok(Bench {
             forms: Forms::new(alloc, widest)?,
             strip: OpenStrip::new(alloc)?,
-            attempt: Attempt {
+            attempts: Attempts {
                 tries: Vec::with_capacity(alloc, ROOM)?,
                 behind: Vec::with_capacity(alloc, ROOM)?,
                 any: false,
@@ -263,51 +193,53 @@ impl Bench {
         })
     }
 
-    /// Offers the children of a node: cells in its band, bands in its strip, strips on its plate, and where none of these finds
-    /// a place and none was passed over, strips on the next plate.
-    pub fn expand<K: Keeper>(
+    /// Offers the children of a node: cells in its band, bands in its strip, strips on its plate, and where none of
+    /// these finds a place and none was passed over, strips on the next plate.
+    pub fn expand(
         &mut self,
         task: &Task,
-        ledger: &mut Ledger<K>,
+        ledger: &mut Ledger,
         arena: &[Node],
         parent: Option<u32>,
         base: &Base,
     ) -> Result<(), Memory> {
-        self.forms.note(task, &ledger.kept, base)?;
+        self.forms.note(task, ledger, base)?;
         let forms = self.forms.list.len() as u64;
-        ledger.ticks.spend(ledger.kept.ticks_for(forms));
-        self.attempt.any = false;
-        self.attempt.hope = true;
+        ledger.ticks.spend(forms.wrapping_add(40));
+        self.attempts.any = false;
+        self.attempts.hope = true;
         let mut next = 0;
         if parent.is_some() {
             let node = &base.candidate.node;
             if let Some(open) = strip_from(
                 task,
+                arena,
                 parent,
                 base.candidate,
                 node.plate,
                 node.b.into(),
             ) {
-                self.stay(task, ledger, arena, &open)?;
+                self.stay(task, ledger, &open)?;
             }
             next = node.plate.saturating_add(1);
         }
-        if self.attempt.any || !self.attempt.hope {
+        if self.attempts.any || !self.attempts.hope {
             return Ok(());
         }
-        self.begin_plate(task, ledger, parent, base, next)
+        self.begin_plate(task, ledger, arena, parent, base, next)
     }
 
     /// Offers strips on a plate that a node begins.
-    fn begin_plate<K: Keeper>(
+    fn begin_plate(
         &mut self,
         task: &Task,
-        ledger: &mut Ledger<K>,
+        ledger: &mut Ledger,
+        arena: &[Node],
         parent: Option<u32>,
         base: &Base,
         plate: u16,
     ) -> Result<(), Memory> {
-        match strip_from(task, parent, base.candidate, plate, Length::ZERO) {
+        match strip_from(task, arena, parent, base.candidate, plate, Length::ZERO) {
             Some(strip) => {
                 let begun = Scene {
                     begins: Begins::Plate,
@@ -320,107 +252,82 @@ impl Bench {
     }
 
     /// Offers the children on a node's own plate; `next` is the strip beside its own.
-    fn stay<K: Keeper>(
-        &mut self,
-        task: &Task,
-        ledger: &mut Ledger<K>,
-        arena: &[Node],
-        next: &Scene,
-    ) -> Result<(), Memory> {
+    fn stay(&mut self, task: &Task, ledger: &mut Ledger, next: &Scene) -> Result<(), Memory> {
         let node = &next.base.node;
         let left = Length::from(node.a);
         let right = left + task.sheet.max1;
-        self.strip.note(arena, node)?;
+        self.strip.note(next.arena, node)?;
         self.strip
             .note_defects(task.sheet, node.plate, left, right, &mut ledger.ticks)?;
         self.put_cells(task, ledger, next)?;
         self.put_bands(task, ledger, next)?;
-        self.put_strips(task, ledger, next)
+        let strip = Scene {
+            lax: Reach {
+                b: self.strip.lax_b(task.sheet, node),
+                d: Length::ZERO,
+            },
+            ..*next
+        };
+        self.put_strips(task, ledger, &strip)
     }
 
     /// Offers cells in the open band.
-    fn put_cells<K: Keeper>(
-        &mut self,
-        task: &Task,
-        ledger: &mut Ledger<K>,
-        next: &Scene,
-    ) -> Result<(), Memory> {
+    fn put_cells(&mut self, task: &Task, ledger: &mut Ledger, next: &Scene) -> Result<(), Memory> {
         let node = &next.base.node;
         let scene = Scene {
             begins: Begins::Cell,
             a: node.a.into(),
             c: node.c.into(),
             d: node.d.into(),
+            lax: node.lax(),
             defects: self.strip.defects.as_slice(),
             bands: closed(self.strip.bands.as_slice()),
             cells: self.strip.cells.as_slice(),
             ..*next
         };
-        for form in self.forms.list.iter_mut() {
-            put_cell(task, ledger, &scene, form, &mut self.attempt)?;
-        }
-        Ok(())
+        let forms = self.forms.list.as_mut_slice();
+        self.attempts.put_each(task, ledger, &scene, forms)
     }
 
     /// Offers bands in the open strip.
-    fn put_bands<K: Keeper>(
-        &mut self,
-        task: &Task,
-        ledger: &mut Ledger<K>,
-        next: &Scene,
-    ) -> Result<(), Memory> {
+    fn put_bands(&mut self, task: &Task, ledger: &mut Ledger, next: &Scene) -> Result<(), Memory> {
         let node = &next.base.node;
         let scene = Scene {
             begins: Begins::Band,
             a: node.a.into(),
             c: node.d.into(),
             d: node.d.into(),
+            lax: Reach {
+                b: node.lax_b.into(),
+                d: self.strip.lax_d(node),
+            },
             defects: self.strip.defects.as_slice(),
             bands: self.strip.bands.as_slice(),
             ..*next
         };
-        for form in self.forms.list.iter_mut() {
-            put_band(task, ledger, &scene, form, &mut self.attempt)?;
-        }
-        Ok(())
-    }
-
-    /// Whether the defects of a new strip are to be looked at: some form is to be tried there, or they are looked at anyway.
-    fn wants_strip<K: Keeper>(&self, task: &Task, kept: &K, strip: &Scene) -> bool {
-        if kept.looks_at_idle_strips() {
-            return true;
-        }
-        for form in &self.forms.list {
-            if has_strip(task, strip, form) && !is_strip_late(task, kept, strip, form) {
-                return true;
-            }
-        }
-        false
+        let forms = self.forms.list.as_mut_slice();
+        self.attempts.put_each(task, ledger, &scene, forms)
     }
 
     /// Offers the first cells of a new strip.
-    fn put_strips<K: Keeper>(
+    fn put_strips(
         &mut self,
         task: &Task,
-        ledger: &mut Ledger<K>,
+        ledger: &mut Ledger,
         strip: &Scene,
     ) -> Result<(), Memory> {
-        if self.wants_strip(task, &ledger.kept, strip) {
-            self.strip.note_defects(
-                task.sheet,
-                strip.plate,
-                strip.a,
-                strip.wide,
-                &mut ledger.ticks,
-            )?;
-        }
+        self.strip.note_defects(
+            task.sheet,
+            strip.plate,
+            strip.a,
+            strip.wide,
+            &mut ledger.ticks,
+        )?;
         let scene = Scene {
             defects: self.strip.defects.as_slice(),
             ..*strip
         };
-        for form in &self.forms.list {
-            put_strip(task, ledger, &scene, form, &mut self.attempt)?;
-        }
-        Ok(())
+        let forms = self.forms.list.as_mut_slice();
+        self.attempts.put_each(task, ledger, &scene, forms)
     }
 }

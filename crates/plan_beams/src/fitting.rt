@@ -1,9 +1,11 @@
 //! The least strip and band in which a cell stands lawfully.
 
 use crate::demands::{Demand, first_demand};
-use crate::gaps::{ROUNDS, least_right, least_top};
+use crate::gaps::{ROUNDS, lack, least_right, least_top};
 use crate::measure::Length;
-use crate::scene::{Cell, Reach, Scene};
+use crate::node::Begins;
+use crate::scene::Scene;
+use crate::shapes::{Cell, Reach};
 use crate::sheet::Sheet;
 use crate::ticks::Ticks;
 use glass_base::Memory;
@@ -11,11 +13,11 @@ use glass_base::Memory;
 /// At most so many left sides are tried where a defect hinders a cell.
 const MOST_TRIES: usize = 8;
 
-/// At most so many places behind defects.
-const MOST_BEHIND: usize = 3;
+/// At most so many places of a band or strip behind defects.
+pub const MOST_BEHIND: usize = 3;
 
-/// How far strip and band reach at least, before gaps and defects are looked at.
-fn first_reach(sheet: &Sheet, scene: &Scene, cell: &Cell) -> Reach {
+/// How far strip and band reach at least with a cell, before gaps and defects are looked at.
+pub fn first_reach(sheet: &Sheet, scene: &Scene, cell: &Cell) -> Reach {
     let lift = if cell.lifted {
         sheet.waste
     } else {
@@ -30,7 +32,32 @@ fn first_reach(sheet: &Sheet, scene: &Scene, cell: &Cell) -> Reach {
     }
 }
 
-/// The least sides of strip and band with which the cell stands lawfully, if there are some.
+/// Whether a defect may stand in the way of what moves up where too little is left over the band.
+fn is_tight_above(sheet: &Sheet, scene: &Scene, reach: Reach) -> bool {
+    lack(sheet, reach.d, sheet.high) > Length::ZERO
+        && scene.defects.iter().any(|defect| {
+            defect.x0 < reach.b && scene.a < defect.x1 && scene.lax.d < defect.y1
+        })
+}
+
+/// Whether a defect may stand in the way of what moves right where too little is left behind the strip.
+fn is_tight_right(sheet: &Sheet, scene: &Scene, reach: Reach) -> bool {
+    if lack(sheet, reach.b, scene.wide) == Length::ZERO {
+        return false;
+    }
+    match sheet.plates.get(usize::from(scene.plate)) {
+        Some(plate) => plate.defects.iter().any(|defect| scene.lax.b < defect.x1),
+        None => false,
+    }
+}
+
+/// Whether a cell that stands lawfully in what is so far may not do so once bands and strips are moved.
+pub fn is_tight(sheet: &Sheet, scene: &Scene, reach: Reach) -> bool {
+    is_tight_above(sheet, scene, reach) || is_tight_right(sheet, scene, reach)
+}
+
+/// The least sides of strip and band with which the cell stands lawfully, if there are some. Where a band or a strip
+/// before may reach further, too little may be left over the band or behind the strip.
 pub fn fit(sheet: &Sheet, scene: &Scene, cell: &Cell, ticks: &mut Ticks) -> Option<Reach> {
     let mut reach = first_reach(sheet, scene, cell);
     ticks.spend(2);
@@ -46,6 +73,13 @@ pub fn fit(sheet: &Sheet, scene: &Scene, cell: &Cell, ticks: &mut Ticks) -> Opti
         }
     }
     None
+}
+
+/// Leaves the first few of these places, each once.
+fn keep_first(places: &mut Vec<Length>, most: usize) {
+    places.sort_unstable();
+    places.dedup();
+    places.truncate(most);
 }
 
 /// Notes the left sides that defects give a piece of this width which can't begin at `x`, from left to right.
@@ -65,47 +99,23 @@ pub fn note_tries(
             tries.push(least)?;
         }
     }
-    tries.sort_unstable();
-    tries.dedup();
-    tries.truncate(MOST_TRIES);
+    keep_first(tries, MOST_TRIES);
     Ok(())
 }
 
-/// Notes the first few bottoms of a band above the defects that reach above `bottom`, from the lowest on: at the least with a waste under them.
-pub fn note_bottoms(
-    sheet: &Sheet,
-    scene: &Scene,
-    bottom: Length,
-    bottoms: &mut Vec<Length>,
-) -> Result<(), Memory> {
-    bottoms.clear();
+/// Notes the first few places behind defects where a band or a strip may begin in place of where the scene has it: at
+/// the least with a waste before them. No defect is cut by the left side of a strip.
+pub fn note_behind(sheet: &Sheet, scene: &Scene, behind: &mut Vec<Length>) -> Result<(), Memory> {
+    behind.clear();
+    let is_band = matches!(scene.begins, Begins::Band);
+    let begin = if is_band { scene.c } else { scene.a };
     for defect in scene.defects {
-        if bottom < defect.y1 {
-            bottoms.push(defect.y1.max(bottom + sheet.waste))?;
+        let end = if is_band { defect.y1 } else { defect.x1 };
+        let side = end.max(begin + sheet.waste);
+        if begin < end && (is_band || !scene.is_crossed_x(side)) {
+            behind.push(side)?;
         }
     }
-    bottoms.sort_unstable();
-    bottoms.dedup();
-    bottoms.truncate(MOST_BEHIND);
-    Ok(())
-}
-
-/// Notes the first few left sides of a strip right of the defects that reach right of `left`, from left to right: at the least with a waste before them, and where no defect is cut.
-pub fn note_lefts(
-    sheet: &Sheet,
-    scene: &Scene,
-    left: Length,
-    lefts: &mut Vec<Length>,
-) -> Result<(), Memory> {
-    lefts.clear();
-    for defect in scene.defects {
-        let side = defect.x1.max(left + sheet.waste);
-        if left < defect.x1 && !scene.is_crossed_x(side) {
-            lefts.push(side)?;
-        }
-    }
-    lefts.sort_unstable();
-    lefts.dedup();
-    lefts.truncate(MOST_BEHIND);
+    keep_first(behind, MOST_BEHIND);
     Ok(())
 }

@@ -1,9 +1,10 @@
 //! The cells that may come next.
 
 use crate::chains::Chains;
-use crate::keeping::Keeper;
+use crate::ledger::Ledger;
 use crate::measure::{Amount, Length};
 use crate::node::{Candidate, Part};
+use crate::shapes::Cell;
 use crate::stock::Piece;
 use crate::task::Task;
 use glass_base::Memory;
@@ -22,7 +23,7 @@ pub struct Form {
     pub area: Amount,
     pub value: Amount,
     pub mix: u64,
-    /// What its children have to be below to be of use, as who keeps them counts it.
+    /// What the waste and the charge of its children have to be below together, in 1/1024 mm².
     pub limit: Amount,
     /// Whether no looser place is to be tried.
     pub done: bool,
@@ -43,16 +44,33 @@ pub struct Base<'b> {
     pub places: &'b [u16],
 }
 
+impl Form {
+    /// How many items it has.
+    pub fn items(&self) -> u16 {
+        if self.above.is_some() { 2 } else { 1 }
+    }
+
+    /// The cell that begins at `e`.
+    pub fn cell(&self, e: Length, lifted: bool) -> Cell {
+        Cell {
+            e,
+            width: self.width,
+            height: self.height,
+            two: self.above.is_some(),
+            lifted,
+        }
+    }
+}
+
 impl Base<'_> {
     /// The limit of a form of so many items and this value.
-    fn limit<K: Keeper>(&self, task: &Task, kept: &K, more: usize, value: Amount) -> Amount {
-        let held = self.candidate.node.items;
-        kept.limit(task, held, more, self.candidate.value + value)
+    fn limit(&self, task: &Task, ledger: &Ledger, more: u16, value: Amount) -> Amount {
+        ledger.limit(task, more, self.candidate.value + value)
     }
 }
 
 /// The form `under` with the item of the form `over` above its own.
-fn stacked<K: Keeper>(task: &Task, kept: &K, base: &Base, under: &Form, over: &Form) -> Form {
+fn stacked(task: &Task, ledger: &Ledger, base: &Base, under: &Form, over: &Form) -> Form {
     let value = under.value + over.value;
     Form {
         above: Some(over.part),
@@ -60,7 +78,7 @@ fn stacked<K: Keeper>(task: &Task, kept: &K, base: &Base, under: &Form, over: &F
         area: under.area + over.area,
         value,
         mix: under.mix.wrapping_add(over.mix),
-        limit: base.limit(task, kept, 2, value),
+        limit: base.limit(task, ledger, 2, value),
         ..*under
     }
 }
@@ -91,25 +109,20 @@ impl Forms {
     }
 
     /// Notes all cells that may come next: the next item of each stack, then pairs from one stack, then pairs from two.
-    pub fn note<K: Keeper>(&mut self, task: &Task, kept: &K, base: &Base) -> Result<(), Memory> {
+    pub fn note(&mut self, task: &Task, ledger: &Ledger, base: &Base) -> Result<(), Memory> {
         self.list.clear();
-        self.note_singles(task, kept, base)?;
+        self.note_singles(task, ledger, base)?;
         let singles = self.list.len();
-        self.note_pairs_of_stacks(task, kept, base, singles)?;
+        self.note_pairs_of_stacks(task, ledger, base, singles)?;
         self.widths.clear();
-        self.note_pairs(task, kept, base, singles)
+        self.note_pairs(task, ledger, base, singles)
     }
 
     /// Notes the next item of each stack, in both turns.
-    fn note_singles<K: Keeper>(
-        &mut self,
-        task: &Task,
-        kept: &K,
-        base: &Base,
-    ) -> Result<(), Memory> {
+    fn note_singles(&mut self, task: &Task, ledger: &Ledger, base: &Base) -> Result<(), Memory> {
         for (number, stack) in task.stock.stacks.iter().enumerate() {
             if let Some(piece) = task.stock.piece(number, base.places, 0) {
-                let limit = base.limit(task, kept, 1, piece.value);
+                let limit = base.limit(task, ledger, 1, piece.value);
                 let stack_number = number.min(65_535) as u16;
                 let form = Form {
                     part: Part {
@@ -157,10 +170,10 @@ impl Forms {
     }
 
     /// Notes pairs of the next two items of a stack.
-    fn note_pairs_of_stacks<K: Keeper>(
+    fn note_pairs_of_stacks(
         &mut self,
         task: &Task,
-        kept: &K,
+        ledger: &Ledger,
         base: &Base,
         singles: usize,
     ) -> Result<(), Memory> {
@@ -168,7 +181,7 @@ impl Forms {
             if let Some(under) = self.list.get(place).copied() {
                 let stack = usize::from(under.part.stack);
                 if let Some(piece) = task.stock.piece(stack, base.places, 1) {
-                    self.note_pair_of_stack(task, kept, base, &under, piece)?;
+                    self.note_pair_of_stack(task, ledger, base, &under, piece)?;
                 }
             }
         }
@@ -176,49 +189,49 @@ impl Forms {
     }
 
     /// Notes an item over the one before it in its stack, in both turns.
-    fn note_pair_of_stack<K: Keeper>(
+    fn note_pair_of_stack(
         &mut self,
         task: &Task,
-        kept: &K,
+        ledger: &Ledger,
         base: &Base,
         under: &Form,
         piece: Piece,
     ) -> Result<(), Memory> {
         let over = upper(under, piece, false);
-        self.note_pair(task, kept, base, under, &over)?;
+        self.note_pair(task, ledger, base, under, &over)?;
         if piece.length == piece.width {
             return Ok(());
         }
         let turned = upper(under, piece, true);
-        self.note_pair(task, kept, base, under, &turned)
+        self.note_pair(task, ledger, base, under, &turned)
     }
 
     /// Notes one item over another, where they have one width and are not too high.
-    fn note_pair<K: Keeper>(
+    fn note_pair(
         &mut self,
         task: &Task,
-        kept: &K,
+        ledger: &Ledger,
         base: &Base,
         under: &Form,
         over: &Form,
     ) -> Result<(), Memory> {
         if over.width == under.width && under.height + over.height <= task.sheet.high {
-            self.list.push(stacked(task, kept, base, under, over))?;
+            self.list.push(stacked(task, ledger, base, under, over))?;
         }
         Ok(())
     }
 
     /// Notes pairs from two stacks.
-    fn note_pairs<K: Keeper>(
+    fn note_pairs(
         &mut self,
         task: &Task,
-        kept: &K,
+        ledger: &Ledger,
         base: &Base,
         singles: usize,
     ) -> Result<(), Memory> {
         for place in 0..singles {
             if let Some(over) = self.list.get(place).copied() {
-                self.note_partners(task, kept, base, &over)?;
+                self.note_partners(task, ledger, base, &over)?;
                 self.widths.push(over.width.0 as usize)?;
             }
         }
@@ -226,10 +239,10 @@ impl Forms {
     }
 
     /// Notes a form over each of the last forms before it that have its width and are of other stacks.
-    fn note_partners<K: Keeper>(
+    fn note_partners(
         &mut self,
         task: &Task,
-        kept: &K,
+        ledger: &Ledger,
         base: &Base,
         over: &Form,
     ) -> Result<(), Memory> {
@@ -240,7 +253,7 @@ impl Forms {
             };
             if let Some(under) = self.list.get(place as usize).copied() {
                 if under.part.stack != over.part.stack {
-                    self.note_pair(task, kept, base, &under, over)?;
+                    self.note_pair(task, ledger, base, &under, over)?;
                 }
             }
             partner = self.widths.before(place);

@@ -1,18 +1,29 @@
 //! Gaps: beside a band, over a cell, and up to the plate's sides nothing or at least a least waste is left.
 
 use crate::measure::Length;
-use crate::scene::{Cell, Scene};
+use crate::scene::Scene;
+use crate::shapes::Cell;
 use crate::sheet::Sheet;
 
 /// Rounds in which a side may be shifted.
 pub const ROUNDS: u32 = 30;
 
-/// `side`, or the glass's `end` where what is left before that is too little for a waste.
-fn up_to_end(sheet: &Sheet, side: Length, end: Length) -> Length {
+/// What is left behind `side` up to the glass's `end`, where that is too little for a waste; else 0.
+pub fn lack(sheet: &Sheet, side: Length, end: Length) -> Length {
     if side < end && end - side < sheet.waste {
-        end
+        end - side
     } else {
+        Length::ZERO
+    }
+}
+
+/// `side`, or the glass's `end` where what is left before that is too little for a waste, and nothing before `side`
+/// may reach further.
+fn up_to_end(sheet: &Sheet, side: Length, end: Length, lax: Length) -> Length {
+    if lax > Length::ZERO {
         side
+    } else {
+        side + lack(sheet, side, end)
     }
 }
 
@@ -25,7 +36,8 @@ fn clear_of(sheet: &Sheet, b: Length, right: Length) -> Length {
     }
 }
 
-/// The strip's right side `b`, or further right where some band, the open one ending at `right`, leaves too little behind it.
+/// The strip's right side `b`, or further right where some band, the open one ending at `right`, leaves too little
+/// behind it.
 fn clear_of_bands(sheet: &Sheet, scene: &Scene, b: Length, right: Length) -> Length {
     let mut least = clear_of(sheet, b, right);
     for band in scene.bands {
@@ -38,7 +50,7 @@ fn clear_of_bands(sheet: &Sheet, scene: &Scene, b: Length, right: Length) -> Len
 pub fn least_right(sheet: &Sheet, scene: &Scene, b: Length, right: Length) -> Option<Length> {
     let mut side = b;
     for _ in 0..ROUNDS {
-        side = up_to_end(sheet, side, scene.wide);
+        side = up_to_end(sheet, side, scene.wide, scene.lax.b);
         if side > scene.wide || side - scene.a > sheet.max1 {
             return None;
         }
@@ -51,7 +63,8 @@ pub fn least_right(sheet: &Sheet, scene: &Scene, b: Length, right: Length) -> Op
     None
 }
 
-/// The band's upper side `d`, or further up where what is left over the cell is too little. Over two items nothing may be left.
+/// The band's upper side `d`, or further up where what is left over the cell is too little. Over two items nothing
+/// may be left.
 fn clear_over(sheet: &Sheet, scene: &Scene, d: Length, cell: &Cell) -> Option<Length> {
     let top = scene.c + cell.height;
     if d <= top {
@@ -63,7 +76,7 @@ fn clear_over(sheet: &Sheet, scene: &Scene, d: Length, cell: &Cell) -> Option<Le
     }
 }
 
-/// The same for the new cell and all cells of the band.
+/// The band's upper side `d`, or further up where what is left over the new cell or one of the band is too little.
 fn clear_over_cells(sheet: &Sheet, scene: &Scene, d: Length, new: &Cell) -> Option<Length> {
     let mut least = clear_over(sheet, scene, d, new)?;
     for cell in scene.cells {
@@ -76,7 +89,7 @@ fn clear_over_cells(sheet: &Sheet, scene: &Scene, d: Length, new: &Cell) -> Opti
 pub fn least_top(sheet: &Sheet, scene: &Scene, d: Length, new: &Cell) -> Option<Length> {
     let mut side = d;
     for _ in 0..ROUNDS {
-        side = up_to_end(sheet, side, sheet.high);
+        side = up_to_end(sheet, side, sheet.high, scene.lax.d);
         if side > sheet.high {
             return None;
         }

@@ -1,22 +1,15 @@
 //! By what a beam goes.
 
 use crate::measure::{Amount, Length};
-use glass_base::Instance;
 
-/// What the beams of a first plan charge for a free place of the open strip, in 1/1024 mm² of waste for each mm²: right of the band where an
-/// item may fit, and above the band.
-const RIGHT: Amount = Amount(102);
-
-const ABOVE: Amount = Amount(10);
-
-/// How much more an item is worth there for what stands behind it in its stack, in 1/1024.
-const EVEN: u64 = 1024;
-
-/// The tolerance there in mm with which fronts are compared.
-const TOLERANCE: Length = Length(20);
-
-/// Up to how many items there is no tolerance.
-const FEW_ITEMS: usize = 60;
+/// When one length is taken as no more than another.
+#[derive(Clone, Copy)]
+pub enum Tolerance {
+    /// Where it is more by so much at the most.
+    Slack(Length),
+    /// Where it is equal, or less by so much at least: what is left between the two has to be nothing or a waste.
+    Gap(Length),
+}
 
 /// What differs from beam to beam.
 #[derive(Clone, Copy)]
@@ -26,8 +19,9 @@ pub struct Guide {
     /// How much more an item is worth for what stands behind it in its stack, in 1/1024.
     pub even: u64,
     /// How much worse a front may be and still be taken as no worse.
-    pub tolerance: Length,
-    /// What a free place right of the band is charged where an item may fit, and one above it.
+    pub tolerance: Tolerance,
+    /// What a free place of the open strip is charged, in 1/1024 mm² of waste for each mm²: right of the band where
+    /// an item may fit, and above the band.
     pub right: Amount,
     pub above: Amount,
     /// Whether all places around defects are tried, and not the first ones alone.
@@ -36,32 +30,12 @@ pub struct Guide {
     pub loose: bool,
 }
 
-/// The part of a loss and of the items' area together that a share, in 1/1024, of the loss is, in 1/1024.
-pub fn rate_of(share: u64, lost: u64, area: u64) -> Option<u64> {
-    let glass = lost.saturating_add(area);
-    lost.saturating_mul(share).checked_div(glass)
-}
-
-/// The tolerance, but for few items, where the beams are wide enough without any.
-pub fn tolerance_for(instance: &Instance, tolerance: Length) -> Length {
-    if instance.items().len() <= FEW_ITEMS {
-        Length::ZERO
-    } else {
-        tolerance
-    }
-}
-
-impl Guide {
-    /// The guide of the beams of a first plan, where a loss is expected at this rate.
-    pub fn usual(rate: u64) -> Guide {
-        Guide {
-            rate,
-            even: EVEN,
-            tolerance: TOLERANCE,
-            right: RIGHT,
-            above: ABOVE,
-            more: false,
-            loose: false,
+impl Tolerance {
+    /// Whether no front is taken as no worse that is.
+    pub fn is_exact(self) -> bool {
+        match self {
+            Tolerance::Slack(slack) => slack == Length::ZERO,
+            Tolerance::Gap(_) => true,
         }
     }
 }

@@ -1,25 +1,21 @@
-//! Lanes, to which the nodes of a level are dealt out. They do not see one another, so that any number of threads may work on them.
+//! Lanes, to which the nodes of a level are dealt out. They do not see one another, so that any number of threads may
+//! work on them.
 
 use crate::crew::Labour;
 use crate::expanding::Bench;
 use crate::form::Base;
-use crate::keeping::Ledger;
-use crate::lists::Lists;
-use crate::measure::Length;
+use crate::ledger::Ledger;
+use crate::lists::List;
+use crate::measure::{Amount, Length};
 use crate::node::{Candidate, Node};
 use crate::pools::Pool;
 use crate::seats::Seating;
 use crate::strip::ROOM;
-use crate::task::Task;
+use crate::task::{AHEAD, LANES, Task};
 use crossbeam_utils::CachePadded;
 use glass_base::Memory;
 use std::alloc::Global;
-
-/// How many lanes there are, whatever the number of threads.
-pub const LANES: usize = 32;
-
-/// So many of them go ahead, and what they find tells the others from which key on a child is of no use.
-pub const AHEAD: usize = 4;
+use std::sync::Mutex;
 
 /// What the lanes of a level read.
 #[derive(Clone, Copy)]
@@ -48,7 +44,7 @@ impl Shift<'_> {
 /// A lane: it expands its share of the nodes of each level.
 #[derive(Drop)]
 pub struct Lane {
-    pub ledger: Ledger<Lists>,
+    pub ledger: Ledger,
     bench: Bench,
     /// Its nodes of a level, and how many items of each stack they have cut.
     pub nodes: Vec<Node>,
@@ -72,7 +68,7 @@ impl Lane {
     /// A lane for so many stacks; there will be no form wider than `widest`.
     pub fn new(alloc: Global, stacks: usize, widest: Length) -> Result<Lane, Memory> {
         Ok(Lane {
-            ledger: Ledger::new(Lists::new(alloc)),
+            ledger: Ledger::new(alloc),
             bench: Bench::new(alloc, widest)?,
             nodes: Vec::new(alloc),
             seats: Vec::new(alloc),
@@ -116,8 +112,8 @@ impl Lane {
 
     /// Sorts the orders of its children.
     fn rank(&mut self) -> Result<(), Memory> {
-        self.ledger.kept.one.rank()?;
-        self.ledger.kept.two.rank()
+        self.ledger.one.rank()?;
+        self.ledger.two.rank()
     }
 
     /// Expands its share of a level: the node at `lane` and each one that is so many lanes further on.
@@ -142,4 +138,39 @@ impl Labour<Lane> for Shift<'_> {
         let all = self.first.saturating_add(number);
         lane.is_short = lane.work_off(self, all).is_err();
     }
+}
+
+/// Adds the keys of a list's children.
+fn note_keys(list: &List, keys: &mut Vec<Amount>) -> Result<(), Memory> {
+    for rank in &list.ranks {
+        keys.push(rank.key)?;
+    }
+    Ok(())
+}
+
+/// The key from which on a child is of no use to the lanes that did not go ahead, where a level holds so many
+/// candidates and the children of those that went ahead have these keys.
+fn cut_of(keys: &mut Vec<Amount>, room: usize) -> Result<Amount, Memory> {
+    keys.sort()?;
+    let rank = (room.saturating_mul(AHEAD) / LANES).saturating_mul(5) / 4;
+    let key = keys.get(rank.saturating_add(8)).copied();
+    Ok(key.unwrap_or(Amount::TOP))
+}
+
+/// The keys from which on a child of one item more, or of two, is of no use to the lanes that did not go ahead.
+pub fn cuts(
+    ahead: &mut [Mutex<Lane>],
+    keys: &mut Vec<Amount>,
+    room: usize,
+) -> Result<(Amount, Amount), Memory> {
+    keys.clear();
+    for lane in ahead.iter_mut() {
+        note_keys(&lane.get_mut().ledger.one, keys)?;
+    }
+    let one = cut_of(keys, room)?;
+    keys.clear();
+    for lane in ahead.iter_mut() {
+        note_keys(&lane.get_mut().ledger.two, keys)?;
+    }
+    Ok((one, cut_of(keys, room)?))
 }

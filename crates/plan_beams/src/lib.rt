@@ -1,8 +1,10 @@
-//! Two beams over partial traces, and wide beams behind them. What they find is only a guess, which has to be asked of the rules.
+//! Beams over partial traces: two for a first plan, and wide ones behind them. What they find is only a guess, which
+//! has to be asked of the rules.
 #![tactic(auto)]
 
 mod arena;
 mod chains;
+mod clearance;
 mod crew;
 mod demands;
 mod expanding;
@@ -10,10 +12,9 @@ mod fitting;
 mod form;
 mod gaps;
 mod guide;
-mod heaps;
-mod keeping;
+mod hands;
 mod lanes;
-mod level;
+mod ledger;
 mod lists;
 mod measure;
 mod node;
@@ -25,17 +26,18 @@ mod scene;
 mod schedule;
 mod searching;
 mod seats;
+mod shapes;
 mod sheet;
 mod sieves;
 mod stock;
+mod stretching;
 mod strip;
 mod taken;
 mod task;
 mod ticks;
 mod watch;
-mod wide;
 
 pub use crew::Crew;
-pub use planning::{Beams, Found, WideBeam, Widely};
-pub use schedule::wide_ticks;
+pub use planning::{Beams, Found, Widely};
+pub use schedule::{WideBeam, wide_ticks};
 pub use watch::Watch;

@@ -1,13 +1,7 @@
-//! The children that a lane of a wide beam keeps, in a list for those of one item more and one for those of two.
+//! Children that a lane keeps.
 
-use crate::form::Form;
-use crate::keeping::Keeper;
-use crate::measure::{Amount, Length};
+use crate::measure::Amount;
 use crate::node::Candidate;
-use crate::placing::least_key;
-use crate::scene::{Reach, Scene};
-use crate::sieves::sieve_of;
-use crate::task::Task;
 use glass_base::Memory;
 use std::alloc::Global;
 
@@ -25,7 +19,7 @@ impl Ranked {
         Ranked {
             key: candidate.key,
             place: place.min(u32::MAX as usize) as u32,
-            sieve: sieve_of(candidate),
+            sieve: candidate.sieve(),
         }
     }
 }
@@ -37,22 +31,11 @@ pub struct List {
     /// Their order, once the lane is done.
     pub ranks: Vec<Ranked>,
     /// From this key on a child is of no use.
-    cut: Amount,
-}
-
-/// The children that a lane keeps.
-#[derive(Drop)]
-pub struct Lists {
-    /// Those of one item more than their nodes.
-    pub one: List,
-    /// Those of two.
-    pub two: List,
-    /// A list that is longer is cut down to its better half.
-    most: usize,
+    pub cut: Amount,
 }
 
 impl List {
-    fn new(alloc: Global) -> List {
+    pub fn new(alloc: Global) -> List {
         List {
             held: Vec::new(alloc),
             ranks: Vec::new(alloc),
@@ -98,66 +81,12 @@ impl List {
         Ok(())
     }
 
-    fn add(&mut self, candidate: &Candidate, most: usize) -> Result<(), Memory> {
+    /// Takes a child in. Where there are more than `most` then, the better half of them stays.
+    pub fn add(&mut self, candidate: &Candidate, most: usize) -> Result<(), Memory> {
         self.held.push(*candidate)?;
         if self.held.len() > most {
             self.shrink(most / 2)?;
         }
         Ok(())
-    }
-}
-
-impl Lists {
-    pub fn new(alloc: Global) -> Lists {
-        Lists {
-            one: List::new(alloc),
-            two: List::new(alloc),
-            most: usize::MAX,
-        }
-    }
-
-    /// From these keys on a child of one item more, or of two, is of no use, and no list gets longer than `most`.
-    pub fn limit_to(&mut self, one: Amount, two: Amount, most: usize) {
-        self.one.cut = one;
-        self.two.cut = two;
-        self.most = most;
-    }
-}
-
-impl Keeper for Lists {
-    fn looks_at_idle_strips(&self) -> bool {
-        true
-    }
-
-    fn ticks_for(&self, forms: u64) -> u64 {
-        forms.wrapping_add(40)
-    }
-
-    /// The waste and charge that a child has to be below, in 1/1024 mm².
-    fn limit(&self, task: &Task, _held: u16, more: usize, value: Amount) -> Amount {
-        let cut = if more > 1 { self.two.cut } else { self.one.cut };
-        let rest = task.stock.value - value;
-        if cut <= rest {
-            return Amount::ZERO;
-        }
-        (cut - rest).min(Amount(1024) * task.best)
-    }
-
-    /// The waste and the charge that are certain are too much.
-    fn is_late(&self, task: &Task, scene: &Scene, form: &Form, e: Length, least: Reach) -> bool {
-        least_key(task, scene, form, e, least) >= form.limit
-    }
-
-    fn is_of_use(&self, form: &Form, waste: Amount, charge: Amount) -> bool {
-        Amount(1024) * waste + charge < form.limit
-    }
-
-    fn offer(&mut self, candidate: &Candidate) -> Result<(), Memory> {
-        let most = self.most;
-        if candidate.node.above.is_some() {
-            self.two.add(candidate, most)
-        } else {
-            self.one.add(candidate, most)
-        }
     }
 }

@@ -1,4 +1,5 @@
-//! Lengths and areas whose sums and differences wrap: the search only guesses, so that none of its ranges has to be proved.
+//! Lengths and areas whose sums and differences wrap: the search only guesses, so that none of its ranges has to be
+//! proved.
 
 use std::ops::{Add, Mul, Sub};
 

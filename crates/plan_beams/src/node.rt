@@ -1,7 +1,8 @@
 //! Partial traces: each ends in a node, and a node knows the one before it.
 
 use crate::measure::{Amount, Length};
-use crate::scene::{Band, Cell};
+use crate::shapes::{Band, Cell, Reach};
+use crate::task::LANES;
 
 /// What a cell begins.
 #[derive(Clone, Copy)]
@@ -27,6 +28,10 @@ impl Begins {
         }
     }
 
+    pub fn is_plate(self) -> bool {
+        self.kind() == 0
+    }
+
     pub fn is_strip(self) -> bool {
         self.kind() <= 1
     }
@@ -43,8 +48,8 @@ pub struct Part {
     pub turned: bool,
 }
 
-/// One cell put down. All lengths are in mm; the least `b` and `d` of the strip and the band so far are those of their last
-/// node, which later cells may raise.
+/// One cell put down. All lengths are in mm; the least `b` and `d` of the strip and the band so far are those of
+/// their last node, which later cells may raise.
 #[derive(Clone, Copy)]
 pub struct Node {
     /// The node before, by its place in the arena; none for the first cell.
@@ -64,6 +69,10 @@ pub struct Node {
     pub e: u16,
     pub width: u16,
     pub height: u16,
+    /// The right side of the last closed strip of the plate that may be wider by any number, or 0.
+    pub lax_b: u16,
+    /// The upper side of the last closed band of the strip that may be higher by any number, or 0.
+    pub lax_d: u16,
 }
 
 impl Node {
@@ -87,6 +96,29 @@ impl Node {
             e: 0,
             width: 0,
             height: 0,
+            lax_b: 0,
+            lax_d: 0,
+        }
+    }
+
+    /// The node before this one, where there is one.
+    pub fn parent_in(&self, arena: &[Node]) -> Option<Node> {
+        arena.get(self.parent? as usize).copied()
+    }
+
+    /// Marks the node before this one.
+    pub fn mark_parent(&self, marks: &mut [bool]) {
+        if let Some(parent) = self.parent {
+            if let Some(mark) = marks.get_mut(parent as usize) {
+                *mark = true;
+            }
+        }
+    }
+
+    /// Notes that the node before this one has another place now: that of each node is told.
+    pub fn move_parent(&mut self, places: &[u32]) {
+        if let Some(parent) = self.parent {
+            self.parent = places.get(parent as usize).copied();
         }
     }
 
@@ -102,6 +134,14 @@ impl Node {
             height: self.height.into(),
             two: self.above.is_some(),
             lifted: self.lifted,
+        }
+    }
+
+    /// From where on what is on its plate and in its strip may be moved.
+    pub fn lax(&self) -> Reach {
+        Reach {
+            b: self.lax_b.into(),
+            d: self.lax_d.into(),
         }
     }
 
@@ -142,5 +182,10 @@ impl Candidate {
             waste: Amount::ZERO,
             mix: 0,
         }
+    }
+
+    /// The sieve to which it goes.
+    pub fn sieve(&self) -> u32 {
+        (self.mix % LANES as u64) as u32
     }
 }

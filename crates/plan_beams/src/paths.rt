@@ -2,7 +2,8 @@
 
 use crate::measure::Amount;
 use crate::node::{Candidate, Node};
-use crate::strip::parent_of;
+use crate::sheet::Sheet;
+use crate::stretching::{Spot, Stretching};
 use cut_model::{Step, Trace};
 use glass_base::{Memory, Run};
 use std::alloc::Global;
@@ -34,7 +35,7 @@ fn nodes_from(alloc: Global, arena: &[Node], last: Node) -> Result<Vec<Node>, Me
     let mut current = last;
     for _ in 0..last.items {
         nodes.push(current)?;
-        let Some(parent) = parent_of(arena, &current) else {
+        let Some(parent) = current.parent_in(arena) else {
             return Ok(nodes);
         };
         current = parent;
@@ -50,24 +51,24 @@ pub fn path_to(alloc: Global, last: Candidate, arena: &[Node]) -> Result<Path, M
     })
 }
 
-/// The step of a node's lower item, in a strip up to `b` and a band up to `d`.
-fn step_of(node: &Node, b: u16, d: u16) -> Step {
+/// The step of a node's lower item at this spot.
+fn step_of(node: &Node, spot: &Spot) -> Step {
     Step {
         stack: u32::from(node.part.stack),
         turn: u32::from(node.part.turned),
         kind: node.begins.kind(),
         lift: u32::from(node.lifted),
-        a: u32::from(node.a),
-        b: u32::from(b),
-        c: u32::from(node.c),
-        d: u32::from(d),
-        e: u32::from(node.e),
+        a: spot.a.0,
+        b: spot.b.0,
+        c: spot.c.0,
+        d: spot.d.0,
+        e: spot.e.0,
     }
 }
 
 /// Notes the steps of a node, the upper one first.
-fn note_steps(steps: &mut Vec<Step>, node: &Node, b: u16, d: u16) -> Result<(), Memory> {
-    let step = step_of(node, b, d);
+fn note_steps(steps: &mut Vec<Step>, node: &Node, spot: &Spot) -> Result<(), Memory> {
+    let step = step_of(node, spot);
     if let Some(above) = node.above {
         steps.push(Step {
             stack: u32::from(above.stack),
@@ -81,21 +82,13 @@ fn note_steps(steps: &mut Vec<Step>, node: &Node, b: u16, d: u16) -> Result<(), 
     Ok(())
 }
 
-/// The trace of a path: what the last cell of a strip or of a band settles goes back to the cells before it.
-pub fn trace_of(alloc: Global, path: &[Node]) -> Result<Trace, Memory> {
+/// The trace of a path.
+pub fn trace_of(alloc: Global, sheet: &Sheet, path: &[Node]) -> Result<Trace, Memory> {
     let mut steps = Vec::new(alloc);
-    let (mut b, mut d) = (0, 0);
-    let (mut ends_strip, mut ends_band) = (true, true);
+    let mut stretching = Stretching::new();
     for node in path {
-        if ends_strip {
-            b = node.b;
-        }
-        if ends_band {
-            d = node.d;
-        }
-        note_steps(&mut steps, node, b, d)?;
-        ends_strip = node.begins.is_strip();
-        ends_band = node.begins.is_band();
+        let spot = stretching.spot_of(sheet, node);
+        note_steps(&mut steps, node, &spot)?;
     }
     steps.reverse();
     Ok(Trace {

@@ -1,28 +1,27 @@
 //! Children of a node: a cell put down where that is lawful.
 
-use crate::fitting::{fit, note_tries};
+use crate::clearance::is_clear;
+use crate::fitting::{fit, is_tight, note_tries};
 use crate::form::Form;
-use crate::keeping::{Keeper, Ledger};
+use crate::gaps::lack;
+use crate::ledger::Ledger;
 use crate::measure::{Amount, Length};
 use crate::node::{Candidate, Node};
-use crate::scene::{Cell, Reach, Scene};
+use crate::scene::Scene;
+use crate::shapes::{Cell, Reach};
 use crate::task::Task;
 use glass_base::Memory;
 
 /// What a free place right of the band is charged where no item can fit, in 1/1024 mm² of waste for each mm².
 const RIGHT_SMALL: Amount = Amount(512);
 
-/// The glass left of the strip.
-pub fn left_of(task: &Task, scene: &Scene) -> Amount {
-    task.sheet.high * (scene.before + scene.a)
-}
-
 /// Glass behind the front that is lost: the front of a node is all that lies left of it and below it.
-pub fn waste_of(task: &Task, scene: &Scene, form: &Form, e: Length, reach: Reach) -> Amount {
+fn waste_of(task: &Task, scene: &Scene, form: &Form, e: Length, reach: Reach) -> Amount {
     let right = e + form.width;
+    let left_of_strip = task.sheet.high * (scene.before + scene.a);
     let below_band = (reach.b - scene.a) * scene.c;
     let in_band = (right - scene.a) * (reach.d - scene.c);
-    left_of(task, scene) + below_band + in_band - (scene.base.area + form.area)
+    left_of_strip + below_band + in_band - (scene.base.area + form.area)
 }
 
 /// What the free place above the band is charged.
@@ -41,7 +40,8 @@ fn charge_of(task: &Task, scene: &Scene, form: &Form, e: Length, reach: Reach) -
     rate * (free * (reach.d - scene.c)) + above_of(task, scene, reach)
 }
 
-/// What a child with at least this reach is charged at the least, and its waste, together in 1/1024 mm²: with `b` and `d` both grow together, and what the last item loses is more than its charges.
+/// What a child with at least this reach is charged at the least, and its waste, together in 1/1024 mm²: with `b` and
+/// `d` both grow together, and what the last item loses is more than its charges.
 pub fn least_key(task: &Task, scene: &Scene, form: &Form, e: Length, least: Reach) -> Amount {
     let free = least.b - (e + form.width);
     let small = RIGHT_SMALL * Amount(u64::from(free.0));
@@ -61,7 +61,8 @@ fn weigh(
 ) -> (Amount, Amount) {
     if usize::from(items) == task.stock.items {
         let area = scene.base.area + form.area;
-        let loss = task.sheet.high * (scene.before + reach.b) - area;
+        let end = reach.b + lack(task.sheet, reach.b, scene.wide);
+        let loss = task.sheet.high * (scene.before + end) - area;
         return (loss, Amount::ZERO);
     }
     let waste = waste_of(task, scene, form, e, reach);
@@ -69,7 +70,7 @@ fn weigh(
 }
 
 /// The node of a child.
-fn node_of(scene: &Scene, form: &Form, cell: &Cell, reach: Reach, items: u16) -> Node {
+fn node_of(scene: &Scene, form: &Form, cell: &Cell, reach: Reach) -> Node {
     Node {
         parent: scene.parent,
         part: form.part,
@@ -77,7 +78,7 @@ fn node_of(scene: &Scene, form: &Form, cell: &Cell, reach: Reach, items: u16) ->
         begins: scene.begins,
         lifted: cell.lifted,
         plate: scene.plate,
-        items,
+        items: scene.base.node.items.saturating_add(form.items()),
         a: scene.a.short(),
         b: reach.b.short(),
         c: scene.c.short(),
@@ -85,54 +86,73 @@ fn node_of(scene: &Scene, form: &Form, cell: &Cell, reach: Reach, items: u16) ->
         e: cell.e.short(),
         width: form.width.short(),
         height: form.height.short(),
+        lax_b: scene.lax.b.short(),
+        lax_d: scene.lax.d.short(),
     }
 }
 
 /// Offers a child; it is dropped where it is of no use.
-fn offer<K: Keeper>(
+fn offer(
     task: &Task,
-    ledger: &mut Ledger<K>,
+    ledger: &mut Ledger,
     scene: &Scene,
     form: &Form,
     cell: &Cell,
     reach: Reach,
 ) -> Result<(), Memory> {
-    let more = if form.above.is_some() { 2 } else { 1 };
-    let items = scene.base.node.items.saturating_add(more);
+    let items = scene.base.node.items.saturating_add(form.items());
     let (waste, charge) = weigh(task, scene, form, cell.e, reach, items);
-    if !ledger.kept.is_of_use(form, waste, charge) {
+    if Amount(1024) * waste + charge >= form.limit {
         return Ok(());
     }
     ledger.ticks.spend(4);
     let value = scene.base.value + form.value;
     let candidate = Candidate {
-        node: node_of(scene, form, cell, reach, items),
+        node: node_of(scene, form, cell, reach),
         key: Amount(1024) * waste + charge + (task.stock.value - value),
         area: scene.base.area + form.area,
         value,
         waste,
         mix: scene.base.mix.wrapping_add(form.mix),
     };
-    ledger.kept.offer(&candidate)
+    ledger.offer(&candidate)
+}
+
+/// How far strip and band reach with a cell, if it stands lawfully. Where bands and strips are stretched around
+/// defects, the whole plate is asked, and where that is unlawful nothing is stretched.
+fn reach_of(
+    task: &Task,
+    ledger: &mut Ledger,
+    scene: &Scene,
+    form: &Form,
+    cell: &Cell,
+) -> Option<Reach> {
+    let reach = fit(task.sheet, scene, cell, &mut ledger.ticks)?;
+    if !is_tight(task.sheet, scene, reach) {
+        return Some(reach);
+    }
+    let new = node_of(scene, form, cell, reach);
+    if is_clear(task.sheet, scene, new, &mut ledger.ticks) {
+        return Some(reach);
+    }
+    let still = Scene {
+        lax: Reach::ZERO,
+        ..*scene
+    };
+    fit(task.sheet, &still, cell, &mut ledger.ticks)
 }
 
 /// Puts a cell at `e` where that is lawful, and tells how far strip and band then reach.
-fn try_at<K: Keeper>(
+fn try_at(
     task: &Task,
-    ledger: &mut Ledger<K>,
+    ledger: &mut Ledger,
     scene: &Scene,
     form: &Form,
     e: Length,
     lifted: bool,
 ) -> Result<Option<Reach>, Memory> {
-    let cell = Cell {
-        e,
-        width: form.width,
-        height: form.height,
-        two: form.above.is_some(),
-        lifted,
-    };
-    let found = fit(task.sheet, scene, &cell, &mut ledger.ticks);
+    let cell = form.cell(e, lifted);
+    let found = reach_of(task, ledger, scene, form, &cell);
     if let Some(reach) = found {
         offer(task, ledger, scene, form, &cell, reach)?;
     }
@@ -140,9 +160,9 @@ fn try_at<K: Keeper>(
 }
 
 /// Puts a cell at the first of these left sides where that is lawful.
-fn try_first<K: Keeper>(
+fn try_first(
     task: &Task,
-    ledger: &mut Ledger<K>,
+    ledger: &mut Ledger,
     scene: &Scene,
     form: &Form,
     tries: &[Length],
@@ -156,11 +176,11 @@ fn try_first<K: Keeper>(
     Ok(None)
 }
 
-/// Puts a cell at `e`, or where a defect hinders it further right and lifted; tells how far strip and band reach at the last
-/// place that was found.
-fn place_first<K: Keeper>(
+/// Puts a cell at `e`, or where a defect hinders it further right and lifted; tells how far strip and band reach at
+/// the last place that was found.
+fn place_first(
     task: &Task,
-    ledger: &mut Ledger<K>,
+    ledger: &mut Ledger,
     scene: &Scene,
     form: &Form,
     e: Length,
@@ -180,10 +200,11 @@ fn place_first<K: Keeper>(
     Ok(lifted.or(right))
 }
 
-/// Puts a cell at each of these left sides where that is lawful, and lifted too where it is one item; tells how far strip and band reach at the first place that was found, or at `found`.
-fn try_all<K: Keeper>(
+/// Puts a cell at each of these left sides where that is lawful, and lifted too where it is one item; tells how far
+/// strip and band reach at the first place that was found, or at `found`.
+fn try_all(
     task: &Task,
-    ledger: &mut Ledger<K>,
+    ledger: &mut Ledger,
     scene: &Scene,
     form: &Form,
     tries: &[Length],
@@ -199,11 +220,11 @@ fn try_all<K: Keeper>(
     Ok(first)
 }
 
-/// Puts a cell at `e`, and where a defect shifts strip or band, so that they reach further than `least`, at all places further right and lifted too; tells how far strip and
-/// band reach at the first place that was found.
-fn place_everywhere<K: Keeper>(
+/// Puts a cell at `e`, and where a defect shifts strip or band, so that they reach further than `least`, at all places
+/// further right and lifted too; tells how far strip and band reach at the first place that was found.
+fn place_everywhere(
     task: &Task,
-    ledger: &mut Ledger<K>,
+    ledger: &mut Ledger,
     scene: &Scene,
     form: &Form,
     e: Length,
@@ -224,10 +245,11 @@ fn place_everywhere<K: Keeper>(
     Ok(found.or(lifted))
 }
 
-/// Puts a cell at `e`, where strip and band reach as far as `least` at the least, or around the defects that hinder it; tells how far they reach at one of the places that were found.
-pub fn place<K: Keeper>(
+/// Puts a cell at `e`, where strip and band reach as far as `least` at the least, or around the defects that hinder it;
+/// tells how far they reach at one of the places that were found.
+pub fn place(
     task: &Task,
-    ledger: &mut Ledger<K>,
+    ledger: &mut Ledger,
     scene: &Scene,
     form: &Form,
     e: Length,

@@ -1,62 +1,14 @@
 //! The strip and the band in which a cell is to be put. All lengths are in mm.
 
 use crate::measure::Length;
-use crate::node::{Begins, Candidate};
-
-/// The open rectangle of a defect. Their order is from left to right.
-#[derive(Clone, Copy, PartialEq, Eq, PartialOrd, Ord)]
-pub struct Rectangle {
-    pub x0: Length,
-    pub y0: Length,
-    pub x1: Length,
-    pub y1: Length,
-}
-
-impl Rectangle {
-    /// Whether the upright line at `x` runs through it, if it is long enough.
-    pub fn is_crossed_x(&self, x: Length) -> bool {
-        self.x0 < x && x < self.x1
-    }
-
-    /// Whether the level line at `y` runs through it, if it is long enough.
-    pub fn is_crossed_y(&self, y: Length) -> bool {
-        self.y0 < y && y < self.y1
-    }
-}
-
-/// A cell of a band: one item, or two of the same width one over the other.
-#[derive(Clone, Copy)]
-pub struct Cell {
-    /// The left side.
-    pub e: Length,
-    pub width: Length,
-    /// The height of its items together.
-    pub height: Length,
-    pub two: bool,
-    /// Whether a waste lies under its item.
-    pub lifted: bool,
-}
-
-impl Cell {
-    pub fn right(&self) -> Length {
-        self.e + self.width
-    }
-}
-
-/// A band of the strip that is closed.
-#[derive(Clone, Copy)]
-pub struct Band {
-    /// The lower side.
-    pub c: Length,
-    /// The upper side.
-    pub d: Length,
-    /// The right side of its last cell.
-    pub right: Length,
-}
+use crate::node::{Begins, Candidate, Node};
+use crate::shapes::{Band, Cell, Reach, Rectangle};
 
 /// From which node a cell is to be put, and the strip and the band into which, as they are so far.
 #[derive(Clone, Copy)]
 pub struct Scene<'s> {
+    /// The nodes before that one.
+    pub arena: &'s [Node],
     /// The node, by its place in the arena; none at the start.
     pub parent: Option<u32>,
     pub base: &'s Candidate,
@@ -72,6 +24,9 @@ pub struct Scene<'s> {
     /// The band's sides.
     pub c: Length,
     pub d: Length,
+    /// The right side of the last closed strip, and the upper side of the last closed band, that may reach further by
+    /// any number; or 0.
+    pub lax: Reach,
     /// The defects that may stand in the way, from left to right.
     pub defects: &'s [Rectangle],
     /// The closed bands of the strip.
@@ -85,11 +40,36 @@ impl Scene<'_> {
     pub fn is_crossed_x(&self, x: Length) -> bool {
         self.defects.iter().any(|defect| defect.is_crossed_x(x))
     }
-}
 
-/// How far the strip and the band have to reach for a cell: the least right side and the least upper side that are lawful.
-#[derive(Clone, Copy, PartialEq, Eq)]
-pub struct Reach {
-    pub b: Length,
-    pub d: Length,
+    /// The left side of a cell that is put right behind what there is.
+    pub fn left(&self) -> Length {
+        match self.begins {
+            Begins::Cell => self.base.node.right(),
+            Begins::Plate | Begins::Strip | Begins::Band => self.a,
+        }
+    }
+
+    /// The strip or band begun at `side`, which is further on. What lies before it may be made greater.
+    pub fn begun_at(&self, side: Length) -> Self {
+        match self.begins {
+            Begins::Band => Scene {
+                c: side,
+                d: side,
+                lax: Reach {
+                    d: side,
+                    ..self.lax
+                },
+                ..*self
+            },
+            Begins::Plate | Begins::Strip | Begins::Cell => Scene {
+                a: side,
+                b: side,
+                lax: Reach {
+                    b: side,
+                    ..self.lax
+                },
+                ..*self
+            },
+        }
+    }
 }

@@ -1,26 +1,42 @@
-//! Which wide beams there are: their guides and their sizes. They hang on the instance alone and not on how many of them are run, so that more of them never find less.
+//! Which beams there are: two of a first plan, and wide ones behind them. Their guides and sizes hang on the instance
+//! alone and not on how many of them are run, so that more of them never find less.
 
 ghost use Rattle.std.specs.Prelude.{◌≤◌};
 
-use crate::guide::{Guide, rate_of, tolerance_for};
+use crate::guide::{Guide, Tolerance};
 use crate::measure::{Amount, Length};
 use glass_base::Instance;
 
-/// With the first beam the effort comes to so many ticks, or to twice those of the first plan where that is more.
-const FIRST_TICKS: u64 = 300_000_000;
+/// The loss that the first beam expects of an area, in 1/1024.
+const FIRST_RATE: u64 = 102;
 
-/// A beam takes at most so many times the first plan's ticks, with which its levels come to about the greatest width.
+/// At most so many nodes of a level are expanded by the beams of a first plan.
+const FIRST_WIDEST: u64 = 12_000;
+
+/// Up to how many items there is no tolerance, since the beams are wide enough without any.
+const FEW_ITEMS: usize = 60;
+
+/// Up to how many items a wide beam sees almost all plans, and takes no front as better that reaches a little less far.
+const VERY_FEW_ITEMS: usize = 30;
+
+/// With the first wide beam the effort comes to so many ticks, or to twice those of the first plan where that takes
+/// as many.
+const WIDE_TICKS: u64 = 300_000_000;
+
+/// A wide beam takes at most so many times the first plan's ticks, with which its levels come to about the greatest
+/// width.
 const MOST_TIMES: u64 = 12;
 
-/// At most so many nodes of a level are expanded.
+/// At most so many nodes of a level are expanded by a wide beam.
 const WIDEST: u64 = 32_768;
 
-/// How often the sizes of beams are doubled, and how often both of these limits.
+/// How often the sizes of wide beams are doubled, and how often both of these limits.
 const MOST_GROWN: u32 = 20;
 
 const MOST_DOUBLED: u32 = 6;
 
-/// A guide: the share of the best plan's loss that is expected, in 1/1024; the tolerance in mm; the charges; how much the rest of a stack counts; and whether all places are tried.
+/// A guide: the share of the best plan's loss that is expected, in 1/1024; the tolerance in mm; the charges; how much
+/// the rest of a stack counts; and whether all places are tried.
 #[derive(Clone, Copy)]
 struct Row {
     share: u64,
@@ -42,7 +58,7 @@ const USUAL: Row = Row {
     loose: false,
 };
 
-/// The guides of the beams, in turn.
+/// The guides of the wide beams, in turn. Those of a first plan go by the first one.
 const ROWS: [Row; 6] = [
     USUAL,
     Row {
@@ -76,35 +92,124 @@ const ROWS: [Row; 6] = [
     },
 ];
 
-/// How often the limits are doubled for the beam of this number: once each guide has had its turn.
+/// What a beam is to do, whatever the instance: by what it goes, what it is to lose less than, its effort in ticks,
+/// and how many nodes of a level it expands at the most.
+#[derive(Clone, Copy)]
+pub struct Turn {
+    pub guide: Guide,
+    pub best: Amount,
+    pub ticks: u64,
+    pub widest: u64,
+}
+
+/// A wide beam that is to lose less than a plan that is known. Wide beams are numbered from 0 on; the number says by
+/// which of six guides one goes, and how wide its levels are at the most.
+#[derive(Clone, Copy)]
+pub struct WideBeam {
+    pub number: u32,
+    /// What the best plan so far loses, in mm².
+    pub lost: u64,
+    pub ticks: u64,
+}
+
+impl Row {
+    /// The guide that expects a loss at this rate.
+    fn guide(&self, rate: u64, tolerance: Tolerance) -> Guide {
+        Guide {
+            rate,
+            even: self.even,
+            tolerance,
+            right: Amount(self.right),
+            above: Amount(self.above),
+            more: self.more,
+            loose: self.loose,
+        }
+    }
+
+    /// The part of a loss and of the items' area together that its share of the loss is, in 1/1024.
+    fn rate(&self, lost: u64, area: u64) -> Option<u64> {
+        let glass = lost.saturating_add(area);
+        lost.saturating_mul(self.share).checked_div(glass)
+    }
+
+    fn slack(&self) -> Tolerance {
+        Tolerance::Slack(Length(self.tolerance))
+    }
+
+    /// The tolerance with so many items.
+    fn slack_for(&self, items: usize) -> Tolerance {
+        if items <= FEW_ITEMS {
+            Tolerance::Slack(Length::ZERO)
+        } else {
+            self.slack()
+        }
+    }
+
+    /// The tolerance of a wide beam.
+    fn tolerance_for(&self, instance: &Instance) -> Tolerance {
+        let items = instance.items().len();
+        if items <= VERY_FEW_ITEMS {
+            Tolerance::Gap(Length(instance.params().waste))
+        } else {
+            self.slack_for(items)
+        }
+    }
+}
+
+/// The first beam of a first plan, whose loss tells the second one what to expect.
+pub fn first_turn(instance: &Instance, ticks: u64) -> Turn {
+    Turn {
+        guide: USUAL.guide(FIRST_RATE, USUAL.slack()),
+        best: Amount::FAR,
+        ticks,
+        widest: FIRST_WIDEST,
+    }
+}
+
+/// The second beam of a first plan, where the first one lost so much, in mm².
+pub fn second_turn(instance: &Instance, lost: Option<u64>, ticks: u64) -> Turn {
+    let (rate, best) = match lost {
+        Some(lost) => (
+            USUAL.rate(lost, instance.area()).unwrap_or(FIRST_RATE),
+            Amount(lost),
+        ),
+        None => (FIRST_RATE, Amount::FAR),
+    };
+    Turn {
+        guide: USUAL.guide(rate, USUAL.slack_for(instance.items().len())),
+        best,
+        ticks,
+        widest: FIRST_WIDEST,
+    }
+}
+
+/// How often the limits are doubled for the wide beam of this number: once each guide has had its turn.
 fn doubled(number: u32) -> u32
     ensures { result ≤ 6 }
 {
     (number / 6).min(MOST_DOUBLED)
 }
 
-/// The guide of the beam of this number, where the best plan so far loses so much, in mm².
-pub fn guide_of(instance: &Instance, number: u32, lost: u64) -> Guide {
-    let row = ROWS[(number % 6) as usize];
-    Guide {
-        rate: rate_of(row.share, lost, instance.area()).unwrap_or(0),
-        even: row.even,
-        tolerance: tolerance_for(instance, Length(row.tolerance)),
-        right: Amount(row.right),
-        above: Amount(row.above),
-        more: row.more,
-        loose: row.loose,
+/// A wide beam's turn.
+pub fn wide_turn(instance: &Instance, beam: WideBeam) -> Turn {
+    let row = ROWS[(beam.number % 6) as usize];
+    let rate = row.rate(beam.lost, instance.area()).unwrap_or(0);
+    Turn {
+        guide: row.guide(rate, row.tolerance_for(instance)),
+        best: Amount(beam.lost),
+        ticks: beam.ticks,
+        widest: WIDEST << doubled(beam.number),
     }
 }
 
-/// How many nodes of a level the beam of this number expands at the most.
-pub fn widest(number: u32) -> u64 {
-    WIDEST << doubled(number)
-}
-
-/// How many ticks the wide beam of this number has, where the first plan takes so many: twice as many as the one before, as far as that is allowed.
+/// How many ticks the wide beam of this number has, where the first plan takes so many: twice as many as the one
+/// before, as far as that is allowed.
 pub fn wide_ticks(first: u64, number: u32) -> u64 {
-    let start = FIRST_TICKS.saturating_sub(first).max(first);
+    let rest = WIDE_TICKS.saturating_sub(first);
+    if number == 0 && rest > 0 {
+        return rest;
+    }
+    let start = rest.max(first);
     let grown = start.saturating_mul(1 << number.min(MOST_GROWN));
     let most = first
         .saturating_mul(MOST_TIMES)

@@ -13,12 +13,10 @@ struct Seats {
     places: Vec<u16>,
 }
 
-/// The same for three levels, by their numbers of items modulo 3.
+/// How many items of each stack the nodes of three levels have cut, by their numbers of items modulo 3.
 #[derive(Drop)]
 pub struct Seating {
     levels: [Seats; 3],
-    /// The numbers of the node that was seated last.
-    last: Vec<u16>,
 }
 
 impl Seats {
@@ -67,12 +65,11 @@ fn fill_seat(levels: &[Seats; 3], node: &Node, seat: &mut [u16]) {
 }
 
 impl Seating {
-    /// Nobody is seated, and of so many stacks nothing is cut.
-    pub fn new(alloc: Global, stacks: usize) -> Result<Seating, Memory> {
-        Ok(Seating {
+    /// Nobody is seated.
+    pub fn new(alloc: Global) -> Seating {
+        Seating {
             levels: [Seats::new(alloc), Seats::new(alloc), Seats::new(alloc)],
-            last: vec![in alloc; 0; stacks]?,
-        })
+        }
     }
 
     /// Begins a level whose first node has this place in the arena.
@@ -92,16 +89,6 @@ impl Seating {
         self.levels[level % 3].first = first as usize;
     }
 
-    /// Notes how many items of each stack the level's next node has cut.
-    pub fn seat(&mut self, level: usize, stacks: usize, node: &Node) -> Result<(), Memory> {
-        self.last.resize(stacks, 0)?;
-        fill_seat(&self.levels, node, self.last.as_mut_slice());
-        self.levels[level % 3]
-            .places
-            .extend_from_slice(self.last.as_slice())?;
-        Ok(())
-    }
-
     /// Notes the numbers of a node of the next level in a list of its own, which has a place for each stack.
     pub fn fill(&self, node: &Node, seat: &mut [u16]) {
         fill_seat(&self.levels, node, seat);
@@ -111,10 +98,5 @@ impl Seating {
     pub fn extend(&mut self, level: usize, places: &[u16]) -> Result<(), Memory> {
         self.levels[level % 3].places.extend_from_slice(places)?;
         Ok(())
-    }
-
-    /// The numbers of the node that was seated last, and before that of none.
-    pub fn last(&self) -> &[u16] {
-        self.last.as_slice()
     }
 }

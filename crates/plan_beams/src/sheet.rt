@@ -1,7 +1,7 @@
 //! Parameters, plates and defects in the form that the search reads.
 
 use crate::measure::Length;
-use crate::scene::Rectangle;
+use crate::shapes::Rectangle;
 use glass_base::{Defect, Instance, Item, Memory};
 use std::alloc::Global;
 

@@ -1,12 +1,12 @@
-//! Sieves, to which the candidates of a level are dealt out by the items that they hold: of those that hold the same items they keep the ones that none before them dominates. They do not
-//! see one another, so that any number of threads may work on them.
+//! Sieves, to which the candidates of a level are dealt out by the items that they hold: of those that hold the same
+//! items they keep the ones that none before them dominates. They do not see one another, so that any number of
+//! threads may work on them.
 
 use crate::crew::Labour;
-use crate::lanes::LANES;
-use crate::measure::Length;
-use crate::node::Candidate;
+use crate::guide::Tolerance;
 use crate::pools::Pool;
 use crate::taken::{Front, Taken};
+use crate::task::LANES;
 use crate::ticks::Ticks;
 use crossbeam_utils::CachePadded;
 use glass_base::Memory;
@@ -36,11 +36,6 @@ pub struct Sieve {
     apart: CachePadded<()>,
 }
 
-/// The sieve to which a candidate goes.
-pub fn sieve_of(candidate: &Candidate) -> u32 {
-    (candidate.mix % LANES as u64) as u32
-}
-
 impl Sieve {
     pub fn new(alloc: Global) -> Result<Sieve, Memory> {
         Ok(Sieve {
@@ -67,7 +62,7 @@ impl Sieve {
     }
 
     /// Notes those that none before them dominates.
-    fn sift(&mut self, pool: &Pool, tolerance: Length) -> Result<(), Memory> {
+    fn sift(&mut self, pool: &Pool, tolerance: Tolerance) -> Result<(), Memory> {
         for entry in &self.entries {
             if let Some(candidate) = pool.get(entry.place) {
                 let bucket = (candidate.mix / LANES as u64 % BUCKETS) as usize;
@@ -88,7 +83,7 @@ impl Sieve {
 #[derive(Clone, Copy)]
 pub struct Sifting<'s> {
     pub pool: &'s Pool,
-    pub tolerance: Length,
+    pub tolerance: Tolerance,
 }
 
 impl Labour<Sieve> for Sifting<'_> {

@@ -13,8 +13,8 @@ pub struct Piece {
     pub length: Length,
     pub width: Length,
     pub area: Amount,
-    /// What it is worth when it is cut, in 1/1024 mm² of waste: more where much stands behind it in its stack, so that the
-    /// stacks are kept even.
+    /// What it is worth when it is cut, in 1/1024 mm² of waste: more where much stands behind it in its stack, so
+    /// that the stacks are kept even.
     pub value: Amount,
 }
 

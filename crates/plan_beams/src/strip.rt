@@ -2,7 +2,7 @@
 
 use crate::measure::Length;
 use crate::node::{Begins, Node};
-use crate::scene::{Band, Cell, Rectangle};
+use crate::shapes::{Band, Cell, Rectangle};
 use crate::sheet::Sheet;
 use crate::ticks::Ticks;
 use glass_base::Memory;
@@ -22,17 +22,23 @@ pub struct OpenStrip {
     pub defects: Vec<Rectangle>,
 }
 
-/// The node before this one.
-pub fn parent_of(arena: &[Node], node: &Node) -> Option<Node> {
-    arena.get(node.parent? as usize).copied()
-}
-
 /// The bands behind the first, which is the open one.
 pub fn closed(bands: &[Band]) -> &[Band] {
     match bands.split_first() {
         Some((_, closed)) => closed,
         None => &[],
     }
+}
+
+/// Whether a band of these cells, `high` high, may be higher by any number: over or under each of them is a waste.
+fn is_lax_band(cells: &[Cell], high: Length) -> bool {
+    !cells.iter().any(|cell| cell.two || high <= cell.height)
+}
+
+/// Whether a strip of these bands, from `a` to `b`, may be wider by any number below a waste: behind each band is a
+/// waste.
+fn is_lax_strip(sheet: &Sheet, bands: &[Band], a: Length, b: Length) -> bool {
+    b - a + sheet.waste <= sheet.max1 && !bands.iter().any(|band| b <= band.right)
 }
 
 impl OpenStrip {
@@ -58,7 +64,7 @@ impl OpenStrip {
             if current.begins.is_strip() {
                 return Ok(());
             }
-            let Some(parent) = parent_of(arena, &current) else {
+            let Some(parent) = current.parent_in(arena) else {
                 return Ok(());
             };
             if let Begins::Band = current.begins {
@@ -68,6 +74,26 @@ impl OpenStrip {
             current = parent;
         }
         Ok(())
+    }
+
+    /// The upper side of the last band that may be higher, once the node's band is closed.
+    pub fn lax_d(&self, node: &Node) -> Length {
+        let high = Length::from(node.d) - Length::from(node.c);
+        if is_lax_band(self.cells.as_slice(), high) {
+            node.d.into()
+        } else {
+            node.lax_d.into()
+        }
+    }
+
+    /// The right side of the last strip that may be wider, once the node's strip is closed.
+    pub fn lax_b(&self, sheet: &Sheet, node: &Node) -> Length {
+        let bands = self.bands.as_slice();
+        if is_lax_strip(sheet, bands, node.a.into(), node.b.into()) {
+            node.b.into()
+        } else {
+            node.lax_b.into()
+        }
     }
 
     /// Notes the defects of a plate that reach right of `left` and begin left of `right`.

@@ -1,7 +1,7 @@
 //! The nodes of a level that are taken, and which candidates they make needless.
 
 use crate::chains::Chains;
-use crate::measure::Length;
+use crate::guide::Tolerance;
 use crate::node::Candidate;
 use crate::ticks::Ticks;
 use glass_base::Memory;
@@ -21,6 +21,9 @@ pub struct Front {
     c: u16,
     d: u16,
     right: u16,
+    /// Whether a strip of its plate, and a band of its strip, may reach further.
+    is_lax_right: bool,
+    is_lax_above: bool,
 }
 
 /// The nodes of a level that are taken.
@@ -31,8 +34,13 @@ pub struct Taken {
 }
 
 /// Whether `one` is no more than the other, but for the tolerance.
-fn is_no_more(one: u16, other: u16, tolerance: Length) -> bool {
-    Length::from(one) <= Length::from(other) + tolerance
+fn is_no_more(one: u16, other: u16, tolerance: Tolerance) -> bool {
+    match tolerance {
+        Tolerance::Slack(slack) => u32::from(one) <= u32::from(other).saturating_add(slack.0),
+        Tolerance::Gap(waste) => {
+            one == other || u32::from(one).saturating_add(waste.0) <= u32::from(other)
+        }
+    }
 }
 
 impl Front {
@@ -46,11 +54,13 @@ impl Front {
             c: node.c,
             d: node.d,
             right: node.right().short(),
+            is_lax_right: node.lax_b > 0,
+            is_lax_above: node.lax_d > 0,
         }
     }
 
     /// Whether its band and what lies in it reach no further than those of the other.
-    fn is_band_no_more(&self, other: &Front, tolerance: Length) -> bool {
+    fn is_band_no_more(&self, other: &Front, tolerance: Tolerance) -> bool {
         if is_no_more(self.d, other.c, tolerance) {
             return true;
         }
@@ -60,12 +70,18 @@ impl Front {
     }
 
     /// Whether it is nowhere worse than the other, but for the tolerance.
-    fn is_no_more(&self, other: &Front, tolerance: Length) -> bool {
+    fn is_no_more(&self, other: &Front, tolerance: Tolerance) -> bool {
         if self.plate != other.plate {
             return self.plate < other.plate;
         }
+        if tolerance.is_exact() && other.is_lax_right && !self.is_lax_right {
+            return false;
+        }
         if is_no_more(self.b, other.a, tolerance) {
             return true;
+        }
+        if tolerance.is_exact() && other.is_lax_above && !self.is_lax_above {
+            return false;
         }
         is_no_more(self.a, other.a, tolerance)
             && is_no_more(self.b, other.b, tolerance)
@@ -73,7 +89,7 @@ impl Front {
     }
 
     /// Whether it holds the same items as the other, and is nowhere worse but for the tolerance.
-    fn dominates(&self, other: &Front, tolerance: Length) -> bool {
+    fn dominates(&self, other: &Front, tolerance: Tolerance) -> bool {
         self.mix == other.mix && self.is_no_more(other, tolerance)
     }
 }
@@ -92,17 +108,12 @@ impl Taken {
         self.chains.clear();
     }
 
-    /// How many nodes are taken.
-    pub fn len(&self) -> usize {
-        self.list.len()
-    }
-
     /// Whether a node of this bucket dominates a candidate.
     fn is_dominated(
         &self,
         front: &Front,
         bucket: usize,
-        tolerance: Length,
+        tolerance: Tolerance,
         ticks: &mut Ticks,
     ) -> bool {
         let mut element = self.chains.last(bucket);
@@ -126,7 +137,7 @@ impl Taken {
         &mut self,
         front: &Front,
         bucket: usize,
-        tolerance: Length,
+        tolerance: Tolerance,
         ticks: &mut Ticks,
     ) -> Result<bool, Memory> {
         if self.is_dominated(front, bucket, tolerance, ticks) {

@@ -5,6 +5,12 @@ use crate::measure::Amount;
 use crate::sheet::Sheet;
 use crate::stock::Stock;
 
+/// How many lanes work on a level, and how many sieves, whatever the number of threads.
+pub const LANES: usize = 32;
+
+/// So many of the lanes go ahead, and what they find tells the others from which key on a child is of no use.
+pub const AHEAD: usize = 4;
+
 /// What a beam is to do.
 #[derive(Clone, Copy)]
 pub struct Task<'t> {
@@ -20,7 +26,8 @@ pub struct Task<'t> {
 }
 
 impl Task<'_> {
-    /// How many nodes of a level are expanded at the most, so that the ticks that are left last to the end where a node takes `cost`.
+    /// How many nodes of a level are expanded at the most, so that the ticks that are left last to the end where a node
+    /// takes `cost`.
     pub fn width(&self, spent: u64, level: usize, cost: u64) -> usize {
         let levels = self.stock.items.saturating_sub(level).max(1) as u64;
         let left = self.ticks.saturating_sub(spent);
