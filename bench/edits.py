@@ -21,7 +21,7 @@ def edit(path):
     """The file that an edit changes, and the first text that it replaces."""
     file, old = "", ""
     for line in open(path, encoding="utf-8"):
-        if line.startswith("file: "):
+        if line.startswith("file: ") and not file:
             file = line[6:].strip()
         elif line.startswith("old: ") and not old:
             old = line[5:].rstrip("\n")

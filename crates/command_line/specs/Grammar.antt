@@ -57,7 +57,7 @@ check = record usual { reads = role.Batch ∷ role.Defects ∷ role.Plan ∷ rol
 -- each command by its own word, and by what is not as usual
 abbrev pub pattern_of : Verb → Pattern
 pattern_of verb.Draft = record usual { word = codes "draft"; reads = role.Batch ∷ []; stores = product.Plan ∷ [] }
-pattern_of verb.Plan = record usual { word = codes "plan"; stores = found; counts = count.Workers ∷ count.Budget ∷ count.Effort ∷ []; flags = flag.Watch ∷ flag.Fronts ∷ [] }
+pattern_of verb.Plan = record usual { word = codes "plan"; stores = found; options = role.Params ∷ role.Plates ∷ role.Plan ∷ []; counts = count.Workers ∷ count.Budget ∷ count.Effort ∷ []; flags = flag.Watch ∷ flag.Fronts ∷ [] }
 pattern_of verb.Gen = record usual {
   word = codes "gen";
   leads = lead.Start ∷ lead.Items ∷ lead.Defects ∷ [];
@@ -70,8 +70,8 @@ pattern_of verb.Gen = record usual {
 pattern_of verb.Judge = record usual { word = codes "judge"; reads = role.Batch ∷ role.Defects ∷ role.Plan ∷ [] }
 pattern_of verb.Verify = record check { word = codes "verify"; counts = count.Frozen ∷ count.FrontsLimit ∷ [] }
 pattern_of verb.Convert = record check { word = codes "convert"; stores = product.Certificate ∷ [] }
-pattern_of verb.Resume = record check { word = codes "resume"; stores = found; counts = count.Workers ∷ count.Budget ∷ count.FrontsLimit ∷ [] }
-pattern_of verb.Freeze = record usual { word = codes "freeze"; leads = lead.Frozen ∷ []; reads = role.Batch ∷ role.Defects ∷ role.Plan ∷ []; stores = found; counts = count.Workers ∷ count.Budget ∷ [] }
+pattern_of verb.Resume = record check { word = codes "resume"; stores = found; counts = count.Workers ∷ count.Budget ∷ count.Effort ∷ count.FrontsLimit ∷ [] }
+pattern_of verb.Freeze = record usual { word = codes "freeze"; leads = lead.Frozen ∷ []; reads = role.Batch ∷ role.Defects ∷ role.Plan ∷ []; stores = found; counts = count.Workers ∷ count.Budget ∷ count.Effort ∷ []; flags = flag.Fronts ∷ [] }
 pattern_of verb.Sheet = record usual { word = codes "sheet"; reads = role.Batch ∷ role.Defects ∷ role.Plan ∷ []; stores = product.Sheet ∷ [] }
 pattern_of verb.Replay = record usual { word = codes "replay"; reads = role.Batch ∷ role.Defects ∷ role.Sheet ∷ [] }
 pattern_of verb.Picture = record usual { word = codes "picture"; reads = role.Batch ∷ role.Defects ∷ role.Plan ∷ []; stores = product.Picture ∷ [] }
@@ -109,8 +109,9 @@ is_name (a ∷ b ∷ rest) = not ((a == 45) && (b == 45))
 abbrev pub name_said : List ℕ → Option (List ℕ)
 name_said word = if is_dash word then None else Some word
 
--- what stands before the file name in an option
+-- what stands before the file name in an option; a plan that a search begins with is one to go on from
 abbrev pub option_front : Role → List ℕ
+option_front role.Plan = codes "--from="
 option_front of = codes "--" ++ role_word of ++ codes "="
 
 -- the file that a word names as an option of this role

@@ -111,6 +111,7 @@ verb_about verb.Picture = codes "a picture of a plan, with its loss or the first
 abbrev pub option_about : Role → List ℕ
 option_about role.Params = codes "other sizes of plates and other least sizes of pieces"
 option_about role.Plates = codes "plates with widths of their own"
+option_about role.Plan = codes "a plan to go on from, so that what is stored loses no more"
 option_about _ = codes "another file"
 
 abbrev pub count_about : Count → List ℕ
@@ -156,7 +157,7 @@ abbrev pub manual_of : Program → Manual
 manual_of program.Glass = record {
   name = codes "glass";
   verbs = verbs;
-  options = role.Params ∷ role.Plates ∷ [];
+  options = role.Params ∷ role.Plates ∷ role.Plan ∷ [];
   counts = count.Workers ∷ count.Budget ∷ count.Effort ∷ count.Frozen ∷ count.FrontsLimit ∷ [];
   flags = flag.Watch ∷ flag.Fronts ∷ [];
 }

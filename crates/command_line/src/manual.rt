@@ -203,7 +203,8 @@ fn option_about(role: Role) -> &'static str
     match role {
         Role::Params => "other sizes of plates and other least sizes of pieces",
         Role::Plates => "plates with widths of their own",
-        Role::Batch | Role::Defects | Role::Plan | Role::Cert | Role::Sheet => "another file",
+        Role::Plan => "a plan to go on from, so that what is stored loses no more",
+        Role::Batch | Role::Defects | Role::Cert | Role::Sheet => "another file",
     }
 }
 
@@ -302,7 +303,7 @@ fn told_of(program: Program) -> Manual
         Program::Glass => Manual {
             name: "glass",
             verbs: &VERBS,
-            options: &[Role::Params, Role::Plates],
+            options: &[Role::Params, Role::Plates, Role::Plan],
             counts: &[
                 Count::Workers,
                 Count::Budget,

@@ -5,7 +5,7 @@ use Rattle.glass_base.specs.Problem.{Problem}
 use Rattle.cut_model.specs.declared.steps.Step.{Step}
 use Rattle.cut_model.specs.declared.steps.Trace.{Trace}
 use Rattle.cut_model.specs.Steps.{length_of}
-use Rattle.first_plan.specs.FirstPlans.{IsFirstPlan}
+use Rattle.first_plan.specs.FirstPlans.{IsFirstPlan, IsNoWorse}
 use Rattle.first_plan.specs.inner.Betters.{IsBetterOf}
 use Rattle.plan_draft.specs.Drafts.{HasNoDraft, IsDraft}
 use Rattle.plan_draft.proofs.Ones.{draft_or_none, drafts_one}
@@ -42,3 +42,16 @@ pub better_is_none : (b : Problem) (first other better : Option Trace) → IfNon
     → IfNone better ((number : ℕ) × HasNoDraft b number)
 better_is_none b first other None none best = subst (λ (o : Option Trace). IfNone o ((number : ℕ) × HasNoDraft b number)) best.0 none
 better_is_none b first other (Some better) none best = tt
+
+-- it is no worse than the other trace
+pub better_is_no_worse : (b : Problem) (first other better : Option Trace) → IsBetterOf b first other better → IsNoWorse b other better
+better_is_no_worse b first None better best = tt
+better_is_no_worse b first (Some other) None best = cc best.1
+better_is_no_worse b first (Some other) (Some better) best = best.as_short_as_second
+
+-- what is no worse than a plan is no worse than one than which this is no worse
+pub no_worse_than : (b : Problem) (known between found : Option Trace) → IsNoWorse b known between → IsNoWorse b between found → IsNoWorse b known found
+no_worse_than b None between found first second = tt
+no_worse_than b (Some known) None found first second = absurd first
+no_worse_than b (Some known) (Some between) None first second = absurd second
+no_worse_than b (Some known) (Some between) (Some found) first second = omega (arith, first, second)

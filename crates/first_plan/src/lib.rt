@@ -9,4 +9,4 @@ mod starting;
 
 pub use choosing::first_plan;
 pub use improving::{Effort, Progress, Team, improve};
-pub use starting::{Start, start_by_fronts};
+pub use starting::{Start, better_first, start_by_fronts};

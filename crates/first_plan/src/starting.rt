@@ -5,7 +5,7 @@ ghost use Rattle.cut_model.specs.Lawful.{IsLawful};
 ghost use Rattle.cut_model.specs.Loss.{loss_of};
 ghost use Rattle.cut_model.specs.Steps.{length_of};
 ghost use Rattle.cut_model.specs.Tree.{Forest};
-ghost use Rattle.first_plan.specs.FirstPlans.{IsFirstPlan};
+ghost use Rattle.first_plan.specs.FirstPlans.{IsFirstPlan, IsNoWorse};
 ghost use Rattle.first_plan.specs.inner.Betters.{IsBetterOf};
 ghost use Rattle.front_course.specs.Claims.{LosesAtLeast};
 ghost use Rattle.glass_base.specs.Problem.{IsProblem};
@@ -35,7 +35,11 @@ pub struct Start {
 }
 
 /// The better of a first plan and another one, or the only one. Where both take the same glass it is the other one.
-fn improved(instance: &Instance, first: Option<Trace>, other: Option<Trace>) -> Option<Trace>
+pub fn better_first(
+    instance: &Instance,
+    first: Option<Trace>,
+    other: Option<Trace>,
+) -> Option<Trace>
     requires problem { IsProblem instance.now }
     requires plan { IfSome first (λ trace. IsFirstPlan instance.now trace.steps.items) }
     requires none { IfNone first ((number : ℕ) × HasNoDraft instance.now number) }
@@ -43,6 +47,7 @@ fn improved(instance: &Instance, first: Option<Trace>, other: Option<Trace>) -> 
     ensures plan { IfSome result (λ trace. IsFirstPlan instance.now trace.steps.items) }
     ensures none { IfNone result ((number : ℕ) × HasNoDraft instance.now number) }
     ensures better { IsBetterOf instance.now first other result }
+    ensures no_worse { IsNoWorse instance.now other result }
 {
     better_of(instance, first, other)
 }
@@ -72,8 +77,9 @@ fn floor_of(instance: &Instance, length: u64) -> u64
     }
 }
 
-/// What a search begins with: a first plan, as `first_plan` promises it, that is the best of the draft, of those that two beams find, and of one that is looked for along fronts; and
-/// the greatest floor that fronts show. Where a plan reaches the floor, no other one is looked for, since none is better.
+/// What a search begins with: a first plan, as `first_plan` promises it, that is the best of the draft, of one that is
+/// known, if there is one, of those that two beams find, and of one that is looked for along fronts; and the greatest
+/// floor that fronts show. Where a plan reaches the floor, no other one is looked for, since none is better.
 ///
 /// The effort is counted and not timed, so that the same instance has the same start on each machine. Where there are
 /// many fronts it may take minutes and gigabytes; where there are too many, or where there is no way to cut the items
@@ -81,14 +87,18 @@ fn floor_of(instance: &Instance, length: u64) -> u64
 pub fn start_by_fronts<W: Watch>(
     alloc: Global,
     ground: Ground<'_>,
+    known: Option<Trace>,
     search: &FrontSearch<'_, W>,
 ) -> Result<Start, Memory>
+    requires known { IfSome known (λ trace. IsComplete ground.instance.now trace.steps.items) }
     ensures plan { IfOk result (λ start. IfSome start.first
         (λ trace. IsFirstPlan ground.entry.instance.now trace.steps.items)) }
     ensures none { IfOk result (λ start. IfNone start.first ((number : ℕ)
         × HasNoDraft ground.entry.instance.now number)) }
     ensures floor { let b = ground.entry.instance.now in
         IfOk result (λ start. (plan : Forest) → IsLawful b plan → start.floor ≤ loss_of b plan) }
+    ensures no_worse { IfOk result (λ start. IsNoWorse ground.entry.instance.now known
+        start.first) }
 {
     let ticks = effort(ground.instance.items().len());
     let beams = Beams::new(alloc, ground.instance)?;
@@ -96,6 +106,7 @@ pub fn start_by_fronts<W: Watch>(
     let lost = loss_in(&found);
     let drafted = draft(alloc, ground.instance, ground.map)?;
     let first = first_of(ground.instance, trace_in(found), drafted);
+    let first = better_first(ground.instance, first, known);
     let most = length_of_first(ground.instance, &first);
     let Shown { length, plan } = longest_with_plan(
         alloc,
@@ -105,11 +116,11 @@ pub fn start_by_fronts<W: Watch>(
         search.watch,
     )?;
     let floor = floor_of(ground.instance, length);
-    let best = improved(ground.instance, first, plan);
+    let best = better_first(ground.instance, first, plan);
     if length_of_first(ground.instance, &best) <= length {
         return Ok(Start { first: best, floor });
     }
     let other = by_second_beam(alloc, ground, &beams, lost, ticks)?;
-    let first = improved(ground.instance, best, other);
+    let first = better_first(ground.instance, best, other);
     Ok(Start { first, floor })
 }

@@ -11,16 +11,18 @@ use Rattle.cert_log.specs.declared.certificate.Certificate.{Certificate}
 use Rattle.cert_log.specs.Texts.{cert_text}
 use Rattle.plan_csv.specs.PlanTexts.{plan_said}
 use Rattle.run_frame.specs.Answers.{Answer}
-use Rattle.run_checks.specs.Checks.{Converts, NotAccepted, converted, too_long_to_store}
+use Rattle.run_checks.specs.Checks.{Converts, NoLawfulPlan, NotAccepted, converted, too_long_to_store}
 use Rattle.glass_run.specs.FreezeHeadlines.{FindsWrongBehind, FindsWrongFrom, cut_already}
 use Rattle.run_checks.specs.FrozenChecks.{NotAcceptedBehind, VerifiesFrom}
+use Rattle.run_checks.specs.Checks.NoLawfulPlan.{bad_text, unlawful_plan}
 use Rattle.run_checks.specs.Checks.NotAccepted.{bad_cert, bad_plan, bad_tree, broken_plan}
 use Rattle.glass_run.specs.Commands.{Answers, AnswersInstance, cert_name, plan_name}
-use Rattle.command_line.specs.Grammar.{Line, count_in}
+use Rattle.command_line.specs.Grammar.{Line, count_in, flag_in}
 use Rattle.command_line.specs.declared.grammar.Count.TheVariants as count
+use Rattle.command_line.specs.declared.grammar.Flag.TheVariants as flag
 use Rattle.run_plans.specs.Judgements.{IsFirstBroken, unlawful as unlawful_of}
 use Rattle.glass_run.specs.Headlines.{Ended, FindsUnlawful, FindsWrong, IsCheck, IsJudging, ReadBy}
-use Rattle.run_search.specs.Plans.{planned}
+use Rattle.run_search.specs.Plans.{PlansFrom, PlansWithin, planned}
 use Rattle.run_search.specs.Resumptions.{GoesOn, GoesOnWithin, Resumes, too_long_to_read}
 use Rattle.run_frame.specs.Runs.{Completes, Prints, Stands, World}
 use Rattle.run_checks.specs.Said.{IsPlanIn}
@@ -242,9 +244,41 @@ unlawful_check words line held old new check is e =
     let other = not_done check line held c.answer is e.verb_is (subst IsRefusal c.status_is tt) s in
     finds_unlawful line held old new c.answer s.texts s.b (read_by check line held s.texts s.b (check_reads check is) e.verb_is s.reads) (broken_from (cut_already check line) s.b s.texts c.answer c.status_is other) c.stored c.prints
 
+-- a search is told to have ended in one of three ways
+no_plan_refused : (closed planned : Bool) → status.Unlawful ≡ (if closed then (if planned then status.Optimal else status.Infeasible) else status.Stopped) → ⊥
+no_plan_refused closed planned e = ends_well closed planned (subst IsRefusal e tt)
+
+-- so where a plan is known before
+broken_before : (b : Problem) (budget : ℕ) (watch fronts : Bool) (text : Option (List ℕ)) (out cert : List ℕ) (answer : Answer) → status.Unlawful ≡ answer.status → PlansFrom b budget watch fronts text out cert answer → IsBroken b text answer
+broken_before b budget watch fronts text out cert answer is plans =
+    elim plans [
+      | inl p ↦ absurd (no_plan_refused (p.2.certificate.left == 0) (is_some p.2.certificate.loss) (is ∙ ap (λ (a : Answer). a.status) p.2.answer_is))
+      | inr none ↦ by none
+    ]
+  where
+    by : NoLawfulPlan b text answer → IsBroken b text answer
+    by (bad_text reason refuses refused) = absurd (subst IsRefused (sym is) (plan_refused reason answer refused))
+    by (unlawful_plan plan breach said wrong first e) =
+        record { plan = plan; broken = breach; said = said_plan b text plan said; unlawful = wrong; first = first; answer_is = e }
+
+unlawful_before : (words : List (List ℕ)) (line : Line) (held : Contents) (old new : World) → Ended words verb.Plan line held old new status.Unlawful → FindsUnlawful line held old new
+unlawful_before words line held old new e =
+    let c : Completes Answers line old new status.Unlawful = e.runs in
+    let s = completed_says line held old new status.Unlawful e.told (λ h. h) c in
+    let budget = count_in line count.Budget in
+    let watch = flag_in line flag.Watch in
+    let fronts = flag_in line flag.Fronts in
+    let within : PlansWithin s.b budget watch fronts (text_for s.texts role.Plan) (plan_name line) (cert_name line) c.answer =
+    subst (λ (v : Verb). AnswersInstance v line s.texts s.b c.answer) e.verb_is s.answers in
+    elim within [
+      | inl w ↦ finds_unlawful line held old new c.answer s.texts s.b (read_by verb.Plan line held s.texts s.b tt e.verb_is s.reads)
+          (broken_before s.b budget watch fronts (text_for s.texts role.Plan) (plan_name line) (cert_name line) c.answer c.status_is w.1) c.stored c.prints
+      | inr much ↦ absurd (subst IsRefusal (c.status_is ∙ ap (λ (a : Answer). a.status) much.1) tt)
+    ]
+
 pub judged_unlawful_by : (words : List (List ℕ)) (line : Line) (held : Contents) (old new : World) (judging : Verb) → IsJudging judging → Ended words judging line held old new status.Unlawful → FindsUnlawful line held old new
 judged_unlawful_by words line held old new verb.Draft is e = absurd is
-judged_unlawful_by words line held old new verb.Plan is e = absurd is
+judged_unlawful_by words line held old new verb.Plan is e = unlawful_before words line held old new e
 judged_unlawful_by words line held old new verb.Gen is e = absurd is
 judged_unlawful_by words line held old new verb.Judge is e = unlawful_judgement words line held old new e
 judged_unlawful_by words line held old new verb.Verify is e = unlawful_check words line held old new verb.Verify tt e

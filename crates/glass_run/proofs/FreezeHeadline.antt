@@ -18,8 +18,9 @@ use Rattle.plan_freeze.proofs.Forests.{first_rows}
 use Rattle.plan_freeze.proofs.FrozenLaw.{rest_is_planned, rest_loses, whole_is_found}
 use Rattle.cert_log.specs.declared.certificate.Certificate.{Certificate}
 use Rattle.cert_log.specs.Texts.{cert_text}
-use Rattle.command_line.specs.Grammar.{Line, count_in, files_of}
+use Rattle.command_line.specs.Grammar.{Line, count_in, files_of, flag_in}
 use Rattle.command_line.specs.declared.grammar.Count.TheVariants as count
+use Rattle.command_line.specs.declared.grammar.Flag.TheVariants as flag
 use Rattle.command_line.specs.declared.grammar.Verb.{Verb}
 use Rattle.command_line.specs.declared.grammar.Verb.TheVariants as verb
 use Rattle.run_frame.specs.Answers.{Answer}
@@ -43,19 +44,18 @@ use Rattle.glass_run.proofs.SearchHeadline.{accepts, bound_exact, completes, lef
 use Rattle.run_frame.proofs.SmallTexts.{text_short}
 use Rattle.run_frame.proofs.Statuses.{IsRefused}
 use Rattle.run_plans.proofs.Statuses.{plan_refused}
-use Rattle.run_search.proofs.StoredTexts.{second_floor}
 
 -- the status of an answer
 abbrev status_of : Answer → Status
 status_of a = a.status
 
 -- an answer that ends a search is that of what was found
-said_frozen : (b : Problem) (k budget : ℕ) (said : Result Forest BadPlan) (out cert : List ℕ) (answer : Answer) → IsSearchEnd answer.status → FreezesSaid b k budget said out cert answer →
-    (plan : Forest) × (said ≡ Ok plan) × Freezes b k budget plan out cert answer
-said_frozen b k budget (Ok plan) out cert answer end (broken_plan broken wrong first is) = absurd (subst IsSearchEnd (ap status_of is) end)
-said_frozen b k budget (Ok plan) out cert answer end (none_left lawful le is) = absurd (subst IsSearchEnd (ap status_of is) end)
-said_frozen b k budget (Ok plan) out cert answer end (planned_anew found) = (plan, refl, found)
-said_frozen b k budget (Err reason) out cert answer end refused = absurd (accepts answer.status end (plan_refused reason answer refused))
+said_frozen : (b : Problem) (k budget : ℕ) (fronts : Bool) (said : Result Forest BadPlan) (out cert : List ℕ) (answer : Answer) → IsSearchEnd answer.status → FreezesSaid b k budget fronts said out cert answer →
+    (plan : Forest) × (said ≡ Ok plan) × Freezes b k budget fronts plan out cert answer
+said_frozen b k budget fronts (Ok plan) out cert answer end (broken_plan broken wrong first is) = absurd (subst IsSearchEnd (ap status_of is) end)
+said_frozen b k budget fronts (Ok plan) out cert answer end (none_left lawful le is) = absurd (subst IsSearchEnd (ap status_of is) end)
+said_frozen b k budget fronts (Ok plan) out cert answer end (planned_anew found) = (plan, refl, found)
+said_frozen b k budget fronts (Err reason) out cert answer end refused = absurd (accepts answer.status end (plan_refused reason answer refused))
 
 -- where a plan was found and no box is left open, the search ended with `optimal`
 optimal : (closed : Bool) (loss : Option ℕ) (n : ℕ) → loss ≡ Some n → cond closed (cond (is_some loss) status.Optimal status.Infeasible) status.Stopped ≢ status.Stopped →
@@ -64,10 +64,10 @@ optimal true loss n is ends = ap (λ (o : Option ℕ). cond (is_some o) status.O
 optimal false loss n is ends = absurd (ends refl)
 
 -- the texts of what was found say it
-texts_say : (line : Line) (held : Contents) (texts : Texts) (b : Problem) (k budget : ℕ) (plan : Forest) (out cert : List ℕ) (answer : Answer) → SaidBy line held texts b →
-    plan_said b (text_or_empty texts role.Plan) ≡ Ok plan → (f : Freezes b k budget plan out cert answer) →
+texts_say : (line : Line) (held : Contents) (texts : Texts) (b : Problem) (k budget : ℕ) (fronts : Bool) (plan : Forest) (out cert : List ℕ) (answer : Answer) → SaidBy line held texts b →
+    plan_said b (text_or_empty texts role.Plan) ≡ Ok plan → (f : Freezes b k budget fronts plan out cert answer) →
     SayBoth b (Some (solution_text b (joined (first_plates k plan) f.tail))) (cert_text f.certificate) (Some (joined (first_plates k plan) f.tail)) f.certificate
-texts_say line held texts b k budget plan out cert answer reads said f =
+texts_say line held texts b k budget fronts plan out cert answer reads said f =
     let short = text_short held (files_of line) texts role.Plan reads.texts_are in
     let rows : count_rows plan ≤ length (text_or_empty texts role.Plan) = (read_fits b (text_or_empty texts role.Plan) plan said).2 in
     f.said (omega (arith, first_rows k plan f.tail, f.few, f.rest_is.rules.few_items, short, rows))
@@ -78,13 +78,14 @@ stores_freeze : (line : Line) (held : Contents) (old new : World) (answer : Answ
 stores_freeze line held old new answer result of end is s stored prints =
     let k : ℕ = frozen_in line in
     let budget : ℕ = count_in line count.Budget in
+    let fronts : Bool = flag_in line flag.Fronts in
     let b : Problem = s.b in
-    let within : FreezesWithin b k budget (text_or_empty s.texts role.Plan) (plan_name line) (cert_name line) answer = subst (λ (v : Verb). AnswersInstance v line s.texts b answer) of s.answers in
+    let within : FreezesWithin b k budget fronts (text_or_empty s.texts role.Plan) (plan_name line) (cert_name line) answer = subst (λ (v : Verb). AnswersInstance v line s.texts b answer) of s.answers in
     elim within [
       | inl w ↦
-          let said = said_frozen b k budget (plan_said b (text_or_empty s.texts role.Plan)) (plan_name line) (cert_name line) answer (subst IsSearchEnd is end) w.1 in
+          let said = said_frozen b k budget fronts (plan_said b (text_or_empty s.texts role.Plan)) (plan_name line) (cert_name line) answer (subst IsSearchEnd is end) w.1 in
           let plan : Forest = said.0 in
-          let f : Freezes b k budget plan (plan_name line) (cert_name line) answer = said.2 in
+          let f : Freezes b k budget fronts plan (plan_name line) (cert_name line) answer = said.2 in
           let c : Certificate = f.certificate in
           let more : ℕ = frozen_loss b plan k in
           let whole : Forest = whole_of line plan f.tail in
@@ -119,9 +120,9 @@ stores_freeze line held old new answer result of end is s stored prints =
               bounds = bounds_behind b plan k f.rest c.bound frozen f.found.bounds;
               good = f.found.good;
               right = right_behind b plan k f.rest f.tail c frozen f.found.lawful f.found.loss_is f.found.good
-                  (texts_say line held s.texts b k budget plan (plan_name line) (cert_name line) answer s.reads said.1 f);
+                  (texts_say line held s.texts b k budget fronts plan (plan_name line) (cert_name line) answer s.reads said.1 f);
               same_loss = same_loss b plan k f.rest f.tail c frozen f.found.lawful;
-              no_floor = second_floor c f.found.version;
+              unasked = f.found.unasked;
               readable = record { plan_short = kept.0; cert_short = f.found.readable };
               left_open = ((λ e. stopped_left c (sym ended ∙ e)), (λ some. ended ∙ left_stopped c some));
               in_budget = f.found.in_budget;
@@ -157,9 +158,9 @@ differ : status.Unlawful ≢ status.BadInput
 differ e = cc e
 
 -- an answer whose status is `Unlawful` tells the first breach of the plan that PLAN says
-said_broken : (line : Line) (held : Contents) (old new : World) (answer : Answer) → line.verb ≡ verb.Freeze → (s : Says line held answer) (k budget : ℕ) (said : Result Forest BadPlan) (out cert : List ℕ) → plan_said s.b (text_or_empty s.texts role.Plan) ≡ said →
-    status.Unlawful ≡ answer.status → FreezesSaid s.b k budget said out cert answer → Stands answer.stores old.shelf.contents new.shelf.contents → Prints answer.lines old.paper new.paper → FindsUnlawful line held old new
-said_broken line held old new answer of s k budget (Ok plan) out cert says is (broken_plan broken wrong first e) stored prints = record {
+said_broken : (line : Line) (held : Contents) (old new : World) (answer : Answer) → line.verb ≡ verb.Freeze → (s : Says line held answer) (k budget : ℕ) (fronts : Bool) (said : Result Forest BadPlan) (out cert : List ℕ) → plan_said s.b (text_or_empty s.texts role.Plan) ≡ said →
+    status.Unlawful ≡ answer.status → FreezesSaid s.b k budget fronts said out cert answer → Stands answer.stores old.shelf.contents new.shelf.contents → Prints answer.lines old.paper new.paper → FindsUnlawful line held old new
+said_broken line held old new answer of s k budget fronts (Ok plan) out cert says is (broken_plan broken wrong first e) stored prints = record {
   texts = s.texts;
   b = s.b;
   plan = plan;
@@ -171,20 +172,20 @@ said_broken line held old new answer of s k budget (Ok plan) out cert says is (b
   unchanged = unchanged old.shelf.contents new.shelf.contents (subst (λ (a : Answer). Stands a.stores old.shelf.contents new.shelf.contents) e stored);
   prints = subst (λ (a : Answer). Prints a.lines old.paper new.paper) e prints;
 }
-said_broken line held old new answer of s k budget (Ok plan) out cert says is (none_left lawful le e) stored prints = absurd (differ (is ∙ ap status_of e))
-said_broken line held old new answer of s k budget (Ok plan) out cert says is (planned_anew f) stored prints =
+said_broken line held old new answer of s k budget fronts (Ok plan) out cert says is (none_left lawful le e) stored prints = absurd (differ (is ∙ ap status_of e))
+said_broken line held old new answer of s k budget fronts (Ok plan) out cert says is (planned_anew f) stored prints =
     let whole : Forest = joined (first_plates k plan) f.tail in
     absurd (neither (λ (of : Status). status.Unlawful ≡ of) (nat_le (length (solution_text s.b whole)) (limit_of role.Plan)) (frozen_planned s.b out cert (frozen_loss s.b plan k) f.certificate whole)
     (too_long_to_store role.Plan (solution_text s.b whole)) (λ e. ends_no_other_way (f.certificate.left == 0) (is_some f.certificate.loss) (sym e)) differ (is ∙ ap status_of f.answer_is))
-said_broken line held old new answer of s k budget (Err reason) out cert says is refused stored prints = absurd (subst IsRefused (sym is) (plan_refused reason answer refused))
+said_broken line held old new answer of s k budget fronts (Err reason) out cert says is refused stored prints = absurd (subst IsRefused (sym is) (plan_refused reason answer refused))
 
 pub unlawful_freeze : (words : List (List ℕ)) (line : Line) (held : Contents) (old new : World) → Ended words verb.Freeze line held old new status.Unlawful → FindsUnlawful line held old new
 unlawful_freeze words line held old new e =
     let c : Completes Answers line old new status.Unlawful = e.runs in
     let s = completed_says line held old new status.Unlawful e.told (λ h. h) c in
-    let within : FreezesWithin s.b (frozen_in line) (count_in line count.Budget) (text_or_empty s.texts role.Plan) (plan_name line) (cert_name line) c.answer =
+    let within : FreezesWithin s.b (frozen_in line) (count_in line count.Budget) (flag_in line flag.Fronts) (text_or_empty s.texts role.Plan) (plan_name line) (cert_name line) c.answer =
     subst (λ (v : Verb). AnswersInstance v line s.texts s.b c.answer) e.verb_is s.answers in
     elim within [
-      | inl w ↦ said_broken line held old new c.answer e.verb_is s (frozen_in line) (count_in line count.Budget) (plan_said s.b (text_or_empty s.texts role.Plan)) (plan_name line) (cert_name line) refl c.status_is w.1 c.stored c.prints
+      | inl w ↦ said_broken line held old new c.answer e.verb_is s (frozen_in line) (count_in line count.Budget) (flag_in line flag.Fronts) (plan_said s.b (text_or_empty s.texts role.Plan)) (plan_name line) (cert_name line) refl c.status_is w.1 c.stored c.prints
       | inr refused ↦ absurd (differ (c.status_is ∙ ap status_of refused.1))
     ]

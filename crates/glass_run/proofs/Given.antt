@@ -1,5 +1,5 @@
 -- What a command comes to with the texts that were fetched is what it comes to with what the files hold.
-use Rattle.std.proofs.Common.{◌≡◌, IfSome, List, ℕ, Option, Some, None, sym, subst, inl, inr}
+use Rattle.std.proofs.Common.{◌≡◌, IfSome, List, ℕ, Bool, Option, Some, None, sym, subst, inl, inr}
 use Rattle.std.specs.Prelude.{Ok}
 use Rattle.glass_io.specs.Told.{Contents}
 use Rattle.run_frame.specs.Answers.{Answer}
@@ -16,10 +16,12 @@ use Rattle.run_frame.specs.declared.notices.Stop.{Stop}
 use Rattle.run_frame.specs.declared.notices.Stop.TheVariants as stop
 use Rattle.command_line.specs.declared.grammar.Verb.{Verb}
 use Rattle.command_line.specs.declared.grammar.Verb.TheVariants as verb
-use Rattle.command_line.specs.Grammar.{Line, count_in, files_of, stored_as}
+use Rattle.command_line.specs.Grammar.{Line, count_in, files_of, flag_in, stored_as}
 use Rattle.command_line.specs.declared.grammar.Product.TheVariants as product
 use Rattle.command_line.specs.declared.grammar.Count.TheVariants as count
+use Rattle.command_line.specs.declared.grammar.Flag.TheVariants as flag
 use Rattle.run_plans.specs.Replays.{ReplaysText}
+use Rattle.run_search.specs.Plans.{PlansWithin}
 use Rattle.run_search.specs.Resumptions.{Resumes}
 use Rattle.run_plans.specs.Sheets.{SheetsText}
 use Rattle.run_frame.specs.Texts.{Texts, text_for, text_or_empty, texts_of}
@@ -56,6 +58,16 @@ resume_answers line texts b answer plan text budget of is says counts h =
     (subst (λ (p : Option (List ℕ)). Resumes b p cert (count_in line count.Budget) (plan_name line) (cert_name line) answer) is
     (subst (λ (t : List ℕ). Resumes b plan t (count_in line count.Budget) (plan_name line) (cert_name line) answer) says
     (subst (λ (n : ℕ). Resumes b plan text n (plan_name line) (cert_name line) answer) counts h)))
+
+-- what is asked of a search for a plan is what its line says
+pub plan_answers : (line : Line) (texts : Texts) (b : Problem) (answer : Answer) (text : Option (List ℕ)) (budget : ℕ) (watch fronts : Bool) → text ≡ text_for texts role.Plan → budget ≡ count_in line count.Budget →
+    watch ≡ flag_in line flag.Watch → fronts ≡ flag_in line flag.Fronts → PlansWithin b budget watch fronts text (plan_name line) (cert_name line) answer →
+    PlansWithin b (count_in line count.Budget) (flag_in line flag.Watch) (flag_in line flag.Fronts) (text_for texts role.Plan) (plan_name line) (cert_name line) answer
+plan_answers line texts b answer text budget watch fronts says counts watched asked h =
+    subst (λ (t : Option (List ℕ)). PlansWithin b (count_in line count.Budget) (flag_in line flag.Watch) (flag_in line flag.Fronts) t (plan_name line) (cert_name line) answer) says
+    (subst (λ (f : Bool). PlansWithin b (count_in line count.Budget) (flag_in line flag.Watch) f text (plan_name line) (cert_name line) answer) asked
+    (subst (λ (w : Bool). PlansWithin b (count_in line count.Budget) w fronts text (plan_name line) (cert_name line) answer) watched
+    (subst (λ (n : ℕ). PlansWithin b n watch fronts text (plan_name line) (cert_name line) answer) counts h)))
 
 pub sheet_answers : (line : Line) (texts : Texts) (b : Problem) (answer : Answer) (text : List ℕ) → line.verb ≡ verb.Sheet → text ≡ text_or_empty texts role.Plan →
     SheetsText b (stored_as line product.Sheet) text answer → AnswersInstance line.verb line texts b answer

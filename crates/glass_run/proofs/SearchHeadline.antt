@@ -2,6 +2,7 @@
 use Rattle.std.proofs.Common.{◌≡◌, ℕ, zero, suc, ◌<◌, ◌≤◌, ◌+◌, ◌-◌, ◌^◌, List, [], ◌∷◌, length, Bool, true, false, cond, arith, refl, sym, ap, subst, ◌∙◌, inl, inr, Option}
 use Rattle.std.specs.Prelude.{◌==◌, is_some}
 use Rattle.glass_base.specs.Problem.{Problem}
+use Rattle.glass_base.specs.declared.role.Role.TheVariants as role
 use Rattle.glass_io.specs.Told.{Contents}
 use Rattle.plan_box.specs.Frames.{frame_of}
 use Rattle.plan_box.specs.Halves.{IsDepth}
@@ -15,8 +16,9 @@ use Rattle.glass_run.specs.Commands.{Answers, AnswersInstance, cert_name, plan_n
 use Rattle.command_line.specs.Grammar.{Line, count_in, flag_in}
 use Rattle.glass_run.specs.Headlines.{Ended, HandlesEachBox, IsSearch, IsSearchEnd, StoresFound, StoresSearch}
 use Rattle.run_search.specs.Plans.{PlansWithin, ending, handled, planned}
-use Rattle.run_checks.specs.Checks.{root_ranges}
-use Rattle.run_frame.specs.Texts.{Texts}
+use Rattle.run_checks.specs.Checks.{NoLawfulPlan, root_ranges}
+use Rattle.run_checks.specs.Checks.NoLawfulPlan.{bad_text, unlawful_plan}
+use Rattle.run_frame.specs.Texts.{Texts, text_for}
 use Rattle.run_frame.specs.Runs.{Completes, LineRun, Prints, Stands, World}
 use Rattle.command_line.specs.declared.grammar.Count.TheVariants as count
 use Rattle.command_line.specs.declared.grammar.Flag.TheVariants as flag
@@ -27,6 +29,7 @@ use Rattle.run_frame.specs.declared.status.Status.TheVariants as status
 use Rattle.glass_run.proofs.Headlines.{Says, completed_says}
 use Rattle.run_search.proofs.StoredTexts.{is_accepted}
 use Rattle.run_frame.proofs.Statuses.{IsRefused}
+use Rattle.run_plans.proofs.Statuses.{plan_refused}
 
 -- a run that ended as a search did what its answer says
 pub completes : (line : Line) (old new : World) (result : Status) → IsSearchEnd result → LineRun Answers line old new result → Completes Answers line old new result
@@ -107,9 +110,14 @@ no_open b c budget depth good spent is enough some =
     few : (full handled left nodes budget : ℕ) → nodes < full → handled + left ≡ nodes → handled ≡ budget → full - 1 ≤ budget → 0 < left → ⊥
     few full handled left nodes budget a e f g h = omega arith
 
+-- what is told of a text that says no lawful plan does not end so
+not_lawful_ended : (b : Problem) (text : Option (List ℕ)) (answer : Answer) → IsSearchEnd answer.status → NoLawfulPlan b text answer → ⊥
+not_lawful_ended b text answer end (bad_text reason refuses refused) = accepts answer.status end (plan_refused reason answer refused)
+not_lawful_ended b text answer end (unlawful_plan plan broken said wrong first e) = subst (λ (a : Answer). IsSearchEnd a.status) e end
+
 -- both commands answer so
 plans_by : (search : Verb) → IsSearch search → (line : Line) (texts : Texts) (b : Problem) (answer : Answer) → AnswersInstance search line texts b answer →
-    PlansWithin b (count_in line count.Budget) (flag_in line flag.Watch) (flag_in line flag.Fronts) (plan_name line) (cert_name line) answer
+    PlansWithin b (count_in line count.Budget) (flag_in line flag.Watch) (flag_in line flag.Fronts) (text_for texts role.Plan) (plan_name line) (cert_name line) answer
 plans_by verb.Draft is line texts b answer h = absurd is
 plans_by verb.Plan is line texts b answer h = h
 plans_by verb.Gen is line texts b answer h = h
@@ -126,47 +134,53 @@ stores_search : (line : Line) (held : Contents) (old new : World) (answer : Answ
     Stands answer.stores old.shelf.contents new.shelf.contents → Prints answer.lines old.paper new.paper → StoresSearch line held old new result × HandlesEachBox line held old new
 stores_search line held old new answer result search searches of end is s stored prints =
     let budget = count_in line count.Budget in
-    let plans : PlansWithin s.b budget (flag_in line flag.Watch) (flag_in line flag.Fronts) (plan_name line) (cert_name line) answer = plans_by search searches line s.texts s.b answer (subst (λ (v : Verb). AnswersInstance v line s.texts s.b answer) of s.answers) in
+    let plans : PlansWithin s.b budget (flag_in line flag.Watch) (flag_in line flag.Fronts) (text_for s.texts role.Plan) (plan_name line) (cert_name line) answer = plans_by search searches line s.texts s.b answer (subst (λ (v : Verb). AnswersInstance v line s.texts s.b answer) of s.answers) in
     elim plans [
-      | inl p ↦
-          let found = p.1.found in
-          let c = p.1.certificate in
-          let ended : result ≡ ending c = is ∙ ap (λ (a : Answer). a.status) p.1.answer_is in
-          let stores : StoresFound line held old new = record {
-            texts = s.texts;
-            b = s.b;
-            plan = p.1.plan;
-            certificate = c;
-            told = p.1.told;
-            reads = s.reads;
-            stored = subst (λ (a : Answer). Stands a.stores old.shelf.contents new.shelf.contents) p.1.answer_is stored;
-            prints = subst (λ (a : Answer). Prints a.lines old.paper new.paper) p.1.answer_is prints;
-          } in (
-            record {
-              found = stores;
-              plan_is = found.plan_is;
-              bounds = found.bounds;
-              good = found.good;
-              right = is_accepted s.b p.1.plan c found.said found.plan_is found.good;
-              unasked = p.1.unasked;
-              readable = found.readable;
-              ends = ended;
-              left_open = ((λ e. stopped_left c (sym ended ∙ e)), (λ some. ended ∙ left_stopped c some));
-              in_budget = found.in_budget;
-              spent = λ e. found.spent (stopped_left c (sym ended ∙ e));
-              exact = λ ne. bound_exact s.b (root_ranges s.b) c.loss c found.good (λ some. ne (ended ∙ left_stopped c some));
-              enough = λ depth depth_is enough e. no_open s.b c budget depth found.good found.spent depth_is enough (stopped_left c (sym ended ∙ e));
-              no_worse = found.no_worse;
-            },
-            record {
-              found = stores;
-              to_beat = found.to_beat;
-              of_search = found.of_search;
-              searched = found.searched;
-              no_greater = found.no_greater;
-              improvements = p.1.improvements;
-            },
-          )
+      | inl within ↦ elim within.1 [
+        | inl p ↦
+            let found = p.2.found in
+            let c = p.2.certificate in
+            let ended : result ≡ ending c = is ∙ ap (λ (a : Answer). a.status) p.2.answer_is in
+            let stores : StoresFound line held old new = record {
+              texts = s.texts;
+              b = s.b;
+              plan = p.2.plan;
+              certificate = c;
+              told = p.2.told;
+              reads = s.reads;
+              stored = subst (λ (a : Answer). Stands a.stores old.shelf.contents new.shelf.contents) p.2.answer_is stored;
+              prints = subst (λ (a : Answer). Prints a.lines old.paper new.paper) p.2.answer_is prints;
+            } in (
+              record {
+                found = stores;
+                plan_is = found.plan_is;
+                bounds = found.bounds;
+                good = found.good;
+                right = is_accepted s.b p.2.plan c found.said found.plan_is found.good;
+                unasked = p.2.unasked;
+                readable = found.readable;
+                ends = ended;
+                left_open = ((λ e. stopped_left c (sym ended ∙ e)), (λ some. ended ∙ left_stopped c some));
+                in_budget = found.in_budget;
+                spent = λ e. found.spent (stopped_left c (sym ended ∙ e));
+                exact = λ ne. bound_exact s.b (root_ranges s.b) c.loss c found.good (λ some. ne (ended ∙ left_stopped c some));
+                enough = λ depth depth_is enough e. no_open s.b c budget depth found.good found.spent depth_is enough (stopped_left c (sym ended ∙ e));
+                no_worse = found.no_worse;
+                before = p.0;
+                said_before = p.1;
+                no_worse_than_before = p.2.no_worse;
+              },
+              record {
+                found = stores;
+                to_beat = found.to_beat;
+                of_search = found.of_search;
+                searched = found.searched;
+                no_greater = found.no_greater;
+                improvements = p.2.improvements;
+              },
+            )
+        | inr none ↦ absurd (not_lawful_ended s.b (text_for s.texts role.Plan) answer (subst IsSearchEnd is end) none)
+      ]
       | inr refused ↦ absurd (subst IsSearchEnd (is ∙ ap (λ (a : Answer). a.status) refused.1) end)
     ]
 

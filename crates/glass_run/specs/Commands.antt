@@ -34,15 +34,17 @@ cert_name line = stored_as line product.Certificate
 -- the answer of each command to its instance; drawing is no command of this program
 abbrev pub AnswersInstance : Verb → Line → Texts → Problem → Answer → Type 0
 AnswersInstance verb.Draft line texts b answer = Drafts b (plan_name line) answer
-AnswersInstance verb.Plan line texts b answer = PlansWithin b (count_in line count.Budget) (flag_in line flag.Watch) (flag_in line flag.Fronts) (plan_name line) (cert_name line) answer
-AnswersInstance verb.Gen line texts b answer = PlansWithin b (count_in line count.Budget) (flag_in line flag.Watch) (flag_in line flag.Fronts) (plan_name line) (cert_name line) answer
+AnswersInstance verb.Plan line texts b answer =
+    PlansWithin b (count_in line count.Budget) (flag_in line flag.Watch) (flag_in line flag.Fronts) (text_for texts role.Plan) (plan_name line) (cert_name line) answer
+AnswersInstance verb.Gen line texts b answer =
+    PlansWithin b (count_in line count.Budget) (flag_in line flag.Watch) (flag_in line flag.Fronts) (text_for texts role.Plan) (plan_name line) (cert_name line) answer
 AnswersInstance verb.Judge line texts b answer = JudgesText b (text_or_empty texts role.Plan) answer
 AnswersInstance verb.Verify line texts b answer = VerifiesFrom (count_in line count.Frozen) b (text_for texts role.Plan) (text_or_empty texts role.Cert) answer
 AnswersInstance verb.Convert line texts b answer = Converts b (text_for texts role.Plan) (text_or_empty texts role.Cert) (cert_name line) answer
 AnswersInstance verb.Resume line texts b answer =
     Resumes b (text_for texts role.Plan) (text_or_empty texts role.Cert) (count_in line count.Budget) (plan_name line) (cert_name line) answer
 AnswersInstance verb.Freeze line texts b answer =
-    FreezesWithin b (lead_in line lead.Frozen) (count_in line count.Budget) (text_or_empty texts role.Plan) (plan_name line) (cert_name line) answer
+    FreezesWithin b (lead_in line lead.Frozen) (count_in line count.Budget) (flag_in line flag.Fronts) (text_or_empty texts role.Plan) (plan_name line) (cert_name line) answer
 AnswersInstance verb.Sheet line texts b answer = SheetsText b (stored_as line product.Sheet) (text_or_empty texts role.Plan) answer
 AnswersInstance verb.Replay line texts b answer = ReplaysText b (text_or_empty texts role.Sheet) answer
 AnswersInstance verb.Picture line texts b answer = ⊥

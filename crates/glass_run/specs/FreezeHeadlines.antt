@@ -1,5 +1,5 @@
 -- What a user may conclude from how `freeze` ended.
-use Rattle.std.specs.Prelude.{◌≡◌, ◌≢◌, ◌↔◌, ◌+◌, ◌<◌, ◌≤◌, ℕ, zero, suc, Some, Ok, option_map, codes}
+use Rattle.std.specs.Prelude.{◌≡◌, ◌≢◌, ◌↔◌, ◌+◌, ◌<◌, ◌≤◌, ℕ, zero, suc, false, Some, Ok, option_map, codes}
 use Rattle.glass_base.specs.Problem.{Problem}
 use Rattle.glass_base.specs.declared.role.Role.TheVariants as role
 use Rattle.glass_io.specs.Told.{Contents}
@@ -12,8 +12,9 @@ use Rattle.cert_log.specs.Splits.{IsSearched}
 use Rattle.plan_csv.specs.PlanTexts.{plan_said}
 use Rattle.plan_freeze.specs.Frozen.{BeginsWith, first_plates, joined, later_plates}
 use Rattle.plan_freeze.specs.Rests.{IsRest, frozen_loss}
-use Rattle.command_line.specs.Grammar.{Line, count_in, lead_in}
+use Rattle.command_line.specs.Grammar.{Line, count_in, flag_in, lead_in}
 use Rattle.command_line.specs.declared.grammar.Count.TheVariants as count
+use Rattle.command_line.specs.declared.grammar.Flag.TheVariants as flag
 use Rattle.command_line.specs.declared.grammar.Lead.TheVariants as lead
 use Rattle.command_line.specs.declared.grammar.Verb.{Verb}
 use Rattle.command_line.specs.declared.grammar.Verb.TheVariants as verb
@@ -72,10 +73,11 @@ pub record StoresFreeze (line : Line) (held : Contents) (old new : World) (resul
   -- the certificate is right for the box of all plans of the instance that is left
   pub good : IsGood rest (root_ranges rest) certificate.loss certificate
   -- the texts say it and the whole plan, behind whose first plates the same instance is left, and which lose the same: so `verify`, where as many plates
-  -- are said to be cut already, accepts them with the printed bound and this number of open boxes (`run_checks::laws`)
+  -- are said to be cut already, accepts them with the printed bound and this number of open boxes (`run_checks::laws`), or does not show the floor: never
+  -- where that is 0, as without `--fronts`
   pub right : IsAcceptedBehind b (frozen_in line) (solution_text b (whole_of line plan tail)) (cert_text certificate) (whole_of line plan tail) rest certificate
   pub same_loss : frozen_loss b (whole_of line plan tail) (frozen_in line) ≡ frozen_loss b plan (frozen_in line)
-  pub no_floor : certificate.floor ≡ 0
+  pub unasked : flag_in line flag.Fronts ≡ false → certificate.floor ≡ 0
   -- both texts are no longer than those that are read
   pub readable : AreReadable (Some (solution_text b (whole_of line plan tail))) (cert_text certificate)
   -- `stopped` is printed exactly where a box is left open, and then as many boxes were closed or split as the budget says; else `optimal`, and

@@ -19,7 +19,8 @@ use Rattle.cert_check.specs.Faults.{IsFirstFault, SaysWrong}
 use Rattle.plan_draft.specs.Drafts.{HasNoDraft, IsDraftPlan}
 use Rattle.plan_csv.specs.PlanTexts.{plan_said}
 use Rattle.plan_csv.specs.Solutions.{solution_text}
-use Rattle.run_checks.specs.Checks.{IsAccepted, IsConverted, IsLawfulToo, bound_line, loss_in, refused_line, root_ranges}
+use Rattle.cert_resume.specs.Joins.{IsAtMost}
+use Rattle.run_checks.specs.Checks.{IsAccepted, IsConverted, IsLawfulPlanIn, IsLawfulToo, bound_line, loss_in, refused_line, root_ranges}
 use Rattle.glass_run.specs.Commands.{Answers, HasInstance, cert_name, plan_name}
 use Rattle.run_plans.specs.Drafts.{no_draft_line, summary}
 use Rattle.run_plans.specs.Instances.{IsInstanceOf}
@@ -106,6 +107,7 @@ IsSearch _ = ⊥
 
 -- the command judges a plan
 abbrev pub IsJudging : Verb → Type 0
+IsJudging verb.Plan = Unit {0}
 IsJudging verb.Judge = Unit {0}
 IsJudging verb.Verify = Unit {0}
 IsJudging verb.Convert = Unit {0}
@@ -165,8 +167,11 @@ pub record StoresSearch (line : Line) (held : Contents) (old new : World) (resul
   pub exact : result ≢ status.Stopped → certificate.bound ≡ certificate.loss
   -- with a budget of all boxes that a tree of the instance's depth can have, no box is left open
   pub enough : (depth : ℕ) → IsDepth (frame_of b) depth → 2 ^ (depth + 1) - 1 ≤ count_in line count.Budget → result ≢ status.Stopped
-  -- never worse than the draft
+  -- never worse than the draft, nor than the plan that the file behind `--from=` says, which is lawful, if there is one
   pub no_worse : (draft : Forest) → IsDraftPlan b draft → Reaches certificate.loss (loss_of b draft)
+  pub before : Option Forest
+  pub said_before : IsLawfulPlanIn b (text_for texts role.Plan) before
+  pub no_worse_than_before : IsAtMost certificate.loss (loss_in b before)
 
 -- and each box was handled once or is left open
 pub record HandlesEachBox (line : Line) (held : Contents) (old new : World) : Type 0 where

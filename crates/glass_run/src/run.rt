@@ -48,26 +48,24 @@ fn reply_by_search<R: Threads + Wait + Sync, G: Gate + Sync>(
         workers,
         budget,
     };
+    let opening = Opening {
+        fronts: line.flag(Flag::Fronts),
+        labels: u64::from(line.count(Count::FrontsLimit)),
+        effort: line.count(Count::Effort),
+    };
+    let plan = text_of_role(texts, Role::Plan);
+    let watch = line.flag(Flag::Watch);
     match line.verb {
-        Verb::Plan | Verb::Gen => {
-            let watch = line.flag(Flag::Watch);
-            let opening = Opening {
-                fronts: line.flag(Flag::Fronts),
-                labels: u64::from(line.count(Count::FrontsLimit)),
-                effort: line.count(Count::Effort),
-            };
-            plan_instance(alloc, &workforce, instance, watch, opening)
-        }
+        Verb::Plan => plan_instance(alloc, &workforce, instance, plan, watch, opening),
+        Verb::Gen => plan_instance(alloc, &workforce, instance, plan, watch, opening),
         Verb::Resume => {
-            let plan = text_of_role(texts, Role::Plan);
             let cert = text_or_empty(texts, Role::Cert);
-            let labels = u64::from(line.count(Count::FrontsLimit));
-            resume_texts(alloc, &workforce, instance, plan, cert, labels)
+            resume_texts(alloc, &workforce, instance, plan, cert, opening)
         }
         Verb::Freeze => {
             let plan = text_or_empty(texts, Role::Plan);
             let k = line.lead(Lead::Frozen);
-            freeze_text(alloc, &workforce, instance, plan, k)
+            freeze_text(alloc, &workforce, instance, plan, k, opening)
         }
         Verb::Draft
         | Verb::Judge

@@ -11,8 +11,9 @@ use Rattle.cert_log.specs.Outcomes.{IsReading}
 use Rattle.cert_check.specs.declared.verdict.Why.{Why}
 use Rattle.cert_check.specs.Faults.{IsFirstFault, SaysWrong}
 use Rattle.run_frame.specs.Answers.{Answer}
-use Rattle.run_checks.specs.Checks.{CertRefused, Converts, IsConverted, IsLawfulToo, NotAccepted, Verifies, converted_if_short, loss_in, refused, root_ranges}
+use Rattle.run_checks.specs.Checks.{CertRefused, Converts, IsConverted, IsLawfulToo, NoLawfulPlan, NotAccepted, Verifies, converted_if_short, loss_in, refused, root_ranges}
 use Rattle.run_checks.specs.Checks.NotAccepted.{bad_cert as bad_certificate, bad_plan, bad_tree, broken_plan}
+use Rattle.run_checks.specs.Checks.NoLawfulPlan.{bad_text, unlawful_plan}
 use Rattle.run_plans.specs.Judgements.{PlanRefused}
 use Rattle.run_checks.specs.Said.{IsPlanIn, SayBoth}
 use Rattle.run_checks.specs.inner.Checked.{IsAcceptedFor, IsUnlawful, IsWrong, RefusesCertText, RefusesPlanText}
@@ -60,6 +61,14 @@ pub wrong_not_accepted : (b : Problem) (plan_text : Option (List ℕ)) (text : L
     IsLawfulToo b plan → OnTold (IsWrong b (loss_in b plan) c) s → OnTold (NotAccepted b plan_text text) s
 wrong_not_accepted b plan_text text plan c s said lawful told =
     told_more (IsWrong b (loss_in b plan) c) (NotAccepted b plan_text text) s (λ answer h. bad_tree plan c h.0 h.1 said lawful h.2 h.3 h.4) told
+
+-- what is told of a text that says no lawful plan
+pub text_not_lawful : (b : Problem) (text : Option (List ℕ)) (s : Stop) → OnTold (RefusesPlanText b text) s → OnTold (NoLawfulPlan b text) s
+text_not_lawful b text s told = told_more (RefusesPlanText b text) (NoLawfulPlan b text) s (λ answer h. bad_text h.0 h.1 h.2) told
+
+pub plan_not_lawful : (b : Problem) (text : Option (List ℕ)) (plan : Option Forest) (s : Stop) → IsPlanIn b text plan → OnTold (IsUnlawful b plan) s → OnTold (NoLawfulPlan b text) s
+plan_not_lawful b text None s said told = told_more (IsUnlawful b None) (NoLawfulPlan b text) s (λ answer h. absurd h) told
+plan_not_lawful b text (Some plan) s said told = told_more (IsUnlawful b (Some plan)) (NoLawfulPlan b text) s (λ answer h. unlawful_plan plan h.0 said h.1 h.2 h.3) told
 
 -- a certificate that fails a check is told of
 pub wrong_told : (b : Problem) (loss : Option ℕ) (c : Certificate) (line : ℕ) (why : Why) (s : Stop) → SaysWrong b (root_ranges b) loss c why → IsFirstFault b (root_ranges b) loss c line why →

@@ -101,6 +101,16 @@ abbrev pub IsLawfulToo : Problem → Option Forest → Type 0
 IsLawfulToo b None = Unit {0}
 IsLawfulToo b (Some plan) = IsLawful b plan
 
+-- a text says this lawful plan, or there is neither
+pub record IsLawfulPlanIn (b : Problem) (text : Option (List ℕ)) (plan : Option Forest) : Type 0 where
+  pub said : IsPlanIn b text plan
+  pub lawful : IsLawfulToo b plan
+
+-- the answer where it is not so: the text is refused, or the plan breaks a rule
+pub data NoLawfulPlan (b : Problem) (text : Option (List ℕ)) (answer : Answer) : Type 0 where
+  bad_text : (reason : BadPlan) → RefusesPlan b text reason → PlanRefused reason answer → NoLawfulPlan b text answer
+  unlawful_plan : (plan : Forest) (broken : Broken) → IsPlanIn b text (Some plan) → ¬ IsLawful b plan → IsFirstBroken b plan broken → answer ≡ unlawful broken → NoLawfulPlan b text answer
+
 -- a plan fits, if there is one
 abbrev pub FitsToo : Option Plan → Type 0
 FitsToo None = Unit {0}

@@ -7,7 +7,7 @@ ghost use Rattle.cert_log.specs.Good.{HasVersion, IsGood};
 ghost use Rattle.cert_log.specs.Outcomes.{IsReading};
 ghost use Rattle.cert_log.specs.Texts.{cert_text};
 ghost use Rattle.cert_log.specs.Trees.{IsTree};
-ghost use Rattle.run_checks.specs.Checks.{Converts, IsAccepted, IsConverted, IsLawfulToo, NotAccepted, Verifies, accepted as accepted_of, cert_refusal as cert_refusal_of, converted as converted_of, converted_if_short, loss_in, refused as refused_of, root_ranges, too_long_to_store as too_long_to_store_of};
+ghost use Rattle.run_checks.specs.Checks.{Converts, IsAccepted, IsConverted, IsLawfulPlanIn, IsLawfulToo, NoLawfulPlan, NotAccepted, Verifies, accepted as accepted_of, cert_refusal as cert_refusal_of, converted as converted_of, converted_if_short, loss_in, refused as refused_of, root_ranges, too_long_to_store as too_long_to_store_of};
 ghost use Rattle.run_plans.specs.Judgements.{unlawful as unlawful_of};
 ghost use Rattle.run_checks.specs.Said.{IsPlanIn};
 ghost use Rattle.run_checks.specs.inner.Checked.{IsUnlawful, IsWrong, RefusesCertText, RefusesPlanText};
@@ -132,6 +132,23 @@ fn judge_plan_in(alloc: Global, ground: Ground<'_>, plan: &Option<Plan>) -> Resu
         None => Ok(()),
         Some(broken) => Err(stop_at_breach(alloc, &broken)),
     }
+}
+
+/// The lawful plan that a text says, if there is a text; or what is told of the text, or of the plan.
+pub fn lawful_plan_in(
+    alloc: Global,
+    ground: Ground<'_>,
+    text: Option<&[u8]>,
+) -> Result<Option<Plan>, Stop>
+    ensures plan { let b = ground.entry.instance.now in
+        MatchResult result (λ plan. IsLawfulPlanIn b
+        (option_map (λ bytes. bytes.now) text.entry) (option_map tree plan))
+        (OnTold (NoLawfulPlan b (option_map (λ bytes. bytes.now) text.entry))) }
+    ensures fits { IfOk result FitsToo }
+{
+    let said = read_plan_in(alloc, ground.instance, text)?;
+    judge_plan_in(alloc, ground, &said)?;
+    Ok(said)
 }
 
 /// The loss of a plan in mm², if there is one.

@@ -5,3 +5,4 @@ pub mod Resumed
 pub mod Resumes
 pub mod FoundBehind
 pub mod FrozenTexts
+pub mod Known

@@ -1,6 +1,6 @@
 -- What a search finds that goes on in the open boxes of a right certificate, from its lawful history.
 use Rattle.std.proofs.Common.{◌≡◌, ◌≢◌, ℕ, ◌<◌, ◌≤◌, ◌+◌, List, [], ◌∷◌, length, arith, refl, sym, ap, ◌∙◌, subst, Option, Some, None}
-use Rattle.std.specs.Prelude.{IfSome, is_some, option_map, sum_by}
+use Rattle.std.specs.Prelude.{IfSome, IsSome, option_map, sum_by}
 use Rattle.std.specs.List.{AllZip}
 use Rattle.std.proofs.lemmas.List.{length-append}
 use Rattle.glass_base.specs.Problem.{Problem, IsProblem}
@@ -35,13 +35,13 @@ use Rattle.run_search.specs.inner.Searches.{IsSaidByItsText, IsShortToo}
 use Rattle.run_search.proofs.Searched.{known}
 use Rattle.run_search.proofs.StoredTexts.{both_said, is_text_of}
 
--- where there is a plan, the loss of its trace is a loss
-pub small_too : (plan : Option Plan) (first : Option Trace) (n : ℕ) → is_some first ≡ is_some plan → IfSome first (λ _. n < no_loss) → IfSome (option_map tree plan) (λ _. n < no_loss)
+-- where there is a plan, the loss with which a search begins is a loss
+pub small_too : (plan : Option Plan) (first : Option Trace) (n : ℕ) → IfSome plan (λ _. IsSome first) → IfSome first (λ _. n < no_loss) → IfSome (option_map tree plan) (λ _. n < no_loss)
 small_too None first n e small = tt
 small_too (Some p) None n e small = cc e
 small_too (Some p) (Some t) n e small = small
 
-known_at_most : (b : Problem) (plan : Option Forest) (best to_beat : ℕ) → best ≤ to_beat → IsAtMost (Some to_beat) (loss_in b plan) → IfSome plan (λ _. to_beat < no_loss) → IsAtMost (loss_of best) (loss_in b plan)
+pub known_at_most : (b : Problem) (plan : Option Forest) (best to_beat : ℕ) → best ≤ to_beat → IsAtMost (Some to_beat) (loss_in b plan) → IfSome plan (λ _. to_beat < no_loss) → IsAtMost (loss_of best) (loss_in b plan)
 known_at_most b None best to_beat le at_most small = tt
 known_at_most b (Some plan) best to_beat le at_most small =
     subst (λ (o : Option ℕ). IsAtMost o (Some (plan_loss b plan))) (sym (known best (omega (arith, le, small)))) (omega (arith, le, at_most))

@@ -20,7 +20,8 @@ use Rattle.plan_csv.specs.Solutions.{solution_text}
 use Rattle.run_frame.specs.declared.status.Status.{Status}
 use Rattle.run_frame.specs.declared.status.Status.TheVariants as status
 use Rattle.run_frame.specs.Answers.{Answer, Store, bad_input}
-use Rattle.run_checks.specs.Checks.{root_ranges}
+use Rattle.cert_resume.specs.Joins.{IsAtMost}
+use Rattle.run_checks.specs.Checks.{IsLawfulPlanIn, NoLawfulPlan, loss_in, root_ranges}
 use Rattle.run_checks.specs.Said.{SayBoth}
 use Rattle.run_frame.specs.Texts.{limit_of}
 use Rattle.run_search.specs.declared.planning.TheConstants.{MOST_WORK}
@@ -162,18 +163,24 @@ abbrev pub most_work : ℕ
 most_work = MOST_WORK
 
 -- what a search found is stored under these names and told, with its improvements where they are watched; where fronts are not asked, it has
--- no floor
-pub record Plans (b : Problem) (budget : ℕ) (watch fronts : Bool) (out cert : List ℕ) (answer : Answer) : Type 0 where
+-- no floor; where a plan was known before, what is found loses no more
+pub record Plans (b : Problem) (budget : ℕ) (watch fronts : Bool) (before : Option Forest) (out cert : List ℕ) (answer : Answer) : Type 0 where
   pub certificate : Certificate
   pub plan : Option Forest
   pub told : Option (List ℕ)
   pub found : IsFound b budget certificate plan
   pub improvements : AreTold b found.to_beat certificate.loss watch told
   pub unasked : fronts ≡ false → certificate.floor ≡ 0
+  pub no_worse : IsAtMost certificate.loss (loss_in b before)
   pub answer_is : answer ≡ planned b out cert certificate plan told
 
--- the answer to an instance: what a search found, or a refusal where that would be too much work
-abbrev pub PlansWithin : Problem → ℕ → Bool → Bool → List ℕ → List ℕ → Answer → Type 0
-PlansWithin b budget watch fronts out cert answer =
-    ((length b.items * budget ≤ most_work) × Plans b budget watch fronts out cert answer)
+-- the answer to the text of a plan that is known before, if there is one: what a search found, or what is told where the text says no lawful plan
+abbrev pub PlansFrom : Problem → ℕ → Bool → Bool → Option (List ℕ) → List ℕ → List ℕ → Answer → Type 0
+PlansFrom b budget watch fronts text out cert answer =
+    ((before : Option Forest) × IsLawfulPlanIn b text before × Plans b budget watch fronts before out cert answer) ⊎ NoLawfulPlan b text answer
+
+-- the answer to an instance, or a refusal where the search would be too much work
+abbrev pub PlansWithin : Problem → ℕ → Bool → Bool → Option (List ℕ) → List ℕ → List ℕ → Answer → Type 0
+PlansWithin b budget watch fronts text out cert answer =
+    ((length b.items * budget ≤ most_work) × PlansFrom b budget watch fronts text out cert answer)
     ⊎ ((most_work < length b.items * budget) × (answer ≡ bad_input role.Batch 9 (length b.items) budget))

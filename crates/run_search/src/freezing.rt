@@ -16,13 +16,13 @@ ghost use Rattle.run_search.specs.inner.Searches.{IsFoundBehind, IsHistoryFrom};
 use crate::lines::six_lines;
 use crate::planning::{MOST_WORK, best_plan, certificate_of, ending, ending_word, handled};
 use crate::searching::history_from;
+use crate::starting::{Opening, start_behind};
 use crate::workforce::Workforce;
 use box_workers::{Gate, first_loss};
 use cert_log::{Certificate, History, write_cert};
 use command_line::Product;
 use cut_model::{Plan, plates_used};
 use defect_map::{DefectMap, Ground};
-use first_plan::Start;
 use glass_base::{Instance, Memory, Role, Run, append};
 use plan_csv::{read_plan, write_plan};
 use plan_freeze::{frozen_loss, glue, rest};
@@ -47,24 +47,23 @@ fn history_behind<R: Threads + Wait + Sync, G: Gate + Sync>(
     workforce: &Workforce<'_, R, G>,
     instance: &Instance,
     plan: &Plan,
+    opening: Opening,
 ) -> Result<History, Memory>
     requires fits { Fits (tree plan.now) }
     requires lawful { IsLawful instance.now (tree plan.now) }
-    ensures { IfOk result (λ h. IsHistoryFrom instance.now (tree plan.now) workforce.now.budget h) }
+    ensures { IfOk result (λ h. IsHistoryFrom instance.now (tree plan.now) workforce.now.budget
+        opening.fronts h) }
 {
     let map = DefectMap::new(alloc, instance)?;
-    let first = Some(trace_of(alloc, instance, plan)?);
-    let _loss = first_loss(instance, &first);
-    let start = Start { first, floor: 0 };
-    history_from(
-        alloc,
-        workforce,
-        Ground {
-            instance,
-            map: &map,
-        },
-        start,
-    )
+    let ground = Ground {
+        instance,
+        map: &map,
+    };
+    let known = trace_of(alloc, instance, plan)?;
+    let start = start_behind(alloc, workforce, ground, Some(known), opening)?;
+    // Read for its range.
+    let _loss = first_loss(instance, &start.first);
+    history_from(alloc, workforce, ground, start)
 }
 
 /// What a search finds that goes on from a lawful plan.
@@ -73,18 +72,19 @@ fn find_from<R: Threads + Wait + Sync, G: Gate + Sync>(
     workforce: &Workforce<'_, R, G>,
     instance: &Instance,
     plan: &Plan,
+    opening: Opening,
 ) -> Result<FoundFrom, Memory>
     requires fits { Fits (tree plan.now) }
     requires lawful { IsLawful instance.now (tree plan.now) }
     ensures found { IfOk result (λ found. IsFoundFrom instance.now
-        (tree plan.now) workforce.now.budget found.certificate (tree found.best)) }
+        (tree plan.now) workforce.now.budget opening.fronts found.certificate (tree found.best)) }
     ensures fits { IfOk result (λ found. Fits (tree found.best)) }
     ensures few { IfOk result (λ found. count (tree found.best) ≤ 12 * length instance.now.items) }
     ensures head { IfOk result (λ found. IsHead (head_of found.certificate)) }
 {
     // Read for its rules.
     let _items = instance.items();
-    let history = history_behind(alloc, workforce, instance, plan)?;
+    let history = history_behind(alloc, workforce, instance, plan, opening)?;
     let certificate = certificate_of(alloc, instance, &history)?;
     let plan = best_plan(alloc, instance, &history)?;
     match plan {
@@ -189,16 +189,17 @@ fn find_behind<R: Threads + Wait + Sync, G: Gate + Sync>(
     instance: &Instance,
     plan: &Plan,
     k: u32,
+    opening: Opening,
 ) -> Result<FoundFrom, Memory>
     requires fits { Fits (tree plan.now) }
     requires lawful { IsLawful instance.now (tree plan.now) }
     requires fewer { k < neighbour_count (tree plan.now) }
-    ensures found { IfOk result (λ found. IsFoundBehind instance.now
-        (tree plan.now) k workforce.now.budget found.certificate (tree found.best)) }
+    ensures found { IfOk result (λ found. IsFoundBehind instance.now (tree plan.now) k
+        workforce.now.budget opening.fronts found.certificate (tree found.best)) }
     ensures fits { IfOk result (λ found. Fits (tree found.best)) }
 {
     let (left, tail) = rest(alloc, instance, plan, k)?;
-    find_from(alloc, workforce, &left, &tail)
+    find_from(alloc, workforce, &left, &tail, opening)
 }
 
 /// The reply to a lawful plan with more than `k` plates: what a search finds behind these.
@@ -208,18 +209,19 @@ fn plan_behind<R: Threads + Wait + Sync, G: Gate + Sync>(
     instance: &Instance,
     plan: &Plan,
     k: u32,
+    opening: Opening,
 ) -> Result<Reply, Memory>
     requires fits { Fits (tree plan.now) }
     requires rows { count (tree plan.now) ≤ 1000000000 }
     requires lawful { IsLawful instance.now (tree plan.now) }
     requires fewer { k < neighbour_count (tree plan.now) }
     ensures { IfOk result (λ r. (name : Product → List ℕ)
-        → Freezes instance.now k workforce.now.budget (tree plan.now) (name Product.Plan)
+        → Freezes instance.now k workforce.now.budget opening.fronts (tree plan.now) (name Product.Plan)
         (name Product.Certificate) (answer_in name r)) }
 {
     // Read for its rules.
     let _items = instance.items();
-    let found = find_behind(alloc, workforce, instance, plan, k)?;
+    let found = find_behind(alloc, workforce, instance, plan, k, opening)?;
     let whole = glue(alloc, plan, k, &found.best)?;
     let more = frozen_loss(instance, plan, k);
     reply_with_whole(alloc, instance, &found.certificate, &whole, more)
@@ -232,11 +234,12 @@ fn freeze_plan<R: Threads + Wait + Sync, G: Gate + Sync>(
     instance: &Instance,
     plan: &Plan,
     k: u32,
+    opening: Opening,
 ) -> Result<Reply, Memory>
     requires fits { Fits (tree plan.now) }
     requires rows { count (tree plan.now) ≤ 1000000000 }
     ensures { IfOk result (λ r. (name : Product → List ℕ)
-        → FreezesPlan instance.now k workforce.now.budget (tree plan.now) (name Product.Plan)
+        → FreezesPlan instance.now k workforce.now.budget opening.fronts (tree plan.now) (name Product.Plan)
         (name Product.Certificate) (answer_in name r)) }
 {
     let map = DefectMap::new(alloc, instance)?;
@@ -255,7 +258,7 @@ fn freeze_plan<R: Threads + Wait + Sync, G: Gate + Sync>(
         let notice = bad_input(alloc, Role::Plan, 16, u64::from(k), plates)?;
         return Ok(reply_with(alloc, notice));
     }
-    plan_behind(alloc, workforce, instance, plan, k)
+    plan_behind(alloc, workforce, instance, plan, k, opening)
 }
 
 /// The reply to the plan that a text says, or to its refusal.
@@ -265,28 +268,31 @@ fn freeze_said<R: Threads + Wait + Sync, G: Gate + Sync>(
     instance: &Instance,
     bytes: &[u8],
     k: u32,
+    opening: Opening,
 ) -> Result<Reply, Memory>
     ensures { IfOk result (λ r. (name : Product → List ℕ)
-        → FreezesSaid instance.now k workforce.now.budget (plan_said instance.now bytes.now)
+        → FreezesSaid instance.now k workforce.now.budget opening.fronts (plan_said instance.now bytes.now)
         (name Product.Plan) (name Product.Certificate) (answer_in name r)) }
 {
     match read_plan(alloc, instance, bytes) {
-        Ok(plan) => freeze_plan(alloc, workforce, instance, &plan, k),
+        Ok(plan) => freeze_plan(alloc, workforce, instance, &plan, k, opening),
         Err(reason) => Ok(reply_with(alloc, refused(alloc, plan_refusal(reason))?)),
     }
 }
 
 /// The reply to the text of a plan: its first `k` plates stay as they are, and the best plan that a search finds stands behind them; or a
-/// refusal, first where the number of items times the budget is above 160,000,000, last where the whole plan could not be read again.
+/// refusal, first where the number of items times the budget is above 160,000,000, last where the whole plan could not be read again. The search begins with what
+/// stands there now, and where the opening has an effort or asks fronts, with the best of that and of what these find.
 pub fn freeze_text<R: Threads + Wait + Sync, G: Gate + Sync>(
     alloc: Global,
     workforce: &Workforce<'_, R, G>,
     instance: &Instance,
     bytes: &[u8],
     k: u32,
+    opening: Opening,
 ) -> Result<Reply, Memory>
     ensures { IfOk result (λ r. (name : Product → List ℕ)
-        → FreezesWithin instance.now k workforce.now.budget bytes.now (name Product.Plan)
+        → FreezesWithin instance.now k workforce.now.budget opening.fronts bytes.now (name Product.Plan)
         (name Product.Certificate) (answer_in name r)) }
 {
     let items = instance.items().len() as u64;
@@ -294,5 +300,5 @@ pub fn freeze_text<R: Threads + Wait + Sync, G: Gate + Sync>(
         let notice = bad_input(alloc, Role::Batch, 9, items, u64::from(workforce.budget))?;
         return Ok(reply_with(alloc, notice));
     }
-    freeze_said(alloc, workforce, instance, bytes, k)
+    freeze_said(alloc, workforce, instance, bytes, k, opening)
 }

@@ -11,14 +11,15 @@ ghost use Rattle.cert_log.specs.Texts.{cert_text, head_of};
 ghost use Rattle.box_workers.specs.Runs.{IsFirst, first_loss as first_loss_of};
 ghost use Rattle.first_plan.specs.FirstPlans.{IsFirstPlan};
 ghost use Rattle.plan_draft.specs.Drafts.{HasNoDraft};
-ghost use Rattle.run_search.specs.Plans.{HasLoss, PlansWithin, course, course_from, ending as ending_of, ending_word as ending_word_of, handled as handled_of, plan_stores, planned};
+ghost use Rattle.cert_resume.specs.Joins.{IsAtMost};
+ghost use Rattle.run_search.specs.Plans.{HasLoss, Plans, PlansFrom, PlansWithin, course, course_from, ending as ending_of, ending_word as ending_word_of, handled as handled_of, plan_stores, planned};
 ghost use Rattle.run_frame.specs.Forms.{answer_in, store_in};
 ghost use Rattle.run_search.specs.inner.Searches.{AreWatched, Certifies, IsSaidByItsText, IsShortToo, IsToldFound, IsWatchedHistory, losses_in};
-ghost use Rattle.run_checks.specs.Checks.{FitsToo};
+ghost use Rattle.run_checks.specs.Checks.{FitsToo, IsLawfulToo, loss_in};
 
 use crate::lines::search_lines;
 use crate::searching::{Searched, search_from};
-use crate::starting::{Opening, start_of};
+use crate::starting::{Opening, first_trace, start_of};
 use crate::workforce::Workforce;
 use best_board::Entry;
 use box_workers::{Gate, first_loss};
@@ -29,7 +30,8 @@ use defect_map::{DefectMap, Ground};
 use glass_base::{Instance, Memory, Role, Run, append};
 use plan_csv::write_plan;
 use plan_trace::plan_of;
-use run_frame::{Output, Reply, Status, bad_input, reply_with};
+use run_checks::lawful_plan_in;
+use run_frame::{Output, Reply, Status, bad_input, reply_at, reply_with};
 use std::alloc::Global;
 use std::sync::Wait;
 use std::thread::Threads;
@@ -46,46 +48,29 @@ pub(crate) struct Found {
     pub(crate) improvements: Option<Run<Entry>>,
 }
 
-/// A search that begins with what is known before it.
+/// A search that begins with what is known before it, and with a lawful plan, if there is one.
 fn search_with<R: Threads + Wait + Sync, G: Gate + Sync>(
     alloc: Global,
     workforce: &Workforce<'_, R, G>,
     ground: Ground<'_>,
+    before: &Option<Plan>,
     watch: bool,
     opening: Opening,
 ) -> Result<Searched, Memory>
+    requires fits { FitsToo before.now }
+    requires lawful { IsLawfulToo ground.instance.now (option_map tree before.now) }
     ensures history { IfOk result (λ s. IsWatchedHistory ground.entry.instance.now
         workforce.now.budget watch s.history s.improvements) }
     ensures unasked { IfOk result (λ s. opening.fronts ≡ false → s.history.floor ≡ 0) }
+    ensures no_worse { let b = ground.entry.instance.now in
+        IfOk result (λ s. IsAtMost (known_loss s.history.best)
+        (loss_in b (option_map tree before.now))) }
 {
-    let start = start_of(alloc, workforce, ground, opening)?;
+    let known = first_trace(alloc, ground.instance, before)?;
+    let start = start_of(alloc, workforce, ground, known, opening)?;
+    // Read for its range.
     let _loss = first_loss(ground.instance, &start.first);
     search_from(alloc, workforce, ground, start, watch)
-}
-
-/// A search for a plan of the instance.
-fn search_for<R: Threads + Wait + Sync, G: Gate + Sync>(
-    alloc: Global,
-    workforce: &Workforce<'_, R, G>,
-    instance: &Instance,
-    watch: bool,
-    opening: Opening,
-) -> Result<Searched, Memory>
-    ensures history { IfOk result (λ s. IsWatchedHistory instance.now workforce.now.budget watch
-        s.history s.improvements) }
-    ensures unasked { IfOk result (λ s. opening.fronts ≡ false → s.history.floor ≡ 0) }
-{
-    let map = DefectMap::new(alloc, instance)?;
-    search_with(
-        alloc,
-        workforce,
-        Ground {
-            instance,
-            map: &map,
-        },
-        watch,
-        opening,
-    )
 }
 
 /// The certificate of a history.
@@ -135,24 +120,31 @@ pub(crate) fn best_plan(
     }
 }
 
-/// What a search finds that may close or split so many boxes.
+/// What a search finds that may close or split so many boxes, where this lawful plan is known before, if there is one.
 fn find<R: Threads + Wait + Sync, G: Gate + Sync>(
     alloc: Global,
     workforce: &Workforce<'_, R, G>,
-    instance: &Instance,
+    ground: Ground<'_>,
+    before: &Option<Plan>,
     watch: bool,
     opening: Opening,
 ) -> Result<Found, Memory>
-    ensures found { IfOk result (λ found. IsToldFound instance.now workforce.now.budget watch
-        found.certificate (option_map tree found.plan) (losses_in found.improvements)) }
+    requires fits { FitsToo before.now }
+    requires lawful { IsLawfulToo ground.instance.now (option_map tree before.now) }
+    ensures found { IfOk result (λ found. IsToldFound ground.entry.instance.now
+        workforce.now.budget watch found.certificate (option_map tree found.plan)
+        (losses_in found.improvements)) }
     ensures unasked { IfOk result (λ found. opening.fronts ≡ false → found.certificate.floor ≡ 0) }
+    ensures no_worse { let b = ground.entry.instance.now in
+        IfOk result (λ found. IsAtMost found.certificate.loss
+        (loss_in b (option_map tree before.now))) }
     ensures fits { IfOk result (λ found. FitsToo found.plan) }
 {
     // Read for its rules.
-    let _items = instance.items();
-    let searched = search_for(alloc, workforce, instance, watch, opening)?;
-    let certificate = certificate_of(alloc, instance, &searched.history)?;
-    let plan = best_plan(alloc, instance, &searched.history)?;
+    let _items = ground.instance.items();
+    let searched = search_with(alloc, workforce, ground, before, watch, opening)?;
+    let certificate = certificate_of(alloc, ground.instance, &searched.history)?;
+    let plan = best_plan(alloc, ground.instance, &searched.history)?;
     let Searched {
         history: _,
         improvements,
@@ -308,18 +300,64 @@ fn reply_with_found(alloc: Global, instance: &Instance, found: &Found) -> Result
     reply_with_text(alloc, instance, found, text)
 }
 
-/// The reply to an instance: the best plan that a search finds and its certificate, with its improvements where they are watched; or a refusal where the number of items times the
-/// budget is above 160,000,000. Where the opening asks fronts, the search begins with what they show: with the best of three plans, and with a loss that no lawful plan is below; where
-/// it has an effort, with the best plan that wide beams find with it.
-pub fn plan_instance<R: Threads + Wait + Sync, G: Gate + Sync>(
+/// The reply to a lawful plan, or to none: the best plan that a search finds, which loses no more, and its certificate.
+fn plan_from<R: Threads + Wait + Sync, G: Gate + Sync>(
+    alloc: Global,
+    workforce: &Workforce<'_, R, G>,
+    ground: Ground<'_>,
+    before: &Option<Plan>,
+    watch: bool,
+    opening: Opening,
+) -> Result<Reply, Memory>
+    requires fits { FitsToo before.now }
+    requires lawful { IsLawfulToo ground.instance.now (option_map tree before.now) }
+    ensures { let b = ground.entry.instance.now in IfOk result (λ r. (name : Product → List ℕ)
+        → Plans b workforce.now.budget watch opening.fronts (option_map tree before.now)
+        (name Product.Plan) (name Product.Certificate) (answer_in name r)) }
+{
+    let found = find(alloc, workforce, ground, before, watch, opening)?;
+    reply_with_found(alloc, ground.instance, &found)
+}
+
+/// The reply to the text of a plan that is known before, if there is one, or what is told where it says no lawful plan.
+fn plan_from_text<R: Threads + Wait + Sync, G: Gate + Sync>(
     alloc: Global,
     workforce: &Workforce<'_, R, G>,
     instance: &Instance,
+    text: Option<&[u8]>,
     watch: bool,
     opening: Opening,
 ) -> Result<Reply, Memory>
     ensures { IfOk result (λ r. (name : Product → List ℕ)
-        → PlansWithin instance.now workforce.now.budget watch opening.fronts (name Product.Plan)
+        → PlansFrom instance.now workforce.now.budget watch opening.fronts
+        (option_map (λ bytes. bytes.now) text.entry) (name Product.Plan)
+        (name Product.Certificate) (answer_in name r)) }
+{
+    let map = DefectMap::new(alloc, instance)?;
+    let ground = Ground {
+        instance,
+        map: &map,
+    };
+    match lawful_plan_in(alloc, ground, text) {
+        Ok(before) => plan_from(alloc, workforce, ground, &before, watch, opening),
+        Err(stop) => reply_at(alloc, stop),
+    }
+}
+
+/// The reply to an instance: the best plan that a search finds and its certificate, with its improvements where they are watched; or a refusal where the number of items times the
+/// budget is above 160,000,000. Where there is the text of a plan, it is judged, and what is stored loses no more. Where the opening asks fronts, the search begins with what they
+/// show: with the best of the plans that are known, and with a loss that no lawful plan is below; where it has an effort, with the best plan that wide beams find with it.
+pub fn plan_instance<R: Threads + Wait + Sync, G: Gate + Sync>(
+    alloc: Global,
+    workforce: &Workforce<'_, R, G>,
+    instance: &Instance,
+    text: Option<&[u8]>,
+    watch: bool,
+    opening: Opening,
+) -> Result<Reply, Memory>
+    ensures { IfOk result (λ r. (name : Product → List ℕ)
+        → PlansWithin instance.now workforce.now.budget watch opening.fronts
+        (option_map (λ bytes. bytes.now) text.entry) (name Product.Plan)
         (name Product.Certificate) (answer_in name r)) }
 {
     let items = instance.items().len() as u64;
@@ -327,6 +365,5 @@ pub fn plan_instance<R: Threads + Wait + Sync, G: Gate + Sync>(
         let notice = bad_input(alloc, Role::Batch, 9, items, u64::from(workforce.budget))?;
         return Ok(reply_with(alloc, notice));
     }
-    let found = find(alloc, workforce, instance, watch, opening)?;
-    reply_with_found(alloc, instance, &found)
+    plan_from_text(alloc, workforce, instance, text, watch, opening)
 }

@@ -1,6 +1,6 @@
 //! What `resume` answers to an instance and the texts of a plan and of a certificate.
 
-ghost use Rattle.std.specs.Prelude.{◌≡◌, ◌≤◌, ℕ, List, [], All, IfOk, None, if◌then◌else◌, is_some, nat_le, option_map, length};
+ghost use Rattle.std.specs.Prelude.{◌≡◌, ◌≤◌, ℕ, List, [], All, IfOk, IfSome, IsSome, None, if◌then◌else◌, is_some, nat_le, option_map, length};
 ghost use Rattle.glass_base.specs.declared.role.Role.TheVariants as role;
 ghost use Rattle.cut_model.specs.Tree.{tree};
 ghost use Rattle.plan_box.specs.Frames.{frame_of};
@@ -18,7 +18,7 @@ ghost use Rattle.run_frame.specs.Forms.{answer_in};
 
 use crate::planning::{Found, MOST_WORK, best_plan, reply_with_text};
 use crate::searching::history_of_boxes;
-use crate::starting::FrontWatch;
+use crate::starting::{FrontWatch, Opening, first_trace, start_behind};
 use crate::workforce::Workforce;
 use box_workers::{Gate, first_loss};
 use cert_check::reasoned;
@@ -32,33 +32,32 @@ use front_bound::losses::FrontSearch;
 use glass_base::limits::MOST_CERT_BYTES;
 use glass_base::{Instance, Memory, Role, Run};
 use plan_box::PlanBox;
-use plan_trace::trace_of;
 use run_checks::{Checked, accepted_texts};
 use run_frame::{Reply, bad_input, limit, reply_at, reply_with};
 use std::alloc::Global;
 use std::sync::Wait;
 use std::thread::Threads;
 
-/// The trace of a lawful plan, if there is one.
-fn first_trace(
+/// With what a search begins that goes on from a lawful plan, or from none: with that plan, and where the opening has an
+/// effort, with the better of it and of what that finds.
+fn first_behind<R: Threads + Wait + Sync, G: Gate + Sync>(
     alloc: Global,
-    instance: &Instance,
+    workforce: &Workforce<'_, R, G>,
+    ground: Ground<'_>,
     plan: &Option<Plan>,
+    opening: Opening,
 ) -> Result<Option<Trace>, Memory>
     requires fits { FitsToo plan.now }
-    requires lawful { IsLawfulToo instance.now (option_map tree plan.now) }
-    ensures first { IfOk result (IsFirst instance.now) }
-    ensures no_worse { IfOk result (λ first. IsAtMost (Some (first_loss_of instance.now first))
-        (loss_in instance.now (option_map tree plan.now))) }
-    ensures known { IfOk result (λ first. is_some first ≡ is_some plan.now) }
+    requires lawful { IsLawfulToo ground.instance.now (option_map tree plan.now) }
+    ensures first { IfOk result (IsFirst ground.entry.instance.now) }
+    ensures no_worse { let b = ground.entry.instance.now in
+        IfOk result (λ first. IsAtMost (Some (first_loss_of b first))
+        (loss_in b (option_map tree plan.now))) }
+    ensures known { IfOk result (λ first. IfSome plan.now (λ _. IsSome first)) }
 {
-    match plan {
-        None => Ok(None),
-        Some(plan) => {
-            let trace = trace_of(alloc, instance, plan)?;
-            Ok(Some(trace))
-        }
-    }
+    let known = first_trace(alloc, ground.instance, plan)?;
+    let Start { first, floor: _ } = start_behind(alloc, workforce, ground, known, opening)?;
+    Ok(first)
 }
 
 /// The history of a search in which nothing was open.
@@ -109,6 +108,7 @@ fn go_on<R: Threads + Wait + Sync, G: Gate + Sync>(
     workforce: &Workforce<'_, R, G>,
     ground: Ground<'_>,
     checked: &Checked,
+    opening: Opening,
 ) -> Result<Found, Memory>
     requires fits { FitsToo checked.now.plan }
     requires lawful { IsLawfulToo ground.instance.now (option_map tree checked.now.plan) }
@@ -127,7 +127,7 @@ fn go_on<R: Threads + Wait + Sync, G: Gate + Sync>(
     let _items = ground.instance.items();
     let named = reasoned(alloc, ground.instance, ground.map, &checked.certificate)?;
     let boxes = left_boxes(alloc, ground.instance, &named)?;
-    let first = first_trace(alloc, ground.instance, &checked.plan)?;
+    let first = first_behind(alloc, workforce, ground, &checked.plan, opening)?;
     let _loss = first_loss(ground.instance, &first);
     let start = Start {
         first,
@@ -173,6 +173,7 @@ fn resume_within<R: Threads + Wait + Sync, G: Gate + Sync>(
     workforce: &Workforce<'_, R, G>,
     ground: Ground<'_>,
     checked: &Checked,
+    opening: Opening,
 ) -> Result<Reply, Memory>
     requires fits { FitsToo checked.now.plan }
     requires lawful { IsLawfulToo ground.instance.now (option_map tree checked.now.plan) }
@@ -192,20 +193,21 @@ fn resume_within<R: Threads + Wait + Sync, G: Gate + Sync>(
         let notice = bad_input(alloc, Role::Cert, 15, items, boxes)?;
         return Ok(reply_with(alloc, notice));
     }
-    let found = go_on(alloc, workforce, ground, checked)?;
+    let found = go_on(alloc, workforce, ground, checked, opening)?;
     reply_if_readable(alloc, ground.instance, &found)
 }
 
 /// The reply to the texts of a plan, or none, and of a certificate: what a search finds that goes on in the boxes that
-/// the certificate leaves open, or a refusal as by `verify`, or of what would be too much work. Its floor is shown by a
-/// search over fronts with so many labels at the most.
+/// the certificate leaves open, or a refusal as by `verify`, or of what would be too much work. Its floor is shown by
+/// searches over fronts with the opening's labels. The search begins with the plan, and where the opening has an effort,
+/// with the better of it and of what that finds.
 pub fn resume_texts<R: Threads + Wait + Sync, G: Gate + Sync>(
     alloc: Global,
     workforce: &Workforce<'_, R, G>,
     instance: &Instance,
     plan_text: Option<&[u8]>,
     cert_text: &[u8],
-    labels: u64,
+    opening: Opening,
 ) -> Result<Reply, Memory>
     ensures { IfOk result (λ r. (name : Product → List ℕ)
         → Resumes instance.now (option_map
@@ -218,13 +220,13 @@ pub fn resume_texts<R: Threads + Wait + Sync, G: Gate + Sync>(
         map: &map,
     };
     let search = FrontSearch {
-        labels,
+        labels: opening.labels,
         watch: &FrontWatch {
             gate: workforce.gate,
         },
     };
     match accepted_texts(alloc, ground, plan_text, cert_text, &search) {
-        Ok(checked) => resume_within(alloc, workforce, ground, &checked),
+        Ok(checked) => resume_within(alloc, workforce, ground, &checked, opening),
         Err(stop) => reply_at(alloc, stop),
     }
 }

@@ -63,18 +63,18 @@ pub record IsToldFound (b : Problem) (budget : ℕ) (watch : Bool) (c : Certific
   pub improvements : AreTold b found.to_beat c.loss watch told
 
 -- a lawful history of a search that goes on from a plan, and is to beat a loss that is no greater
-pub record IsHistoryFrom (b : Problem) (plan : Forest) (budget : ℕ) (h : History) : Type 0 where
+pub record IsHistoryFrom (b : Problem) (plan : Forest) (budget : ℕ) (fronts : Bool) (h : History) : Type 0 where
   pub to_beat : ℕ
   pub lawful : IsLawful b (course b to_beat budget h.floor) h
   pub no_greater : to_beat ≤ plan_loss b plan
   pub known : to_beat < no_loss
-  pub no_floor : h.floor ≡ 0
+  pub unasked : fronts ≡ false → h.floor ≡ 0
 
 -- what a search found that plans anew what stands behind the first plates
-pub record IsFoundBehind (b : Problem) (plan : Forest) (k budget : ℕ) (c : Certificate) (best : Forest) : Type 0 where
+pub record IsFoundBehind (b : Problem) (plan : Forest) (k budget : ℕ) (fronts : Bool) (c : Certificate) (best : Forest) : Type 0 where
   pub left : Problem
   pub rest_is : IsRest b plan k left
-  pub found : IsFoundFrom left (later_plates k plan) budget c best
+  pub found : IsFoundFrom left (later_plates k plan) budget fronts c best
   pub few : count best ≤ 12 * length left.items
   pub head : IsHead (head_of c)
 

@@ -6,5 +6,5 @@ pub returns-clause-found : goal.returns-clause-found
 returns-clause-found g c =
     if_all c.find_from.result _ _ _ _
     (λ f is few head.
-    behind c.args.instance.now c.in_ok-left.left (tree c.args.plan.now) (tree c.in_ok-left.tail) c.args.k c.args.workforce.now.budget f.certificate (tree f.best) c.in_ok-left.ensures.instance c.in_ok-left.ensures.plan is few head)
+    behind c.args.instance.now c.in_ok-left.left (tree c.args.plan.now) (tree c.in_ok-left.tail) c.args.k c.args.workforce.now.budget c.args.opening.fronts f.certificate (tree f.best) c.in_ok-left.ensures.instance c.in_ok-left.ensures.plan is few head)
     c.find_from.ensures.found c.find_from.ensures.few c.find_from.ensures.head

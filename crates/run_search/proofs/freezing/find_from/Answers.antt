@@ -12,6 +12,6 @@ returns-clause-found g c =
     let b = c.args.instance.now in
     let h = c.in_ok-history.history in
     let is = c.in_ok-history.ensures in
-    found_from b (tree c.args.plan.now) c.args.workforce.now.budget h c.in_ok-certificate.certificate (tree c.in-Some.best) c.items-items.ensures.rules is (c.in_ok-certificate.ensures.certifies c.args.workforce.now.budget is.to_beat is.lawful)
+    found_from b (tree c.args.plan.now) c.args.workforce.now.budget c.args.opening.fronts h c.in_ok-certificate.certificate (tree c.in-Some.best) c.items-items.ensures.rules is (c.in_ok-certificate.ensures.certifies c.args.workforce.now.budget is.to_beat is.lawful)
     c.in_ok-certificate.ensures.head c.args.workforce.now.bounded.1
     (subst (λ (o : Option Plan). HasLoss b (loss_of h.best) (option_map tree o)) c.in-Some.is c.in_ok-plan.ensures.loss)

@@ -11,5 +11,5 @@ returns-in-Ok g c =
     let b = c.args.instance.now in
     IfOk-weaker c.freeze_plan.result _ _
     (λ r h names.
-    said_plan b (tree c.in-Ok.plan) c.args.k c.args.workforce.now.budget (plan_said b c.args.bytes.now) (names product.Plan) (names product.Certificate) (answer_in names r) c.in-Ok.ensures.plan (h names))
+    said_plan b (tree c.in-Ok.plan) c.args.k c.args.workforce.now.budget c.args.opening.fronts (plan_said b c.args.bytes.now) (names product.Plan) (names product.Certificate) (answer_in names r) c.in-Ok.ensures.plan (h names))
     c.freeze_plan.ensures
