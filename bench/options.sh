@@ -26,14 +26,15 @@ is_right() {
     [ "$open" -eq 0 ] && [ "$boxes" -le $(($3 + $4)) ] && [ "$bound" = "$loss" ]
   fi
 }
-# the options of a step: each third effort is one that beams spend, each seventh step asks fronts
+# the options of a step: each third effort is one that beams spend, now and then a second of the clock is given, and each seventh step asks fronts
 options() {
   more=("--budget=$1" "--workers=$((1 << (start + step) % 4))")
   case $(((start + 2 * step) % 6)) in
     0 | 3) more+=("--effort=$((1 + start % 299))") ;;
     1) [ $((start % 4)) != 0 ] || more+=(--effort=300) ;;
+    4) [ $((start % 3)) != 0 ] || more+=(--seconds=1) ;;
   esac
-  [ "$2" = resume ] || [ $(((start + 3 * step) % 7)) != 0 ] || more+=(--fronts)
+  [ $(((start + 3 * step) % 7)) != 0 ] || more+=(--fronts)
 }
 goes_right() {
   rm -f plan* cert*
@@ -55,7 +56,7 @@ goes_right() {
       1) if [ "$plates" -gt 1 ]; then kind=freeze; else kind=plan; fi ;;
       *) kind=plan ;;
     esac
-    options "$budget" $kind
+    options "$budget"
     case $kind in
       resume)
         old_boxes=$boxes

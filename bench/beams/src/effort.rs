@@ -4,7 +4,6 @@
 
 use crate::base::Instance;
 use crate::model::{Step, Trace};
-use crate::strong;
 use crate::trace::{meets, trace_loss};
 use std::thread;
 
@@ -23,8 +22,6 @@ const SLOTS: u64 = 4_093;
 /// they find tells the others from which key on a child is of no use.
 const LANES: usize = 32;
 const AHEAD: usize = 4;
-/// At most so many beams.
-const MOST_BEAMS: usize = 1_000;
 /// The arena is cleared of nodes without children from so many nodes on.
 const MANY_NODES: usize = 1 << 20;
 
@@ -1426,29 +1423,4 @@ pub fn guide(inst: &Instance, beam: usize, loss: u64, ticks: u64) -> Guide {
     };
     let rho = (share * loss / (loss + inst.area)) as i64;
     Guide { rho, eps, right, small: 512, above, even, more, loose, ticks, width: WIDEST << doubled(beam) }
-}
-
-/// The best plan that an effort of so many ticks finds, today's first plan being a part of it. The beams are the same for every
-/// effort, which only says how many of them are run; so a greater effort never has a worse plan.
-pub fn plan(inst: &Instance, effort: u64, threads: usize, watch: &mut dyn FnMut(usize, u64, u64)) -> Option<Trace> {
-    let mut best = strong::first_plan(inst)?;
-    let mut loss = trace_loss(inst, &best);
-    let first = strong::effort(inst.items.len() as u64);
-    let mut spent = first;
-    watch(0, loss, spent);
-    let sheet = Sheet::new(inst);
-    for beam in 0..MOST_BEAMS {
-        let ticks = size(first, beam);
-        if spent + ticks > effort {
-            break;
-        }
-        let (found, took) = run(inst, &sheet, guide(inst, beam, loss, ticks), loss, threads);
-        spent += took;
-        if let Some((trace, less)) = found {
-            best = trace;
-            loss = less;
-        }
-        watch(beam + 1, loss, spent);
-    }
-    Some(best)
 }

@@ -43,9 +43,9 @@ pub struct State<'a> { pub inst: &'a Instance, pub best: Trace, pub loss: u64, p
 impl<'a> State<'a> {
     pub fn new(inst: &'a Instance, limit: u64, log: bool) -> State<'a> {
         let f = strong::effort(inst.items.len() as u64);
-        let (found, took) = strong::first_with(inst, f, 1);
+        let (found, _) = strong::first_with(inst, f, 1);
         let (best, loss) = found.unwrap();
-        let s = State { inst, best, loss, spent: took, limit, log, clock: std::time::Instant::now() };
+        let s = State { inst, best, loss, spent: f, limit, log, clock: std::time::Instant::now() };
         s.tell("first");
         s
     }
@@ -81,34 +81,40 @@ impl<'a> State<'a> {
         self.tell(&format!("  tail {k} of {} ({} items) {number} {}{}", plates(&self.best), r.items.len(), ticks / 1_000_000, if better { " *" } else { "" }));
         better
     }
-    /// All beams of a plan on the tail: the two turns of a first plan, and then wide beams from this number on, as long as they fit into the ticks.
-    pub fn full(&mut self, k: u32, ticks: u64, from: usize) -> bool {
-        if k == 0 || k >= plates(&self.best) { return false; }
-        let (r, kept, cut) = rest(self.inst, &self.best, k);
-        let n = r.items.len() as u64;
-        let frozen = self.inst.before(k) * self.inst.params.height as u64;
-        let lost = self.loss + self.inst.area - frozen - r.area;
-        let f = strong::effort(n).min(ticks);
-        let (found, took) = strong::first_with(&r, f, 1);
-        self.spent += took;
-        let mut used = took;
-        let (mut best, mut loss) = match found { Some((t, l)) => (Some(t), l), None => (None, lost) };
-        let sheet = Sheet::new(&r);
-        let mut b = from;
-        // the last beam is as wide as what is left
-        while used + 5_000_000 < ticks {
-            let t = crate::effort::size(f, b).min(ticks - used);
-            let (found, took) = run(&r, &sheet, crate::effort::guide(&r, b, loss.min(lost), t), loss.min(lost), 1);
-            self.spent += took; used += took;
-            if let Some((t, l)) = found { best = Some(t); loss = l; }
-            b += 1;
+
+    /// Rounds of a beam over the whole and, from six plates on, of tails behind 3/4, 7/8 and 1/2 of the plates in turn, of half its ticks together. The first round then has tails in its
+    /// place, which have the ticks of both; three of them that find nothing end a round.
+    pub fn rounds(&mut self) {
+        let first = strong::effort(self.inst.items.len() as u64);
+        for round in 0..1000usize {
+            let many = plates(&self.best) >= 6;
+            let mut ticks = crate::effort::size(first, round);
+            if many { ticks = ticks.min(200_000_000 << round.clamp(1, 20)); }
+            let mut until = self.spent + ticks + ticks / 2;
+            if round > 0 || !many {
+                if self.spent + ticks > self.limit { return; }
+                self.whole(round, ticks);
+                until = self.spent + ticks / 2;
+            }
+            let mut missed = 0;
+            for number in 0..6 {
+                if !many || missed == 3 { break; }
+                let k = plates(&self.best) * [6, 7, 4][number % 3] / 8;
+                let left = strong::effort(rest(self.inst, &self.best, k).0.items.len() as u64);
+                let ticks = (left << round.min(20)).min((3 * left) << (round / 6).min(6));
+                if self.spent + ticks > until { break; }
+                if self.spent + ticks > self.limit { return; }
+                missed = if self.tail(k, number, ticks, 0) { 0 } else { missed + 1 };
+            }
         }
-        let mut better = false;
-        if loss < lost {
-            let whole = join(&self.best, cut, &best.unwrap(), &kept);
-            self.loss = trace_loss(self.inst, &whole); self.best = whole; better = true;
+    }
+    /// Beams over the whole alone, each with twice the ticks of the one before, as far as that is allowed.
+    pub fn wholes(&mut self) {
+        let first = strong::effort(self.inst.items.len() as u64);
+        for number in 0..1000 {
+            let ticks = crate::effort::size(first, number);
+            if self.spent + ticks > self.limit { return; }
+            self.whole(number, ticks);
         }
-        self.tell(&format!("  full {k} of {} ({n} items) {}{}", plates(&self.best), ticks / 1_000_000, if better { " *" } else { "" }));
-        better
     }
 }

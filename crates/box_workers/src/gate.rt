@@ -1,7 +1,7 @@
 //! What a search tells as it goes on.
 
-/// Is told of each box before it is handled, with the loss of the plan that its worker holds, and of each turn without a box. Its calls answer nothing and change nothing of
-/// the search.
+/// Is told of each box before it is handled, with the loss of the plan that its worker holds, and of each turn without a box. Its calls change nothing of the search of boxes,
+/// and only the time, which is asked while a better first plan is looked for, is an answer.
 pub trait Gate {
     /// This worker is about to handle the box of this identity.
     fn pass(&self, worker: u32, id: u64);
@@ -17,6 +17,14 @@ pub trait Gate {
 
     /// Before boxes, work is done for a better first plan: so many millions of ticks of so many were spent. A gate that does not say otherwise takes no notice.
     fn spends(&self, _millions: u64, _of: u64) {}
+
+    /// The item of this number is too large for every plate. A gate that does not say otherwise takes no notice.
+    fn misses(&self, _item: u32) {}
+
+    /// How many milliseconds of the clock have gone since the work began; none where there is no clock, as at a gate that does not say otherwise.
+    fn elapsed(&self) -> Option<u64> {
+        None
+    }
 }
 
 /// A gate that does nothing.

@@ -1,15 +1,16 @@
 -- Nodes with those of a part in the place of each open one.
-use Rattle.std.proofs.Common.{◌≡◌, ℕ, ◌+◌, ◌≤◌, List, [], ◌∷◌, length, refl, arith, All}
+use Rattle.std.proofs.Common.{◌≡◌, ℕ, ◌+◌, ◌<◌, ◌≤◌, inl, inr, List, [], ◌∷◌, length, max, refl, arith, All}
 use Rattle.std.specs.Prelude.{cond, count_by, sum_by}
 use Rattle.std.proofs.lemmas.List.{length-append}
 use Rattle.std.proofs.lemmas.List.Elements.{All-append, All-cons, All-head, All-map, All-nil, All-tail, All-weaker}
+use Rattle.std.proofs.lemmas.Bool.{cases_lt}
 use Rattle.std.proofs.lemmas.List.Sums.{sum_by-cons}
 use Rattle.cert_log.specs.declared.certificate.Certificate.{Certificate}
 use Rattle.cert_log.specs.declared.certificate.Node.{Node}
 use Rattle.cert_log.specs.declared.history.Cause.{Cause}
 use Rattle.cert_log.specs.Good.{IsVersion, IsVersionFor, version_for}
 use Rattle.cert_log.specs.Trees.{FitsVersion, is_left}
-use Rattle.cert_log.proofs.Versions.{no_later, two_or_three}
+use Rattle.cert_log.proofs.Versions.{three, two_or_three}
 use Rattle.cert_resume.specs.Joins.{filled, nodes_in}
 
 fills_all : (P : Node → Type 0) (nodes : List Node) (parts : List (List Node)) → All P nodes → All (All P) parts → All P (filled nodes parts)
@@ -29,14 +30,26 @@ fits_later version later (Node.Closed Cause.Bound) second le fits = omega (arith
 fits_later version later (Node.Closed (Cause.Reason r)) second le fits = omega (arith, second, le)
 fits_later version later Node.Left second le fits = tt
 
--- the causes of the nodes stay those of the version
-pub fills_version : (c : Certificate) (parts : List Certificate) → 2 ≤ c.version → IsVersion c.version c → All (IsVersionFor c.floor) parts → All (FitsVersion c.version) (filled c.nodes.items (nodes_in parts))
-fills_version c parts second version versions =
-    let own = version_for c.floor in let names = two_or_three c.floor in let le = no_later c.floor c.version second version.2 in
-    fills_all (FitsVersion c.version) c.nodes.items (nodes_in parts) version.1
-    (All-map (All (FitsVersion c.version)) (λ (p : Certificate). p.nodes.items) parts
-    (All-weaker (IsVersionFor c.floor) (λ (p : Certificate). All (FitsVersion c.version) p.nodes.items)
-    (λ p is. All-weaker (FitsVersion own) (FitsVersion c.version) (λ node fits. fits_later own c.version node names le fits) p.nodes.items is.0.1) parts versions))
+-- nodes of a version that names the causes are those of each later version
+all_later : (version later : ℕ) (nodes : List Node) → 2 ≤ version → version ≤ later → All (FitsVersion version) nodes → All (FitsVersion later) nodes
+all_later version later nodes second le fits = All-weaker (FitsVersion version) (FitsVersion later) (λ node is. fits_later version later node second le is) nodes fits
+
+-- the causes of the nodes are those of the version with this floor
+pub fills_version : (c : Certificate) (parts : List Certificate) (floor : ℕ) → 2 ≤ c.version → IsVersion c.version c → All (IsVersionFor floor) parts
+    → All (FitsVersion (max c.version (version_for floor))) (filled c.nodes.items (nodes_in parts))
+fills_version c parts floor second version versions =
+    let own = version_for floor in let names = two_or_three floor in let later = max c.version own in
+    fills_all (FitsVersion later) c.nodes.items (nodes_in parts) (all_later c.version later c.nodes.items second (omega arith) version.1)
+    (All-map (All (FitsVersion later)) (λ (p : Certificate). p.nodes.items) parts
+    (All-weaker (IsVersionFor floor) (λ (p : Certificate). All (FitsVersion later) p.nodes.items)
+    (λ p is. all_later own later p.nodes.items names (omega arith) is.0.1) parts versions))
+
+-- a version before the third has no floor
+pub no_floor_before : (version floor : ℕ) → max version (version_for floor) < 3 → floor ≡ 0
+no_floor_before version floor low = elim (cases_lt 0 floor) [
+  | inl some ↦ absurd (let third = three floor some in omega (arith, third, low))
+  | inr none ↦ omega (arith, none)
+]
 
 -- their floors are no greater
 pub low_floors : (floor : ℕ) (parts : List Certificate) → All (IsVersionFor floor) parts → All (λ (p : Certificate). p.floor ≤ floor) parts

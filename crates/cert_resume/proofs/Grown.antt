@@ -168,11 +168,12 @@ grows b floor m before waiting rs (p ∷ []) at_most stands right =
     }
 
 -- what right certificates are joined to is right
-pub keeps_right : (c : Certificate) (parts : List Certificate) (loss : Option ℕ) (j : Certificate) → All (λ (p : Certificate). p.floor ≤ c.floor) parts → IsJoined c parts loss j → KeepsRight c parts loss j
-keeps_right c parts loss j low joined = λ b rs before good at_most right.
-    let stands = good_stands b rs before c good in
-    let each = are_parts b c.floor loss (open_boxes rs good.tree) parts right low in
-    let g = grows b c.floor loss before good.tree rs parts at_most stands each in
+pub keeps_right : (c : Certificate) (parts : List Certificate) (floor : ℕ) (loss : Option ℕ) (j : Certificate) → c.floor ≤ floor → All (λ (p : Certificate). p.floor ≤ floor) parts → IsJoined c parts floor loss j →
+    KeepsRight c parts loss j
+keeps_right c parts floor_now loss j more low joined = λ b rs before good at_most least_is right.
+    let stands = stands_more b c.floor floor_now before rs good.tree more (good_stands b rs before c good) in
+    let each = are_parts b floor_now loss (open_boxes rs good.tree) parts right low in
+    let g = grows b floor_now loss before good.tree rs parts at_most stands each in
     let floor = sym joined.floor_is in let whole = nodes_of good.tree in
     let nodes =
     joined.nodes_are
@@ -180,7 +181,7 @@ keeps_right c parts loss j low joined = λ b rs before good at_most right.
     ∙ ap (λ (ps : List (List Node)). filled (whole ++ []) ps) (sym (append-nil (nodes_in parts)))
     ∙ g.nodes_are [] [] ∙ append-nil (nodes_of g.tree) in
     let least = joined.bound_is ∙ g.bound_is loss (at_most_itself loss) in
-    good_of b rs loss j g.tree nodes joined.loss_is (subst (IsFloor b) floor good.floor_is)
+    good_of b rs loss j g.tree nodes joined.loss_is least_is
     (subst (λ (n : ℕ). Stands b n loss rs g.tree) floor g.stands)
     (joined.left_is ∙ g.left_is ∙ ap (λ (n : ℕ). length (open_bounds b n rs g.tree)) floor)
     (least ∙ ap (λ (n : ℕ). fold lesser loss (open_bounds b n rs g.tree)) floor)

@@ -3,7 +3,7 @@
 ghost use Rattle.std.specs.Prelude.{◌≡◌, ◌+◌, ◌<◌, ◌≤◌, ◌^◌, ◌∷◌, ◌++◌, List, All, IfOk, count_by, fold, length, map, max, option_map, sum_by};
 ghost use Rattle.cert_log.specs.declared.certificate.Certificate.{Certificate as CertificateOf};
 ghost use Rattle.cert_log.specs.declared.certificate.Node.{Node as NodeOf};
-ghost use Rattle.cert_log.specs.Good.{HasVersion, IsVersionFor, lesser};
+ghost use Rattle.cert_log.specs.Good.{HasVersion, IsVersionFor, lesser, version_for};
 ghost use Rattle.cert_log.specs.Outcomes.{IsHead};
 ghost use Rattle.cert_log.specs.Texts.{head_of};
 ghost use Rattle.cert_log.specs.Trees.{is_left};
@@ -108,22 +108,35 @@ fn fill_all(alloc: Global, nodes: &[Node], parts: &[Certificate]) -> Result<Run<
     Ok(joined)
 }
 
-/// The certificate with the tree of a part in the place of each open node, in their order, for this loss.
+/// The version of a certificate of this one that is given this floor.
+fn version_with(version: u32, floor: u64) -> u32
+    ensures { result ≡ max version (version_for floor) }
+{
+    if floor == 0 {
+        version.max(2)
+    } else {
+        version.max(3)
+    }
+}
+
+/// The certificate with the tree of a part in the place of each open node, in their order, for this loss, and with the floor that the parts have, which is no less than its own.
 ///
-/// Where the certificate is right for a box and a loss that is no less, and each part is right for its open box and this loss, what comes
-/// is right for the box and this loss. Its version and its floor, which the parts have too, are kept. Only want of memory is refused. It takes time and memory linear in the nodes.
+/// Where the certificate is right for a box and a loss that is no less, each part is right for its open box and this loss, and no lawful plan loses less than the floor, what comes
+/// is right for the box and this loss. Its version is kept, or is that of a certificate with the floor. Only want of memory is refused. It takes time and memory linear in the nodes.
 pub fn join(
     alloc: Global,
     cert: &Certificate,
     parts: Run<Certificate>,
+    floor: u64,
     loss: Option<u64>,
 ) -> Result<Certificate, Memory>
     requires version { HasVersion cert.now }
     requires later { 2 ≤ cert.now.version }
-    requires versions { All (IsVersionFor cert.now.floor) parts.items }
+    requires floor { cert.now.floor ≤ floor }
+    requires versions { All (IsVersionFor floor) parts.items }
     requires parts { length parts.items ≡ count_by is_left cert.now.nodes.items }
     requires left { sum_by (λ (p : CertificateOf). p.left) parts.items < 2 ^ 64 }
-    ensures joined { IfOk result (IsJoined cert.now parts.items loss) }
+    ensures joined { IfOk result (IsJoined cert.now parts.items floor loss) }
     ensures right { IfOk result (KeepsRight cert.now parts.items loss) }
     ensures nodes { IfOk result (λ j. length j.nodes.items + length parts.items
         ≡ length cert.now.nodes.items + sum_by
@@ -134,11 +147,11 @@ pub fn join(
     let nodes = fill_all(alloc, cert.nodes.as_slice(), parts.as_slice())?;
     let _count = nodes.len();
     Ok(Certificate {
-        version: cert.version,
+        version: version_with(cert.version, floor),
         loss,
-        bound: least_bound(cert.floor, loss, parts.as_slice()),
+        bound: least_bound(floor, loss, parts.as_slice()),
         left: all_left(parts.as_slice()),
-        floor: cert.floor,
+        floor,
         nodes,
     })
 }

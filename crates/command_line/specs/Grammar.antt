@@ -57,21 +57,21 @@ check = record usual { reads = role.Batch ∷ role.Defects ∷ role.Plan ∷ rol
 -- each command by its own word, and by what is not as usual
 abbrev pub pattern_of : Verb → Pattern
 pattern_of verb.Draft = record usual { word = codes "draft"; reads = role.Batch ∷ []; stores = product.Plan ∷ [] }
-pattern_of verb.Plan = record usual { word = codes "plan"; stores = found; options = role.Params ∷ role.Plates ∷ role.Plan ∷ []; counts = count.Workers ∷ count.Budget ∷ count.Effort ∷ []; flags = flag.Watch ∷ flag.Fronts ∷ [] }
+pattern_of verb.Plan = record usual { word = codes "plan"; stores = found; options = role.Params ∷ role.Plates ∷ role.Plan ∷ []; counts = count.Workers ∷ count.Budget ∷ count.Effort ∷ count.Seconds ∷ []; flags = flag.Watch ∷ flag.Fronts ∷ [] }
 pattern_of verb.Gen = record usual {
   word = codes "gen";
   leads = lead.Start ∷ lead.Items ∷ lead.Defects ∷ [];
   reads = [];
   stores = found;
   options = [];
-  counts = count.Workers ∷ count.Budget ∷ count.Effort ∷ [];
+  counts = count.Workers ∷ count.Budget ∷ count.Effort ∷ count.Seconds ∷ [];
   flags = flag.Fronts ∷ [];
 }
 pattern_of verb.Judge = record usual { word = codes "judge"; reads = role.Batch ∷ role.Defects ∷ role.Plan ∷ [] }
 pattern_of verb.Verify = record check { word = codes "verify"; counts = count.Frozen ∷ count.FrontsLimit ∷ [] }
 pattern_of verb.Convert = record check { word = codes "convert"; stores = product.Certificate ∷ [] }
-pattern_of verb.Resume = record check { word = codes "resume"; stores = found; counts = count.Workers ∷ count.Budget ∷ count.Effort ∷ count.FrontsLimit ∷ [] }
-pattern_of verb.Freeze = record usual { word = codes "freeze"; leads = lead.Frozen ∷ []; reads = role.Batch ∷ role.Defects ∷ role.Plan ∷ []; stores = found; counts = count.Workers ∷ count.Budget ∷ count.Effort ∷ []; flags = flag.Fronts ∷ [] }
+pattern_of verb.Resume = record check { word = codes "resume"; stores = found; counts = count.Workers ∷ count.Budget ∷ count.Effort ∷ count.Seconds ∷ count.FrontsLimit ∷ []; flags = flag.Fronts ∷ [] }
+pattern_of verb.Freeze = record usual { word = codes "freeze"; leads = lead.Frozen ∷ []; reads = role.Batch ∷ role.Defects ∷ role.Plan ∷ []; stores = found; counts = count.Workers ∷ count.Budget ∷ count.Effort ∷ count.Seconds ∷ []; flags = flag.Fronts ∷ [] }
 pattern_of verb.Sheet = record usual { word = codes "sheet"; reads = role.Batch ∷ role.Defects ∷ role.Plan ∷ []; stores = product.Sheet ∷ [] }
 pattern_of verb.Replay = record usual { word = codes "replay"; reads = role.Batch ∷ role.Defects ∷ role.Sheet ∷ [] }
 pattern_of verb.Picture = record usual { word = codes "picture"; reads = role.Batch ∷ role.Defects ∷ role.Plan ∷ []; stores = product.Picture ∷ [] }
@@ -138,6 +138,7 @@ setting_of count.Workers = record { front = codes "--workers="; least = 1; most 
 setting_of count.Budget = record { front = codes "--budget="; least = 1; most = MOST_BUDGET; usual = 100000; needs = None }
 setting_of count.Frozen = record { front = codes "--frozen="; least = 0; most = MOST_PLATES; usual = 0; needs = Some role.Plan }
 setting_of count.Effort = record { front = codes "--effort="; least = 0; most = 1000000; usual = 0; needs = None }
+setting_of count.Seconds = record { front = codes "--seconds="; least = 0; most = 86400; usual = 0; needs = None }
 setting_of count.FrontsLimit = record { front = codes "--fronts-limit="; least = 1; most = 4000000000; usual = 500000000; needs = None }
 
 -- the word of an option that has no value

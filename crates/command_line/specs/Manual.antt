@@ -118,7 +118,8 @@ abbrev pub count_about : Count → List ℕ
 count_about count.Workers = codes "how many workers search"
 count_about count.Budget = codes "how many boxes a search handles at the most"
 count_about count.Frozen = codes "how many plates are cut already"
-count_about count.Effort = codes "a better first plan, for so many million ticks (300 are some ten seconds)"
+count_about count.Effort = codes "a better first plan, for so many million ticks (300 are ten seconds, and usual above 60 items)"
+count_about count.Seconds = codes "a better first plan, until so many seconds are over"
 count_about count.FrontsLimit = codes "how many labels a search over fronts looks at, to show a floor"
 
 abbrev pub flag_about : Flag → List ℕ
@@ -158,7 +159,7 @@ manual_of program.Glass = record {
   name = codes "glass";
   verbs = verbs;
   options = role.Params ∷ role.Plates ∷ role.Plan ∷ [];
-  counts = count.Workers ∷ count.Budget ∷ count.Effort ∷ count.Frozen ∷ count.FrontsLimit ∷ [];
+  counts = count.Workers ∷ count.Budget ∷ count.Effort ∷ count.Seconds ∷ count.Frozen ∷ count.FrontsLimit ∷ [];
   flags = flag.Watch ∷ flag.Fronts ∷ [];
 }
 manual_of program.Picture = record { name = codes "glass-picture"; verbs = verb.Picture ∷ []; options = role.Params ∷ role.Plates ∷ []; counts = []; flags = [] }

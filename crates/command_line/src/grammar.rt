@@ -118,6 +118,8 @@ pub enum Count {
     Frozen,
     /// How much work is done for a better first plan, in millions of ticks.
     Effort,
+    /// For how many seconds a better first plan is looked for.
+    Seconds,
     /// How many labels are looked at in one search over fronts that is to show the floor of a certificate.
     FrontsLimit,
 }
@@ -197,7 +199,7 @@ impl Verb {
                 without: &[],
                 stores: &[Product::Plan, Product::Certificate],
                 options: &[Role::Params, Role::Plates, Role::Plan],
-                counts: &[Count::Workers, Count::Budget, Count::Effort],
+                counts: &[Count::Workers, Count::Budget, Count::Effort, Count::Seconds],
                 flags: &[Flag::Watch, Flag::Fronts],
             },
             Verb::Gen => Form {
@@ -207,7 +209,7 @@ impl Verb {
                 without: &[],
                 stores: &[Product::Plan, Product::Certificate],
                 options: &[],
-                counts: &[Count::Workers, Count::Budget, Count::Effort],
+                counts: &[Count::Workers, Count::Budget, Count::Effort, Count::Seconds],
                 flags: &[Flag::Fronts],
             },
             Verb::Judge => Form {
@@ -251,9 +253,10 @@ impl Verb {
                     Count::Workers,
                     Count::Budget,
                     Count::Effort,
+                    Count::Seconds,
                     Count::FrontsLimit,
                 ],
-                flags: &[],
+                flags: &[Flag::Fronts],
             },
             Verb::Freeze => Form {
                 word: "freeze",
@@ -262,7 +265,7 @@ impl Verb {
                 without: &[],
                 stores: &[Product::Plan, Product::Certificate],
                 options: &[Role::Params, Role::Plates],
-                counts: &[Count::Workers, Count::Budget, Count::Effort],
+                counts: &[Count::Workers, Count::Budget, Count::Effort, Count::Seconds],
                 flags: &[Flag::Fronts],
             },
             Verb::Sheet => Form {
@@ -338,6 +341,7 @@ pub(crate) fn count_front(count: Count) -> &'static str
         Count::Budget => "--budget=",
         Count::Frozen => "--frozen=",
         Count::Effort => "--effort=",
+        Count::Seconds => "--seconds=",
         Count::FrontsLimit => "--fronts-limit=",
     }
 }
@@ -351,6 +355,7 @@ pub(crate) fn count_most(count: Count) -> u32
         Count::Budget => MOST_BUDGET,
         Count::Frozen => MOST_PLATES,
         Count::Effort => 1_000_000,
+        Count::Seconds => 86_400,
         Count::FrontsLimit => 4_000_000_000,
     }
 }
@@ -364,6 +369,7 @@ pub(crate) fn count_usual(count: Count) -> u32
         Count::Budget => 100_000,
         Count::Frozen => 0,
         Count::Effort => 0,
+        Count::Seconds => 0,
         Count::FrontsLimit => 500_000_000,
     }
 }
@@ -377,6 +383,7 @@ pub(crate) fn count_needs(count: Count) -> Option<Role>
         Count::Budget => None,
         Count::Frozen => Some(Role::Plan),
         Count::Effort => None,
+        Count::Seconds => None,
         Count::FrontsLimit => None,
     }
 }

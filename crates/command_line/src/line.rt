@@ -1,7 +1,7 @@
 //! A command line, and the one parser of words.
 
 ghost use Rattle.std.specs.Prelude.{◌≡◌, ◌+◌, ◌≤◌, true, map, count_by, position, slice_get, take, drop, option_and_then, option_map, is_some};
-ghost use Rattle.std.specs.List.{list_all};
+ghost use Rattle.std.specs.List.{list_all, list_any};
 ghost use Rattle.std.specs.Option.{option_map_or};
 ghost use Rattle.std.specs.Str.{bytes_eq};
 ghost use Rattle.std.specs.String.{string_bytes};
@@ -29,7 +29,7 @@ pub struct CommandLine<'a> {
 
 impl<'a> CommandLine<'a> {
     ghost use Rattle.command_line.specs.Lines.{line_in};
-    ghost use Rattle.command_line.specs.Grammar.{are_files_named, are_leads_said, is_count_served, is_line, is_named_once, is_product, is_read_named, lead_at, lead_in, name_at, name_by_option, name_of, option_names as option_names_of, pattern_of, count_in, flag_in, stored_as, stored_names};
+    ghost use Rattle.command_line.specs.Grammar.{are_files_named, are_leads_said, is_count, is_count_served, is_line, is_named_once, is_product, is_read_named, lead_at, lead_in, name_at, name_by_option, name_of, option_names as option_names_of, pattern_of, count_in, flag_in, stored_as, stored_names};
 
     /// The number of this kind that the line says before its names.
     fn lead_at(&self, lead: Lead) -> Option<u32>
@@ -230,6 +230,13 @@ impl<'a> CommandLine<'a> {
             Some(number) => number,
             None => count_usual(count),
         }
+    }
+
+    /// Whether the line sets this number.
+    pub fn sets(&self, count: Count) -> bool
+        ensures { result ≡ list_any (is_count count) (line_in self.now).options }
+    {
+        sets_count(count, self.options)
     }
 
     /// Whether the line has this option without a value.

@@ -217,8 +217,9 @@ fn count_about(count: Count) -> &'static str
         Count::Budget => "how many boxes a search handles at the most",
         Count::Frozen => "how many plates are cut already",
         Count::Effort => {
-            "a better first plan, for so many million ticks (300 are some ten seconds)"
+            "a better first plan, for so many million ticks (300 are ten seconds, and usual above 60 items)"
         }
+        Count::Seconds => "a better first plan, until so many seconds are over",
         Count::FrontsLimit => "how many labels a search over fronts looks at, to show a floor",
     }
 }
@@ -308,6 +309,7 @@ fn told_of(program: Program) -> Manual
                 Count::Workers,
                 Count::Budget,
                 Count::Effort,
+                Count::Seconds,
                 Count::Frozen,
                 Count::FrontsLimit,
             ],

@@ -5,8 +5,11 @@ mod beaming;
 mod choosing;
 mod comparing;
 mod improving;
+mod progress;
 mod starting;
+mod tails;
 
 pub use choosing::first_plan;
-pub use improving::{Effort, Progress, Team, improve};
+pub use improving::{Effort, Team, improve};
+pub use progress::Progress;
 pub use starting::{Start, better_first, start_by_fronts};

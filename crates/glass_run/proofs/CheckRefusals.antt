@@ -166,16 +166,16 @@ ends_well true false h = h
 ends_well false planned h = h
 
 -- what came of a search that went on is stored, or cannot be read again
-goes_well : (b : Problem) (budget : ℕ) (plan : Option Forest) (c : Certificate) (out new : List ℕ) (answer : Answer) → IsRefusal answer.status → GoesOn b budget plan c out new answer → ⊥
-goes_well b budget plan c out new answer is g =
+goes_well : (b : Problem) (budget : ℕ) (fronts : Bool) (plan : Option Forest) (c : Certificate) (out new : List ℕ) (answer : Answer) → IsRefusal answer.status → GoesOn b budget fronts plan c out new answer → ⊥
+goes_well b budget fronts plan c out new answer is g =
     neither IsRefusal (nat_le (length (cert_text g.certificate)) (limit_of role.Cert)) (planned b out new g.certificate g.best None) (too_long_to_read g.certificate)
     (ends_well (g.certificate.left == 0) (is_some g.certificate.loss)) (λ h. h) (subst (λ (a : Answer). IsRefusal a.status) g.answer_is is)
 
 -- an answer of `resume` to what is accepted has another status
-no_refusal : (b : Problem) (budget : ℕ) (plan : Option Forest) (c : Certificate) (out new : List ℕ) (answer : Answer) → IsRefusal answer.status → GoesOnWithin b budget plan c out new answer → ⊥
-no_refusal b budget plan c out new answer is within =
+no_refusal : (b : Problem) (budget : ℕ) (fronts : Bool) (plan : Option Forest) (c : Certificate) (out new : List ℕ) (answer : Answer) → IsRefusal answer.status → GoesOnWithin b budget fronts plan c out new answer → ⊥
+no_refusal b budget fronts plan c out new answer is within =
     elim within [
-      | inl g ↦ goes_well b budget plan c out new answer is g.1
+      | inl g ↦ goes_well b budget fronts plan c out new answer is g.1
       | inr much ↦ subst (λ (a : Answer). IsRefusal a.status) much.1 is
     ]
 
@@ -223,10 +223,10 @@ not_done verb.Convert line held answer check of is s =
       | inr other ↦ other
     ]
 not_done verb.Resume line held answer check of is s =
-    let budget = count_in line count.Budget in
-    let resumes : Resumes s.b (text_for s.texts role.Plan) (text_or_empty s.texts role.Cert) budget (plan_name line) (cert_name line) answer = subst (λ (v : Verb). AnswersInstance v line s.texts s.b answer) of s.answers in
+    let budget = count_in line count.Budget in let fronts = flag_in line flag.Fronts in
+    let resumes : Resumes s.b (text_for s.texts role.Plan) (text_or_empty s.texts role.Cert) budget fronts (plan_name line) (cert_name line) answer = subst (λ (v : Verb). AnswersInstance v line s.texts s.b answer) of s.answers in
     elim resumes [
-      | inl v ↦ absurd (no_refusal s.b budget v.0 v.1 (plan_name line) (cert_name line) answer is v.3)
+      | inl v ↦ absurd (no_refusal s.b budget fronts v.0 v.1 (plan_name line) (cert_name line) answer is v.3)
       | inr other ↦ other
     ]
 

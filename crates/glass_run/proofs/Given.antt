@@ -50,14 +50,15 @@ convert_answers line texts b answer plan text of is says h =
     answers_as verb.Convert line texts b answer of
     (subst (λ (p : Option (List ℕ)). Converts b p (text_or_empty texts role.Cert) (cert_name line) answer) is (subst (λ (t : List ℕ). Converts b plan t (cert_name line) answer) says h))
 
-pub resume_answers : (line : Line) (texts : Texts) (b : Problem) (answer : Answer) (plan : Option (List ℕ)) (text : List ℕ) (budget : ℕ) → line.verb ≡ verb.Resume → plan ≡ text_for texts role.Plan →
-    text ≡ text_or_empty texts role.Cert → budget ≡ count_in line count.Budget → Resumes b plan text budget (plan_name line) (cert_name line) answer → AnswersInstance line.verb line texts b answer
-resume_answers line texts b answer plan text budget of is says counts h =
+pub resume_answers : (line : Line) (texts : Texts) (b : Problem) (answer : Answer) (plan : Option (List ℕ)) (text : List ℕ) (budget : ℕ) (fronts : Bool) → line.verb ≡ verb.Resume → plan ≡ text_for texts role.Plan →
+    text ≡ text_or_empty texts role.Cert → budget ≡ count_in line count.Budget → fronts ≡ flag_in line flag.Fronts → Resumes b plan text budget fronts (plan_name line) (cert_name line) answer → AnswersInstance line.verb line texts b answer
+resume_answers line texts b answer plan text budget fronts of is says counts asked h =
     let cert = text_or_empty texts role.Cert in
     answers_as verb.Resume line texts b answer of
-    (subst (λ (p : Option (List ℕ)). Resumes b p cert (count_in line count.Budget) (plan_name line) (cert_name line) answer) is
-    (subst (λ (t : List ℕ). Resumes b plan t (count_in line count.Budget) (plan_name line) (cert_name line) answer) says
-    (subst (λ (n : ℕ). Resumes b plan text n (plan_name line) (cert_name line) answer) counts h)))
+    (subst (λ (p : Option (List ℕ)). Resumes b p cert (count_in line count.Budget) (flag_in line flag.Fronts) (plan_name line) (cert_name line) answer) is
+    (subst (λ (t : List ℕ). Resumes b plan t (count_in line count.Budget) (flag_in line flag.Fronts) (plan_name line) (cert_name line) answer) says
+    (subst (λ (n : ℕ). Resumes b plan text n (flag_in line flag.Fronts) (plan_name line) (cert_name line) answer) counts
+    (subst (λ (f : Bool). Resumes b plan text budget f (plan_name line) (cert_name line) answer) asked h))))
 
 -- what is asked of a search for a plan is what its line says
 pub plan_answers : (line : Line) (texts : Texts) (b : Problem) (answer : Answer) (text : Option (List ℕ)) (budget : ℕ) (watch fronts : Bool) → text ≡ text_for texts role.Plan → budget ≡ count_in line count.Budget →

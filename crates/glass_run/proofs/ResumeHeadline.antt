@@ -1,5 +1,5 @@
 -- What a user may conclude from how `resume` ended.
-use Rattle.std.proofs.Common.{◌≡◌, ◌≤◌, ℕ, List, length, sym, ap, subst, ◌∙◌, inl, inr, Option, None}
+use Rattle.std.proofs.Common.{◌≡◌, ◌≤◌, ℕ, Bool, List, length, sym, ap, subst, ◌∙◌, inl, inr, Option, None}
 use Rattle.glass_base.specs.Problem.{Problem}
 use Rattle.glass_base.specs.declared.role.Role.TheVariants as role
 use Rattle.glass_io.specs.Told.{Contents}
@@ -7,8 +7,9 @@ use Rattle.cut_model.specs.Tree.{Forest}
 use Rattle.cert_log.specs.declared.certificate.Certificate.{Certificate}
 use Rattle.cert_log.specs.Texts.{cert_text}
 use Rattle.cert_log.proofs.Covers.{bounds_each_plan}
-use Rattle.command_line.specs.Grammar.{Line, count_in}
+use Rattle.command_line.specs.Grammar.{Line, count_in, flag_in}
 use Rattle.command_line.specs.declared.grammar.Count.TheVariants as count
+use Rattle.command_line.specs.declared.grammar.Flag.TheVariants as flag
 use Rattle.command_line.specs.declared.grammar.Verb.{Verb}
 use Rattle.command_line.specs.declared.grammar.Verb.TheVariants as verb
 use Rattle.run_frame.specs.Answers.{Answer}
@@ -35,17 +36,17 @@ never_ended b plan_text text answer end (broken_plan plan c broken said unlawful
 never_ended b plan_text text answer end (bad_tree plan c at why said lawful wrong first e) = subst (λ (a : Answer). IsSearchEnd a.status) e end
 
 -- what was joined is stored and told, and its text is no longer than one that is read
-is_stored : (b : Problem) (budget : ℕ) (plan : Option Forest) (c : Certificate) (out new : List ℕ) (answer : Answer) → IsSearchEnd answer.status → (g : GoesOn b budget plan c out new answer) →
+is_stored : (b : Problem) (budget : ℕ) (fronts : Bool) (plan : Option Forest) (c : Certificate) (out new : List ℕ) (answer : Answer) → IsSearchEnd answer.status → (g : GoesOn b budget fronts plan c out new answer) →
     (length (cert_text g.certificate) ≤ limit_of role.Cert) × (answer ≡ planned b out new g.certificate g.best None)
-is_stored b budget plan c out new answer end g =
+is_stored b budget fronts plan c out new answer end g =
     if_short IsSearchEnd (cert_text g.certificate) (limit_of role.Cert) (planned b out new g.certificate g.best None) (too_long_to_read g.certificate) answer end (λ h. h) g.answer_is
 
 stores_more : (line : Line) (held : Contents) (old new : World) (answer : Answer) (result : Status) → line.verb ≡ verb.Resume → (s : Says line held answer) (plan : Option Forest) (c : Certificate) →
-    IsAccepted s.b (text_for s.texts role.Plan) (text_or_empty s.texts role.Cert) plan c → GoesOn s.b (count_in line count.Budget) plan c (plan_name line) (cert_name line) answer → IsSearchEnd answer.status → result ≡ answer.status →
+    IsAccepted s.b (text_for s.texts role.Plan) (text_or_empty s.texts role.Cert) plan c → GoesOn s.b (count_in line count.Budget) (flag_in line flag.Fronts) plan c (plan_name line) (cert_name line) answer → IsSearchEnd answer.status → result ≡ answer.status →
     Stands answer.stores old.shelf.contents new.shelf.contents → Prints answer.lines old.paper new.paper → StoresResumed line held old new result × HandlesOpenBoxes line held old new
 stores_more line held old new answer result of s plan c right g end is stored prints =
     let j = g.certificate in
-    let kept = is_stored s.b (count_in line count.Budget) plan c (plan_name line) (cert_name line) answer end g in
+    let kept = is_stored s.b (count_in line count.Budget) (flag_in line flag.Fronts) plan c (plan_name line) (cert_name line) answer end g in
     let ended : result ≡ ending j = is ∙ ap (λ (a : Answer). a.status) kept.1 in
     let made = g.resumed.made in
     let stores : StoresJoined line held old new = record {
@@ -81,11 +82,11 @@ stores_more line held old new answer result of s plan c right g end is stored pr
 stores_resumed : (line : Line) (held : Contents) (old new : World) (answer : Answer) (result : Status) → line.verb ≡ verb.Resume → IsSearchEnd result → result ≡ answer.status → Says line held answer →
     Stands answer.stores old.shelf.contents new.shelf.contents → Prints answer.lines old.paper new.paper → StoresResumed line held old new result × HandlesOpenBoxes line held old new
 stores_resumed line held old new answer result of end is s stored prints =
-    let budget = count_in line count.Budget in
-    let resumes : Resumes s.b (text_for s.texts role.Plan) (text_or_empty s.texts role.Cert) budget (plan_name line) (cert_name line) answer = subst (λ (v : Verb). AnswersInstance v line s.texts s.b answer) of s.answers in
+    let budget = count_in line count.Budget in let fronts = flag_in line flag.Fronts in
+    let resumes : Resumes s.b (text_for s.texts role.Plan) (text_or_empty s.texts role.Cert) budget fronts (plan_name line) (cert_name line) answer = subst (λ (v : Verb). AnswersInstance v line s.texts s.b answer) of s.answers in
     elim resumes [
       | inl v ↦
-          let within : GoesOnWithin s.b budget v.0 v.1 (plan_name line) (cert_name line) answer = v.3 in
+          let within : GoesOnWithin s.b budget fronts v.0 v.1 (plan_name line) (cert_name line) answer = v.3 in
           elim within [
             | inl g ↦ stores_more line held old new answer result of s v.0 v.1 v.2 g.1 (subst IsSearchEnd is end) is stored prints
             | inr much ↦ absurd (subst IsSearchEnd (is ∙ ap (λ (a : Answer). a.status) much.1) end)

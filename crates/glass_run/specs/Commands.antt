@@ -42,7 +42,7 @@ AnswersInstance verb.Judge line texts b answer = JudgesText b (text_or_empty tex
 AnswersInstance verb.Verify line texts b answer = VerifiesFrom (count_in line count.Frozen) b (text_for texts role.Plan) (text_or_empty texts role.Cert) answer
 AnswersInstance verb.Convert line texts b answer = Converts b (text_for texts role.Plan) (text_or_empty texts role.Cert) (cert_name line) answer
 AnswersInstance verb.Resume line texts b answer =
-    Resumes b (text_for texts role.Plan) (text_or_empty texts role.Cert) (count_in line count.Budget) (plan_name line) (cert_name line) answer
+    Resumes b (text_for texts role.Plan) (text_or_empty texts role.Cert) (count_in line count.Budget) (flag_in line flag.Fronts) (plan_name line) (cert_name line) answer
 AnswersInstance verb.Freeze line texts b answer =
     FreezesWithin b (lead_in line lead.Frozen) (count_in line count.Budget) (flag_in line flag.Fronts) (text_or_empty texts role.Plan) (plan_name line) (cert_name line) answer
 AnswersInstance verb.Sheet line texts b answer = SheetsText b (stored_as line product.Sheet) (text_or_empty texts role.Plan) answer

@@ -238,7 +238,7 @@ pub record StoresResumed (line : Line) (held : Contents) (old new : World) (resu
   pub found : StoresJoined line held old new
   pub open found use *
   -- the plan loses no more than that of PLAN
-  pub resumed : IsResumed b (count_in line count.Budget) right.plan certificate joined plan
+  pub resumed : IsResumed b (count_in line count.Budget) (flag_in line flag.Fronts) right.plan certificate joined plan
   -- the texts say the certificate and the plan, so that `verify` accepts them with this bound and this number of open boxes (`run_checks::laws`), or
   -- does not show the floor of CERT again: never where that is 0, as before version 3
   pub accepted : IsAccepted b (option_map (solution_text b) plan) (cert_text joined) plan joined
@@ -255,7 +255,7 @@ pub record StoresResumed (line : Line) (held : Contents) (old new : World) (resu
 pub record HandlesOpenBoxes (line : Line) (held : Contents) (old new : World) : Type 0 where
   pub found : StoresJoined line held old new
   pub open found use *
-  pub resumed : ResumesEachBox b (count_in line count.Budget) right.plan certificate joined plan
+  pub resumed : ResumesEachBox b (count_in line count.Budget) (flag_in line flag.Fronts) right.plan certificate joined plan
 
 -- the plan that PLAN says is lawful, if there is one, and the certificate that CERT says is not right for the box of all plans and for this
 -- plan's loss, or its floor is not shown; the first check that it fails is printed

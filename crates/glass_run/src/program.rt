@@ -50,11 +50,11 @@ pub fn exit_code<R: Threads + Wait + Sync, F: Files, S: Sink, G: Gate + Sync>(
     status.code()
 }
 
-/// How many boxes the search of these words may handle, if they search.
-fn budget(words: &io::Result<Vec<String>>) -> u32 {
+/// What these words set this number to, where they are a line of a command.
+fn number_set(words: &io::Result<Vec<String>>, count: Count) -> u32 {
     let line = words_taken(words).and_then(|words| line_named(words));
     match line {
-        Some(line) => line.count(Count::Budget),
+        Some(line) => line.count(count),
         None => 0,
     }
 }
@@ -83,7 +83,9 @@ pub fn run_program<
     let mut out = StdSink::new(rt);
     let words = words_given(rt);
     let command = command(&words);
-    let gate = TellingGate::new(rt, budget(&words), terminal);
+    let budget = number_set(&words, Count::Budget);
+    let seconds = number_set(&words, Count::Seconds);
+    let gate = TellingGate::new(rt, budget, seconds, terminal);
     let code = exit_code(rt, alloc, words, &mut files, &mut out, &gate);
     if code == Status::Usage.code() {
         tell_usage(rt, alloc, Program::Glass, command);

@@ -13,6 +13,7 @@ ghost use Rattle.glass_run.specs.inner.Asked.{IsAskedOf, MaySearch};
 ghost use Rattle.run_frame.specs.Forms.{CountsFetches, OnFault, answer_in, texts_in};
 
 use crate::answering::{Asked, asked_of_texts};
+use crate::telling::tell_misfits;
 use box_workers::Gate;
 use command_line::{CommandLine, Count, Flag, Lead, Program, Verb, line_named, question_asked};
 use glass_base::{Instance, Memory, Role};
@@ -26,6 +27,24 @@ use run_search::{Opening, Workforce, freeze_text, plan_instance, resume_texts};
 use std::alloc::Global;
 use std::sync::Wait;
 use std::thread::Threads;
+
+/// Up to how many items a search begins with the first plan as it is, where the line says nothing of the work that is to
+/// be done.
+const FEW_ITEMS: usize = 60;
+
+/// How much work is done for a better one where there are more, in millions of ticks: some ten seconds of one processor.
+const USUAL_EFFORT: u32 = 300;
+
+/// How much work is done for a better first plan: what the line says, or what is usual for so many items where it sets
+/// neither that nor a time nor a budget.
+fn effort_of(line: &CommandLine<'_>, instance: &Instance) -> u32 {
+    let set = [Count::Effort, Count::Seconds, Count::Budget];
+    if instance.items().len() > FEW_ITEMS && !set.iter().any(|count| line.sets(*count)) {
+        USUAL_EFFORT
+    } else {
+        line.count(Count::Effort)
+    }
+}
 
 /// The reply of a command that searches to its instance.
 fn reply_by_search<R: Threads + Wait + Sync, G: Gate + Sync>(
@@ -51,8 +70,10 @@ fn reply_by_search<R: Threads + Wait + Sync, G: Gate + Sync>(
     let opening = Opening {
         fronts: line.flag(Flag::Fronts),
         labels: u64::from(line.count(Count::FrontsLimit)),
-        effort: line.count(Count::Effort),
+        effort: effort_of(line, instance),
+        seconds: line.count(Count::Seconds),
     };
+    tell_misfits(instance, gate);
     let plan = text_of_role(texts, Role::Plan);
     let watch = line.flag(Flag::Watch);
     match line.verb {

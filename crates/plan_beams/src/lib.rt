@@ -22,6 +22,7 @@ mod paths;
 mod placing;
 mod planning;
 mod pools;
+mod rest;
 mod scene;
 mod schedule;
 mod searching;
@@ -39,5 +40,5 @@ mod watch;
 
 pub use crew::Crew;
 pub use planning::{Beams, Found, Widely};
-pub use schedule::{WideBeam, wide_ticks};
+pub use schedule::{WideBeam, round_ticks, tail_ticks};
 pub use watch::Watch;

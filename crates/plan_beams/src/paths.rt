@@ -1,8 +1,9 @@
 //! The path of a plan, and its trace.
 
 use crate::measure::Amount;
-use crate::node::{Candidate, Node};
+use crate::node::{Candidate, Node, Part};
 use crate::sheet::Sheet;
+use crate::stock::Stock;
 use crate::stretching::{Spot, Stretching};
 use cut_model::{Step, Trace};
 use glass_base::{Memory, Run};
@@ -51,10 +52,18 @@ pub fn path_to(alloc: Global, last: Candidate, arena: &[Node]) -> Result<Path, M
     })
 }
 
+/// The number in the instance of the stack of an item.
+fn stack_of(stock: &Stock, part: Part) -> u32 {
+    match stock.stacks.get(usize::from(part.stack)) {
+        Some(stack) => stack.number,
+        None => 0,
+    }
+}
+
 /// The step of a node's lower item at this spot.
-fn step_of(node: &Node, spot: &Spot) -> Step {
+fn step_of(stock: &Stock, node: &Node, spot: &Spot) -> Step {
     Step {
-        stack: u32::from(node.part.stack),
+        stack: stack_of(stock, node.part),
         turn: u32::from(node.part.turned),
         kind: node.begins.kind(),
         lift: u32::from(node.lifted),
@@ -67,11 +76,16 @@ fn step_of(node: &Node, spot: &Spot) -> Step {
 }
 
 /// Notes the steps of a node, the upper one first.
-fn note_steps(steps: &mut Vec<Step>, node: &Node, spot: &Spot) -> Result<(), Memory> {
-    let step = step_of(node, spot);
+fn note_steps(
+    steps: &mut Vec<Step>,
+    stock: &Stock,
+    node: &Node,
+    spot: &Spot,
+) -> Result<(), Memory> {
+    let step = step_of(stock, node, spot);
     if let Some(above) = node.above {
         steps.push(Step {
-            stack: u32::from(above.stack),
+            stack: stack_of(stock, above),
             turn: u32::from(above.turned),
             kind: 4,
             lift: 0,
@@ -83,12 +97,17 @@ fn note_steps(steps: &mut Vec<Step>, node: &Node, spot: &Spot) -> Result<(), Mem
 }
 
 /// The trace of a path.
-pub fn trace_of(alloc: Global, sheet: &Sheet, path: &[Node]) -> Result<Trace, Memory> {
+pub fn trace_of(
+    alloc: Global,
+    sheet: &Sheet,
+    stock: &Stock,
+    path: &[Node],
+) -> Result<Trace, Memory> {
     let mut steps = Vec::new(alloc);
     let mut stretching = Stretching::new();
     for node in path {
         let spot = stretching.spot_of(sheet, node);
-        note_steps(&mut steps, node, &spot)?;
+        note_steps(&mut steps, stock, node, &spot)?;
     }
     steps.reverse();
     Ok(Trace {

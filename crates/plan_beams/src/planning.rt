@@ -3,13 +3,14 @@
 use crate::crew::{Alone, Crew};
 use crate::hands::Hands;
 use crate::paths::{Path, trace_of};
+use crate::rest::Rest;
 use crate::schedule::{Turn, WideBeam, first_turn, second_turn, wide_turn};
 use crate::searching::beam;
 use crate::sheet::Sheet;
 use crate::stock::Stock;
 use crate::task::Task;
 use crate::watch::{Nobody, Watch};
-use cut_model::Trace;
+use cut_model::{Step, Trace};
 use glass_base::{Instance, Memory};
 use std::alloc::Global;
 use std::thread::Threads;
@@ -29,31 +30,59 @@ pub struct Widely {
 }
 
 /// The trace of a path, with its loss.
-fn found_on(alloc: Global, sheet: &Sheet, path: Option<Path>) -> Result<Option<Found>, Memory> {
+fn found_on(
+    alloc: Global,
+    sheet: &Sheet,
+    stock: &Stock,
+    path: Option<Path>,
+) -> Result<Option<Found>, Memory> {
     match path {
         Some(path) => Ok(Some(Found {
-            trace: trace_of(alloc, sheet, path.nodes.as_slice())?,
+            trace: trace_of(alloc, sheet, stock, path.nodes.as_slice())?,
             loss: path.loss.0,
         })),
         None => Ok(None),
     }
 }
 
-/// Beams over partial traces of one instance: two for a first plan, and wide ones behind them.
+/// Beams over partial traces of one instance, or of what is left of it behind the first plates of a plan: two for a first
+/// plan, and wide ones behind them.
 ///
 /// The effort of each is counted in ticks of about 30 ns and not timed, so what it finds is the same on each machine.
 /// A beam ends soon after so many ticks. It fails only where memory runs out.
 #[derive(Drop)]
 pub struct Beams {
+    rest: Rest,
     sheet: Sheet,
 }
 
 impl Beams {
     /// The beams for an instance.
     pub fn new(alloc: Global, instance: &Instance) -> Result<Beams, Memory> {
-        Ok(Beams {
-            sheet: Sheet::new(alloc, instance)?,
-        })
+        Beams::behind(alloc, instance, 0, &[])
+    }
+
+    /// The beams for what is left behind the first plates of a plan, where these are its steps on them. Each loss is that of the
+    /// other plates alone, and a trace that is found has the steps on these.
+    pub fn behind(
+        alloc: Global,
+        instance: &Instance,
+        plates: u32,
+        steps: &[Step],
+    ) -> Result<Beams, Memory> {
+        let rest = Rest::behind(alloc, instance, plates, steps)?;
+        let sheet = Sheet::new(alloc, instance, &rest)?;
+        Ok(Beams { rest, sheet })
+    }
+
+    /// How many items are to be planned.
+    pub fn items(&self) -> usize {
+        self.rest.items
+    }
+
+    /// What they are together, in mm².
+    pub fn area(&self) -> u64 {
+        self.rest.area
     }
 
     /// The best trace of a beam, if it finds one, and the ticks that it took.
@@ -67,7 +96,7 @@ impl Beams {
     ) -> Result<Widely, Memory>
         requires hands { H.can_work }
     {
-        let stock = Stock::new(alloc, instance, &turn.guide)?;
+        let stock = Stock::new(alloc, instance, &self.rest, &turn.guide)?;
         let task = Task {
             sheet: &self.sheet,
             stock: &stock,
@@ -78,7 +107,7 @@ impl Beams {
         };
         let (path, ticks) = beam(alloc, hands, &task, watch)?;
         Ok(Widely {
-            found: found_on(alloc, &self.sheet, path)?,
+            found: found_on(alloc, &self.sheet, &stock, path)?,
             ticks,
         })
     }
@@ -90,7 +119,7 @@ impl Beams {
         instance: &Instance,
         ticks: u64,
     ) -> Result<Option<Found>, Memory> {
-        let turn = first_turn(instance, ticks);
+        let turn = first_turn(ticks);
         let taken = self.take(alloc, &Alone, instance, turn, &Nobody)?;
         Ok(taken.found)
     }
@@ -103,7 +132,7 @@ impl Beams {
         lost: Option<u64>,
         ticks: u64,
     ) -> Result<Option<Found>, Memory> {
-        let turn = second_turn(instance, lost, ticks);
+        let turn = second_turn(&self.rest, lost, ticks);
         let taken = self.take(alloc, &Alone, instance, turn, &Nobody)?;
         Ok(taken.found)
     }
@@ -119,6 +148,13 @@ impl Beams {
         beam: WideBeam,
         watch: &W,
     ) -> Result<Widely, Memory> {
-        self.take(alloc, crew, instance, wide_turn(instance, beam), watch)
+        let waste = self.sheet.waste;
+        self.take(
+            alloc,
+            crew,
+            instance,
+            wide_turn(&self.rest, waste, beam),
+            watch,
+        )
     }
 }

@@ -1,11 +1,11 @@
-//! Which beams there are: two of a first plan, and wide ones behind them. Their guides and sizes hang on the instance
-//! alone and not on how many of them are run, so that more of them never find less.
+//! Which beams there are: two of a first plan, and wide ones behind them, in rounds. Their guides and sizes hang on the
+//! instance alone and not on how many of them are run, so that more of them never find less.
 
 ghost use Rattle.std.specs.Prelude.{◌≤◌};
 
 use crate::guide::{Guide, Tolerance};
 use crate::measure::{Amount, Length};
-use glass_base::Instance;
+use crate::rest::Rest;
 
 /// The loss that the first beam expects of an area, in 1/1024.
 const FIRST_RATE: u64 = 102;
@@ -19,18 +19,24 @@ const FEW_ITEMS: usize = 60;
 /// Up to how many items a wide beam sees almost all plans, and takes no front as better that reaches a little less far.
 const VERY_FEW_ITEMS: usize = 30;
 
-/// With the first wide beam the effort comes to so many ticks, or to twice those of the first plan where that takes
-/// as many.
+/// With the wide beam of the first round the effort comes to so many ticks, or to twice those of the first plan where that
+/// takes as many.
 const WIDE_TICKS: u64 = 300_000_000;
 
-/// A wide beam takes at most so many times the first plan's ticks, with which its levels come to about the greatest
-/// width.
+/// A wide beam over all plates that is followed by some over the last ones has at most so many ticks, doubled in the second
+/// round and in each one behind it.
+const ROUND_TICKS: u64 = 200_000_000;
+
+/// A wide beam takes at most so many times a first plan's ticks, with which its levels come to about the greatest
+/// width; and one over the last plates so many times.
 const MOST_TIMES: u64 = 12;
+
+const MOST_TAIL_TIMES: u64 = 3;
 
 /// At most so many nodes of a level are expanded by a wide beam.
 const WIDEST: u64 = 32_768;
 
-/// How often the sizes of wide beams are doubled, and how often both of these limits.
+/// How often the ticks of wide beams are doubled, and how often these limits.
 const MOST_GROWN: u32 = 20;
 
 const MOST_DOUBLED: u32 = 6;
@@ -145,11 +151,10 @@ impl Row {
         }
     }
 
-    /// The tolerance of a wide beam.
-    fn tolerance_for(&self, instance: &Instance) -> Tolerance {
-        let items = instance.items().len();
+    /// The tolerance of a wide beam for so many items.
+    fn tolerance_for(&self, items: usize, waste: Length) -> Tolerance {
         if items <= VERY_FEW_ITEMS {
-            Tolerance::Gap(Length(instance.params().waste))
+            Tolerance::Gap(waste)
         } else {
             self.slack_for(items)
         }
@@ -157,7 +162,7 @@ impl Row {
 }
 
 /// The first beam of a first plan, whose loss tells the second one what to expect.
-pub fn first_turn(instance: &Instance, ticks: u64) -> Turn {
+pub fn first_turn(ticks: u64) -> Turn {
     Turn {
         guide: USUAL.guide(FIRST_RATE, USUAL.slack()),
         best: Amount::FAR,
@@ -167,16 +172,16 @@ pub fn first_turn(instance: &Instance, ticks: u64) -> Turn {
 }
 
 /// The second beam of a first plan, where the first one lost so much, in mm².
-pub fn second_turn(instance: &Instance, lost: Option<u64>, ticks: u64) -> Turn {
+pub fn second_turn(rest: &Rest, lost: Option<u64>, ticks: u64) -> Turn {
     let (rate, best) = match lost {
         Some(lost) => (
-            USUAL.rate(lost, instance.area()).unwrap_or(FIRST_RATE),
+            USUAL.rate(lost, rest.area).unwrap_or(FIRST_RATE),
             Amount(lost),
         ),
         None => (FIRST_RATE, Amount::FAR),
     };
     Turn {
-        guide: USUAL.guide(rate, USUAL.slack_for(instance.items().len())),
+        guide: USUAL.guide(rate, USUAL.slack_for(rest.items)),
         best,
         ticks,
         widest: FIRST_WIDEST,
@@ -190,29 +195,53 @@ fn doubled(number: u32) -> u32
     (number / 6).min(MOST_DOUBLED)
 }
 
-/// A wide beam's turn.
-pub fn wide_turn(instance: &Instance, beam: WideBeam) -> Turn {
+/// A wide beam's turn, where `waste` is the least one.
+pub fn wide_turn(rest: &Rest, waste: Length, beam: WideBeam) -> Turn {
     let row = ROWS[(beam.number % 6) as usize];
-    let rate = row.rate(beam.lost, instance.area()).unwrap_or(0);
+    let rate = row.rate(beam.lost, rest.area).unwrap_or(0);
     Turn {
-        guide: row.guide(rate, row.tolerance_for(instance)),
+        guide: row.guide(rate, row.tolerance_for(rest.items, waste)),
         best: Amount(beam.lost),
         ticks: beam.ticks,
         widest: WIDEST << doubled(beam.number),
     }
 }
 
-/// How many ticks the wide beam of this number has, where the first plan takes so many: twice as many as the one
-/// before, as far as that is allowed.
-pub fn wide_ticks(first: u64, number: u32) -> u64 {
+/// How many ticks the wide beam over all plates has in the round of this number, where the first plan takes so many: in the
+/// first round what is left of the effort, then twice as many as in the one before, as far as that is allowed; and less
+/// where beams over the last plates follow it.
+pub fn round_ticks(first: u64, round: u32, has_tails: bool) -> u64 {
+    let ticks = wide_ticks(first, round);
+    if has_tails {
+        ticks.min(grown(ROUND_TICKS, round.max(1)))
+    } else {
+        ticks
+    }
+}
+
+/// The same where none follow it.
+fn wide_ticks(first: u64, round: u32) -> u64 {
     let rest = WIDE_TICKS.saturating_sub(first);
-    if number == 0 && rest > 0 {
+    if round == 0 && rest > 0 {
         return rest;
     }
-    let start = rest.max(first);
-    let grown = start.saturating_mul(1 << number.min(MOST_GROWN));
-    let most = first
-        .saturating_mul(MOST_TIMES)
-        .saturating_mul(1 << doubled(number));
-    grown.min(most)
+    let most = first.saturating_mul(MOST_TIMES);
+    grown(rest.max(first), round).min(twice(most, round))
+}
+
+/// How many ticks a wide beam over the last plates has in the round of this number, where a first plan of these takes so
+/// many: as many, then twice as many as in the one before, as far as that is allowed.
+pub fn tail_ticks(first: u64, round: u32) -> u64 {
+    let most = first.saturating_mul(MOST_TAIL_TIMES);
+    grown(first, round).min(twice(most, round))
+}
+
+/// So many ticks, doubled in each round.
+fn grown(ticks: u64, round: u32) -> u64 {
+    ticks.saturating_mul(1 << round.min(MOST_GROWN))
+}
+
+/// A limit, doubled once each guide has had its turn.
+fn twice(limit: u64, round: u32) -> u64 {
+    limit.saturating_mul(1 << doubled(round))
 }

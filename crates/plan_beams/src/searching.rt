@@ -217,19 +217,20 @@ impl Search {
         Ok(())
     }
 
-    /// Works a level off, where a node takes `cost`, and tells what one took.
+    /// Works a level off, where so many ticks are left and a node takes `cost`, and tells what one took.
     fn work_off<H: Hands>(
         &mut self,
         alloc: Global,
         hands: &H,
         task: &Task,
         level: usize,
+        left: u64,
         cost: u64,
     ) -> Result<u64, Memory>
         requires hands { H.can_work }
     {
         let before = self.spent;
-        let width = task.width(before, level, cost);
+        let width = task.width(left, level, cost);
         self.take(hands, task, width)?;
         self.expand(hands, task, width)?;
         self.gather(level)?;
@@ -272,7 +273,8 @@ pub fn beam<H: Hands, W: Watch>(
         .saturating_add(40);
     search.begin(task)?;
     for level in 1..items {
-        cost = search.work_off(alloc, hands, task, level, cost)?;
+        let left = task.left(search.spent).min(watch.left(search.spent));
+        cost = search.work_off(alloc, hands, task, level, left, cost)?;
         watch.spends(search.spent);
     }
     Ok((search.path(alloc, task)?, search.spent))

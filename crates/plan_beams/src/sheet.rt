@@ -1,15 +1,16 @@
 //! Parameters, plates and defects in the form that the search reads.
 
 use crate::measure::Length;
+use crate::rest::Rest;
 use crate::shapes::Rectangle;
-use glass_base::{Defect, Instance, Item, Memory};
+use glass_base::{Defect, Instance, Memory};
 use std::alloc::Global;
 
 /// A plate. All lengths are in mm.
 #[derive(Drop)]
 pub struct Plate {
     pub wide: Length,
-    /// The widths of the plates before it together.
+    /// The widths of the plates before it together, without those that stay as they are.
     pub before: Length,
     /// Its defects, from left to right.
     pub defects: Vec<Rectangle>,
@@ -51,10 +52,11 @@ fn defects_of(alloc: Global, instance: &Instance, plate: u32) -> Result<Vec<Rect
     Ok(defects)
 }
 
-fn plates_of(alloc: Global, instance: &Instance) -> Result<Vec<Plate>, Memory> {
+/// The plates behind the first ones.
+fn plates_behind(alloc: Global, instance: &Instance, first: u32) -> Result<Vec<Plate>, Memory> {
     let mut plates = Vec::new(alloc);
     let mut before = 0u32;
-    for number in 0..instance.params().plates {
+    for number in first..instance.params().plates {
         let wide = instance.width(number);
         plates.push(Plate {
             wide: Length(wide),
@@ -66,16 +68,8 @@ fn plates_of(alloc: Global, instance: &Instance) -> Result<Vec<Plate>, Memory> {
     Ok(plates)
 }
 
-fn least_side(items: &[Item]) -> u32 {
-    let mut least = u32::MAX;
-    for item in items {
-        least = least.min(item.length).min(item.width);
-    }
-    least
-}
-
 impl Sheet {
-    pub fn new(alloc: Global, instance: &Instance) -> Result<Sheet, Memory> {
+    pub fn new(alloc: Global, instance: &Instance, rest: &Rest) -> Result<Sheet, Memory> {
         let params = instance.params();
         Ok(Sheet {
             high: Length(params.height),
@@ -83,8 +77,8 @@ impl Sheet {
             max1: Length(params.max1),
             min2: Length(params.min2),
             waste: Length(params.waste),
-            small: Length(least_side(instance.items())),
-            plates: plates_of(alloc, instance)?,
+            small: Length(rest.small),
+            plates: plates_behind(alloc, instance, rest.plates)?,
         })
     }
 }

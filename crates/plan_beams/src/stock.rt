@@ -4,6 +4,7 @@ ghost use Rattle.std.specs.Prelude.{◌<◌, length};
 
 use crate::guide::Guide;
 use crate::measure::{Amount, Length};
+use crate::rest::Rest;
 use glass_base::{Instance, Memory};
 use std::alloc::Global;
 
@@ -29,16 +30,18 @@ impl Piece {
     }
 }
 
-/// A stack.
+/// A stack of which something is left.
 #[derive(Drop)]
 pub struct Stack {
+    /// Its number in the instance.
+    pub number: u32,
     /// Its items, in the order in which they are cut.
     pub pieces: Vec<Piece>,
     /// A number below 2^48. Sets of items are told apart by the sums of these.
     pub mix: u64,
 }
 
-/// The items of an instance.
+/// The items that are to be planned.
 #[derive(Drop)]
 pub struct Stock {
     pub stacks: Vec<Stack>,
@@ -112,31 +115,41 @@ fn total_value(stacks: &[Stack]) -> Amount {
     total
 }
 
-fn stacks_of(alloc: Global, instance: &Instance, guide: &Guide) -> Result<Vec<Stack>, Memory> {
-    let count = instance.stacks();
-    let mean = instance
-        .area()
-        .checked_div(u64::from(count))
-        .unwrap_or(1)
-        .max(1);
+fn stacks_of(
+    alloc: Global,
+    instance: &Instance,
+    rest: &Rest,
+    guide: &Guide,
+) -> Result<Vec<Stack>, Memory> {
+    let mean = rest.mean_stack().max(1);
     let mut state = 12_345;
     let mut stacks = Vec::new(alloc);
-    for number in 0..count {
-        let pieces = pieces_of(alloc, instance, instance.stack(number), guide, mean)?;
-        let mix = draw_mix(&mut state);
-        stacks.push(Stack { pieces, mix })?;
+    for number in 0..instance.stacks() {
+        let left = rest.left(instance, number);
+        if !left.is_empty() {
+            stacks.push(Stack {
+                number,
+                pieces: pieces_of(alloc, instance, left, guide, mean)?,
+                mix: draw_mix(&mut state),
+            })?;
+        }
     }
     Ok(stacks)
 }
 
 impl Stock {
-    /// The items of an instance, and what they are worth for a beam that goes by `guide`.
-    pub fn new(alloc: Global, instance: &Instance, guide: &Guide) -> Result<Stock, Memory> {
-        let stacks = stacks_of(alloc, instance, guide)?;
+    /// The items that are to be planned, and what they are worth for a beam that goes by `guide`.
+    pub fn new(
+        alloc: Global,
+        instance: &Instance,
+        rest: &Rest,
+        guide: &Guide,
+    ) -> Result<Stock, Memory> {
+        let stacks = stacks_of(alloc, instance, rest, guide)?;
         let value = total_value(stacks.as_slice());
         Ok(Stock {
             stacks,
-            items: instance.items().len(),
+            items: rest.items,
             value,
         })
     }

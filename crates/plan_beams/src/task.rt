@@ -26,11 +26,15 @@ pub struct Task<'t> {
 }
 
 impl Task<'_> {
+    /// How many ticks are left of its effort.
+    pub fn left(&self, spent: u64) -> u64 {
+        self.ticks.saturating_sub(spent)
+    }
+
     /// How many nodes of a level are expanded at the most, so that the ticks that are left last to the end where a node
     /// takes `cost`.
-    pub fn width(&self, spent: u64, level: usize, cost: u64) -> usize {
+    pub fn width(&self, left: u64, level: usize, cost: u64) -> usize {
         let levels = self.stock.items.saturating_sub(level).max(1) as u64;
-        let left = self.ticks.saturating_sub(spent);
         let share = left.checked_div(cost.wrapping_mul(levels)).unwrap_or(0);
         share.min(self.widest).max(1) as usize
     }

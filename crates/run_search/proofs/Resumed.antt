@@ -1,6 +1,6 @@
 -- What a search finds that goes on in the open boxes of a right certificate, from its lawful history.
 use Rattle.std.proofs.Common.{◌≡◌, ◌≢◌, ℕ, ◌<◌, ◌≤◌, ◌+◌, List, [], ◌∷◌, length, arith, refl, sym, ap, ◌∙◌, subst, Option, Some, None}
-use Rattle.std.specs.Prelude.{IfSome, IsSome, option_map, sum_by}
+use Rattle.std.specs.Prelude.{Bool, IfSome, IsSome, false, option_map, sum_by}
 use Rattle.std.specs.List.{AllZip}
 use Rattle.std.proofs.lemmas.List.{length-append}
 use Rattle.glass_base.specs.Problem.{Problem, IsProblem}
@@ -14,7 +14,7 @@ use Rattle.plan_box.specs.Ranges.{PlainBox, Ranges}
 use Rattle.cert_log.specs.declared.certificate.Certificate.{Certificate}
 use Rattle.cert_log.specs.declared.history.History.{History}
 use Rattle.cert_log.specs.declared.history.Left.{Left}
-use Rattle.cert_log.specs.Good.{AreGood, HasVersion, IsGood, IsVersion}
+use Rattle.cert_log.specs.Good.{AreGood, HasVersion, IsFloor, IsGood, IsVersion}
 use Rattle.cert_log.specs.Lawful.{IsLawful, loss_of, no_loss}
 use Rattle.cert_log.specs.Outcomes.{IsHead}
 use Rattle.cert_log.specs.Splits.{AreSearched}
@@ -23,6 +23,7 @@ use Rattle.cert_log.specs.Trees.{Tree, halved, closed, waiting, nodes_of}
 use Rattle.cert_log.specs.Values.{IsNumber}
 use Rattle.cert_log.proofs.Covers.{bounds_each_plan}
 use Rattle.cert_log.proofs.GoodNodes.{good_counts}
+use Rattle.cert_log.proofs.Versions.{no_later}
 use Rattle.cert_log.proofs.Walked.{good_left_is}
 use Rattle.cert_check.specs.Causes.{AreNamed}
 use Rattle.cert_resume.specs.Joins.{AreRightParts, IsAtMost, IsJoined, KeepsRight}
@@ -78,41 +79,42 @@ left_some : (xs : List Left) → 0 < length xs → xs ≢ []
 left_some [] some e = omega (arith, some)
 left_some (x ∷ xs) some e = cc e
 
--- what is joined has the version of what it was joined to
-joined_version : {parts : List Certificate} {loss : Option ℕ} (named j : Certificate) → HasVersion named → IsJoined named parts loss j → HasVersion j
-joined_version named j has joined =
-    let same = joined.version.0 in (omega (arith, same, has.0), subst (λ (version : ℕ). IsVersion version j) (sym same) joined.version)
+-- what is joined has the version of what it was joined to, or that of its floor
+joined_version : {parts : List Certificate} {floor : ℕ} {loss : Option ℕ} (named j : Certificate) → HasVersion named → IsJoined named parts floor loss j → HasVersion j
+joined_version {parts} {floor} named j has joined =
+    let same = joined.version.0 in let most = no_later floor 3 (omega arith) (λ low. absurd (omega (arith, low))) in
+    (omega (arith, same, has.0, most), subst (λ (version : ℕ). IsVersion version j) (sym same) joined.version)
 
 -- a search of the open boxes of a certificate whose causes are named, and what came of it
-pub record HasSearched (b : Problem) (budget to_beat : ℕ) (c named : Certificate) (h : History) (parts : List Certificate) (j : Certificate) : Type 0 where
+pub record HasSearched (b : Problem) (budget to_beat floor : ℕ) (c named : Certificate) (h : History) (parts : List Certificate) (j : Certificate) : Type 0 where
   pub names : IsConverted b c named
   pub named_version : HasVersion named
-  pub lawful : IsLawful b (course_from (left_boxes_of b names.good.tree) to_beat budget named.floor) h
+  pub lawful : IsLawful b (course_from (left_boxes_of b names.good.tree) to_beat budget floor) h
   pub right : AreGood b (loss_of h.best) (left_boxes_of b names.good.tree) parts
   pub searched : AreSearched b to_beat (left_boxes_of b names.good.tree) parts
   pub nodes : sum_by (λ (x : Certificate). length x.nodes.items) parts ≡ length h.log.items + length h.left.items
   pub left : sum_by (λ (x : Certificate). x.left) parts ≡ length h.left.items
-  pub joined : IsJoined named parts (loss_of h.best) j
+  pub joined : IsJoined named parts floor (loss_of h.best) j
   pub keeps : KeepsRight named parts (loss_of h.best) j
   pub count : length j.nodes.items + length parts ≡ length named.nodes.items + sum_by (λ (x : Certificate). length x.nodes.items) parts
   pub head : IsHead (head_of j)
   pub few : IsNumber (length j.nodes.items)
 
 -- the parts of such a search, put together
-pub searched_on : (b : Problem) (budget to_beat : ℕ) (c named : Certificate) (h : History) (boxes : List PlainBox) (parts : List Certificate) (loss : Option ℕ) (j : Certificate) → (names : IsConverted b c named) → HasVersion named
-    → boxes ≡ left_boxes_of b names.good.tree → loss ≡ loss_of h.best → IsLawful b (course_from boxes to_beat budget named.floor) h → AreGood b (loss_of h.best) boxes parts → AreSearched b to_beat boxes parts
+pub searched_on : (b : Problem) (budget to_beat floor : ℕ) (c named : Certificate) (h : History) (boxes : List PlainBox) (parts : List Certificate) (loss : Option ℕ) (j : Certificate) → (names : IsConverted b c named) → HasVersion named
+    → boxes ≡ left_boxes_of b names.good.tree → loss ≡ loss_of h.best → IsLawful b (course_from boxes to_beat budget floor) h → AreGood b (loss_of h.best) boxes parts → AreSearched b to_beat boxes parts
     → sum_by (λ (x : Certificate). length x.nodes.items) parts ≡ length h.log.items + length h.left.items → sum_by (λ (x : Certificate). x.left) parts ≡ length h.left.items
-    → IsJoined named parts loss j → KeepsRight named parts loss j → length j.nodes.items + length parts ≡ length named.nodes.items + sum_by (λ (x : Certificate). length x.nodes.items) parts
-    → IsHead (head_of j) → IsNumber (length j.nodes.items) → HasSearched b budget to_beat c named h parts j
-searched_on b budget to_beat c named h boxes parts loss j names has are is lawful right searched nodes left joined keeps count head few = record {
+    → IsJoined named parts floor loss j → KeepsRight named parts loss j → length j.nodes.items + length parts ≡ length named.nodes.items + sum_by (λ (x : Certificate). length x.nodes.items) parts
+    → IsHead (head_of j) → IsNumber (length j.nodes.items) → HasSearched b budget to_beat floor c named h parts j
+searched_on b budget to_beat floor c named h boxes parts loss j names has are is lawful right searched nodes left joined keeps count head few = record {
   names = names;
   named_version = has;
-  lawful = subst (λ (xs : List PlainBox). IsLawful b (course_from xs to_beat budget named.floor) h) are lawful;
+  lawful = subst (λ (xs : List PlainBox). IsLawful b (course_from xs to_beat budget floor) h) are lawful;
   right = subst (λ (xs : List PlainBox). AreGood b (loss_of h.best) xs parts) are right;
   searched = subst (λ (xs : List PlainBox). AreSearched b to_beat xs parts) are searched;
   nodes = nodes;
   left = left;
-  joined = subst (λ (o : Option ℕ). IsJoined named parts o j) is joined;
+  joined = subst (λ (o : Option ℕ). IsJoined named parts floor o j) is joined;
   keeps = subst (λ (o : Option ℕ). KeepsRight named parts o j) is keeps;
   count = count;
   head = head;
@@ -123,9 +125,9 @@ searched_on b budget to_beat c named h boxes parts loss j names has are is lawfu
 pub own_loss : (b : Problem) (loss : Option ℕ) (c : Certificate) → IsGood b (root_ranges b) loss c → IsGood b (root_ranges b) c.loss c
 own_loss b loss c good = subst (λ (o : Option ℕ). IsGood b (root_ranges b) o c) (sym good.loss_is) good
 
-module _ (b : Problem) (budget to_beat : ℕ) (plan : Option Forest) (c named : Certificate) (h : History) (parts : List Certificate) (j : Certificate) (best : Option Forest)
-    (problem : IsProblem b) (right : IsGood b (root_ranges b) (loss_in b plan) c) (s : HasSearched b budget to_beat c named h parts j)
-    (at_most : IsAtMost (Some to_beat) (loss_in b plan)) (small : IfSome plan (λ _. to_beat < no_loss)) where
+module _ (b : Problem) (budget to_beat floor : ℕ) (fronts : Bool) (plan : Option Forest) (c named : Certificate) (h : History) (parts : List Certificate) (j : Certificate) (best : Option Forest)
+    (problem : IsProblem b) (right : IsGood b (root_ranges b) (loss_in b plan) c) (s : HasSearched b budget to_beat floor c named h parts j)
+    (kept : named.floor ≤ floor) (unasked : fronts ≡ false → floor ≡ named.floor) (at_most : IsAtMost (Some to_beat) (loss_in b plan)) (small : IfSome plan (λ _. to_beat < no_loss)) where
   no_worse : IsAtMost (loss_of h.best) (loss_in b plan)
   no_worse = known_at_most b plan h.best to_beat s.lawful.best_first at_most small
 
@@ -133,7 +135,9 @@ module _ (b : Problem) (budget to_beat : ℕ) (plan : Option Forest) (c named : 
   right_parts = by_ranges (λ (rs : List Ranges) (p : Certificate). IsGood b rs (loss_of h.best) p) (frame_of b) 0 (open_boxes (root_ranges b) s.names.good.tree) parts s.right
 
   joined_good : IsGood b (root_ranges b) (loss_of h.best) j
-  joined_good = s.keeps b (root_ranges b) c.loss s.names.good (subst (λ (o : Option ℕ). IsAtMost (loss_of h.best) o) (sym right.loss_is) no_worse) right_parts
+  joined_good =
+      s.keeps b (root_ranges b) c.loss s.names.good (subst (λ (o : Option ℕ). IsAtMost (loss_of h.best) o) (sym right.loss_is) no_worse)
+      (subst (IsFloor b) (s.lawful.floor_is ∙ sym s.joined.floor_is) s.lawful.least_is) right_parts
 
   -- the boxes that were handled are those of the certificate and those of the search
   all_handled : handled j ≡ handled c + length h.log.items
@@ -155,7 +159,7 @@ module _ (b : Problem) (budget to_beat : ℕ) (plan : Option Forest) (c named : 
         good_counts b (root_ranges b) (loss_of h.best) j joined_good,
       )
 
-  pub resumed : HasLoss b (loss_of h.best) best → IsSaidByItsText b best → IsShortToo b best → ResumesEachBox b budget plan c j best
+  pub resumed : HasLoss b (loss_of h.best) best → IsSaidByItsText b best → IsShortToo b best → ResumesEachBox b budget fronts plan c j best
   resumed has said short =
       let loss = s.joined.loss_is in
       let good = subst (λ (o : Option ℕ). IsGood b (root_ranges b) o j) (sym loss) joined_good in
@@ -164,7 +168,9 @@ module _ (b : Problem) (budget to_beat : ℕ) (plan : Option Forest) (c named : 
           named = named;
           names = s.names;
           parts = parts;
-          joined = subst (λ (o : Option ℕ). IsJoined named parts o j) (sym loss) s.joined;
+          joined = subst (λ (o : Option ℕ). IsJoined named parts j.floor o j) (sym loss) (subst (λ (n : ℕ). IsJoined named parts n (loss_of h.best) j) (sym s.joined.floor_is) s.joined);
+          floor_kept = subst (λ (n : ℕ). named.floor ≤ n) (sym s.joined.floor_is) kept;
+          unasked = λ none. s.joined.floor_is ∙ unasked none;
           good = good;
           version = joined_version named j s.named_version s.joined;
           plan_is = subst (λ (o : Option ℕ). HasLoss b o best) (sym loss) has;

@@ -1,5 +1,5 @@
 -- What `resume` answers to an instance and the texts of a plan and of a certificate.
-use Rattle.std.specs.Prelude.{◌≡◌, ◌≤◌, ◌<◌, ◌+◌, ◌*◌, ◌⊎◌, ℕ, List, length, nat_le, if◌then◌else◌, option_map, IfSome, Option, Some, None}
+use Rattle.std.specs.Prelude.{◌≡◌, ◌≤◌, ◌<◌, ◌+◌, ◌*◌, ◌⊎◌, ℕ, List, length, nat_le, Bool, false, if◌then◌else◌, option_map, IfSome, Option, Some, None}
 use Rattle.glass_base.specs.Problem.{Problem}
 use Rattle.glass_base.specs.declared.role.Role.TheVariants as role
 use Rattle.cut_model.specs.Lawful.{IsLawful}
@@ -22,13 +22,15 @@ use Rattle.run_checks.specs.Said.{SayBoth}
 use Rattle.run_frame.specs.Texts.{limit_of}
 
 -- what a search of this budget made of a certificate, which was right for the loss of this plan, if there is one: a joined certificate and the
--- best plan
-pub record IsResumed (b : Problem) (budget : ℕ) (plan : Option Forest) (c j : Certificate) (best : Option Forest) : Type 0 where
+-- best plan; its floor is greater only where it was asked what fronts show
+pub record IsResumed (b : Problem) (budget : ℕ) (fronts : Bool) (plan : Option Forest) (c j : Certificate) (best : Option Forest) : Type 0 where
   -- its tree is that of the certificate that names the causes, with the tree of a part in the place of each open node
   pub named : Certificate
   pub names : IsConverted b c named
   pub parts : List Certificate
-  pub joined : IsJoined named parts j.loss j
+  pub joined : IsJoined named parts j.floor j.loss j
+  pub floor_kept : named.floor ≤ j.floor
+  pub unasked : fronts ≡ false → j.floor ≡ named.floor
   -- it is right for the box of all plans and for the loss of the best plan, which is no greater than that of the plan
   pub good : IsGood b (root_ranges b) j.loss j
   pub version : HasVersion j
@@ -45,8 +47,8 @@ pub record IsResumed (b : Problem) (budget : ℕ) (plan : Option Forest) (c j : 
   pub spent : 0 < j.left → handled j ≡ handled c + budget
 
 -- and each box that the certificate leaves open, and each of its parts, was handled once or is left open
-pub record ResumesEachBox (b : Problem) (budget : ℕ) (plan : Option Forest) (c j : Certificate) (best : Option Forest) : Type 0 where
-  pub made : IsResumed b budget plan c j best
+pub record ResumesEachBox (b : Problem) (budget : ℕ) (fronts : Bool) (plan : Option Forest) (c j : Certificate) (best : Option Forest) : Type 0 where
+  pub made : IsResumed b budget fronts plan c j best
   pub open made use *
   -- in the trees put in no box was split that is refuted, or whose bound reaches this loss; it is no greater than that of the plan
   pub to_beat : ℕ
@@ -63,20 +65,20 @@ abbrev pub too_long_to_read : Certificate → Answer
 too_long_to_read c = bad_input role.Cert 17 (length (cert_text c)) (limit_of role.Cert)
 
 -- what came of it is stored under these names and told, if it can be read again
-pub record GoesOn (b : Problem) (budget : ℕ) (plan : Option Forest) (c : Certificate) (out new : List ℕ) (answer : Answer) : Type 0 where
+pub record GoesOn (b : Problem) (budget : ℕ) (fronts : Bool) (plan : Option Forest) (c : Certificate) (out new : List ℕ) (answer : Answer) : Type 0 where
   pub certificate : Certificate
   pub best : Option Forest
-  pub resumed : ResumesEachBox b budget plan c certificate best
+  pub resumed : ResumesEachBox b budget fronts plan c certificate best
   pub answer_is : answer ≡ (if nat_le (length (cert_text certificate)) (limit_of role.Cert) then planned b out new certificate best None else too_long_to_read certificate)
 
 -- the answer to a certificate that is accepted, or a refusal where its open boxes and the budget would be too much work
-abbrev pub GoesOnWithin : Problem → ℕ → Option Forest → Certificate → List ℕ → List ℕ → Answer → Type 0
-GoesOnWithin b budget plan c out new answer =
-    ((length b.items * (budget + c.left) ≤ most_work) × GoesOn b budget plan c out new answer)
+abbrev pub GoesOnWithin : Problem → ℕ → Bool → Option Forest → Certificate → List ℕ → List ℕ → Answer → Type 0
+GoesOnWithin b budget fronts plan c out new answer =
+    ((length b.items * (budget + c.left) ≤ most_work) × GoesOn b budget fronts plan c out new answer)
     ⊎ ((most_work < length b.items * (budget + c.left)) × (answer ≡ bad_input role.Cert 15 (length b.items) (budget + c.left)))
 
 -- the answer of `resume`
-abbrev pub Resumes : Problem → Option (List ℕ) → List ℕ → ℕ → List ℕ → List ℕ → Answer → Type 0
-Resumes b plan_text cert_text budget out new answer =
-    ((plan : Option Forest) × (c : Certificate) × IsAccepted b plan_text cert_text plan c × GoesOnWithin b budget plan c out new answer)
+abbrev pub Resumes : Problem → Option (List ℕ) → List ℕ → ℕ → Bool → List ℕ → List ℕ → Answer → Type 0
+Resumes b plan_text cert_text budget fronts out new answer =
+    ((plan : Option Forest) × (c : Certificate) × IsAccepted b plan_text cert_text plan c × GoesOnWithin b budget fronts plan c out new answer)
     ⊎ NotAccepted b plan_text cert_text answer

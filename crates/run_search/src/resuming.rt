@@ -1,6 +1,6 @@
 //! What `resume` answers to an instance and the texts of a plan and of a certificate.
 
-ghost use Rattle.std.specs.Prelude.{◌≡◌, ◌≤◌, ℕ, List, [], All, IfOk, IfSome, IsSome, None, if◌then◌else◌, is_some, nat_le, option_map, length};
+ghost use Rattle.std.specs.Prelude.{◌≡◌, ◌≤◌, ℕ, List, [], All, IfOk, IfSome, IsSome, None, false, if◌then◌else◌, is_some, nat_le, option_map, length};
 ghost use Rattle.glass_base.specs.declared.role.Role.TheVariants as role;
 ghost use Rattle.cut_model.specs.Tree.{tree};
 ghost use Rattle.plan_box.specs.Frames.{frame_of};
@@ -25,7 +25,7 @@ use cert_check::reasoned;
 use cert_log::{History, assemble, best_loss, write_cert};
 use cert_resume::{join, left_boxes};
 use command_line::Product;
-use cut_model::{Plan, Trace};
+use cut_model::Plan;
 use defect_map::{DefectMap, Ground};
 use first_plan::Start;
 use front_bound::losses::FrontSearch;
@@ -38,26 +38,27 @@ use std::alloc::Global;
 use std::sync::Wait;
 use std::thread::Threads;
 
-/// With what a search begins that goes on from a lawful plan, or from none: with that plan, and where the opening has an
-/// effort, with the better of it and of what that finds.
-fn first_behind<R: Threads + Wait + Sync, G: Gate + Sync>(
+/// With what a search begins that goes on from a lawful plan, or from none: with that plan, and where work is done for a
+/// better one or fronts are asked, with the best of it and of what is found, and the floor that fronts show.
+fn begun_behind<R: Threads + Wait + Sync, G: Gate + Sync>(
     alloc: Global,
     workforce: &Workforce<'_, R, G>,
     ground: Ground<'_>,
     plan: &Option<Plan>,
     opening: Opening,
-) -> Result<Option<Trace>, Memory>
+) -> Result<Start, Memory>
     requires fits { FitsToo plan.now }
     requires lawful { IsLawfulToo ground.instance.now (option_map tree plan.now) }
-    ensures first { IfOk result (IsFirst ground.entry.instance.now) }
+    ensures first { IfOk result (λ start. IsFirst ground.entry.instance.now start.first) }
+    ensures floor { IfOk result (λ start. IsFloor ground.entry.instance.now start.floor) }
+    ensures unasked { IfOk result (λ start. opening.fronts ≡ false → start.floor ≡ 0) }
     ensures no_worse { let b = ground.entry.instance.now in
-        IfOk result (λ first. IsAtMost (Some (first_loss_of b first))
+        IfOk result (λ start. IsAtMost (Some (first_loss_of b start.first))
         (loss_in b (option_map tree plan.now))) }
-    ensures known { IfOk result (λ first. IfSome plan.now (λ _. IsSome first)) }
+    ensures known { IfOk result (λ start. IfSome plan.now (λ _. IsSome start.first)) }
 {
     let known = first_trace(alloc, ground.instance, plan)?;
-    let Start { first, floor: _ } = start_behind(alloc, workforce, ground, known, opening)?;
-    Ok(first)
+    start_behind(alloc, workforce, ground, known, opening)
 }
 
 /// The history of a search in which nothing was open.
@@ -117,8 +118,8 @@ fn go_on<R: Threads + Wait + Sync, G: Gate + Sync>(
     requires version { HasVersion checked.now.certificate }
     requires few { checked.now.certificate.left ≤ MOST_CERT_BYTES }
     ensures resumed { IfOk result (λ found. ResumesEachBox ground.entry.instance.now
-        workforce.now.budget (option_map tree checked.now.plan) checked.now.certificate
-        found.certificate (option_map tree found.plan)) }
+        workforce.now.budget opening.fronts (option_map tree checked.now.plan)
+        checked.now.certificate found.certificate (option_map tree found.plan)) }
     ensures version { IfOk result (λ found. HasVersion found.certificate) }
     ensures fits { IfOk result (λ found. FitsToo found.plan) }
     ensures unwatched { IfOk result (λ found. found.improvements ≡ None) }
@@ -127,16 +128,17 @@ fn go_on<R: Threads + Wait + Sync, G: Gate + Sync>(
     let _items = ground.instance.items();
     let named = reasoned(alloc, ground.instance, ground.map, &checked.certificate)?;
     let boxes = left_boxes(alloc, ground.instance, &named)?;
-    let first = first_behind(alloc, workforce, ground, &checked.plan, opening)?;
-    let _loss = first_loss(ground.instance, &first);
+    let begun = begun_behind(alloc, workforce, ground, &checked.plan, opening)?;
+    let _loss = first_loss(ground.instance, &begun.first);
+    let floor = named.floor.max(begun.floor);
     let start = Start {
-        first,
-        floor: named.floor,
+        first: begun.first,
+        floor,
     };
     let history = history_of_open(alloc, workforce, ground, boxes, start)?;
     let parts = assemble(alloc, ground.instance, &history)?;
     let _left = history.left.len();
-    let certificate = join(alloc, &named, parts, best_loss(&history))?;
+    let certificate = join(alloc, &named, parts, floor, best_loss(&history))?;
     let plan = best_plan(alloc, ground.instance, &history)?;
     Ok(Found {
         certificate,
@@ -181,7 +183,7 @@ fn resume_within<R: Threads + Wait + Sync, G: Gate + Sync>(
         (loss_in ground.instance.now (option_map tree checked.now.plan)) checked.now.certificate }
     requires version { HasVersion checked.now.certificate }
     ensures { IfOk result (λ r. (name : Product → List ℕ)
-        → GoesOnWithin ground.entry.instance.now workforce.now.budget
+        → GoesOnWithin ground.entry.instance.now workforce.now.budget opening.fronts
         (option_map tree checked.now.plan) checked.now.certificate (name Product.Plan)
         (name Product.Certificate) (answer_in name r)) }
 {
@@ -199,8 +201,9 @@ fn resume_within<R: Threads + Wait + Sync, G: Gate + Sync>(
 
 /// The reply to the texts of a plan, or none, and of a certificate: what a search finds that goes on in the boxes that
 /// the certificate leaves open, or a refusal as by `verify`, or of what would be too much work. Its floor is shown by
-/// searches over fronts with the opening's labels. The search begins with the plan, and where the opening has an effort,
-/// with the better of it and of what that finds.
+/// searches over fronts with the opening's labels. The search begins with the plan, and where the opening has an effort
+/// or asks fronts, with the best of it and of what these find; the floor that fronts show is that of what is stored,
+/// where it is greater.
 pub fn resume_texts<R: Threads + Wait + Sync, G: Gate + Sync>(
     alloc: Global,
     workforce: &Workforce<'_, R, G>,
@@ -211,8 +214,8 @@ pub fn resume_texts<R: Threads + Wait + Sync, G: Gate + Sync>(
 ) -> Result<Reply, Memory>
     ensures { IfOk result (λ r. (name : Product → List ℕ)
         → Resumes instance.now (option_map
-        (λ bytes. bytes.now) plan_text.entry) cert_text.now workforce.now.budget (name Product.Plan)
-        (name Product.Certificate) (answer_in name r)) }
+        (λ bytes. bytes.now) plan_text.entry) cert_text.now workforce.now.budget
+        opening.fronts (name Product.Plan) (name Product.Certificate) (answer_in name r)) }
 {
     let map = DefectMap::new(alloc, instance)?;
     let ground = Ground {

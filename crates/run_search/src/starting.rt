@@ -30,9 +30,16 @@ pub struct Opening {
     pub fronts: bool,
     /// How many labels are looked at in one search over fronts at the most.
     pub labels: u64,
-    /// How much work is done for a better first plan, in millions of ticks of about 30 ns; none where it is 0.
+    /// How much work is done for a better first plan, in millions of ticks of about 30 ns; where it is 0, none but what `seconds` asks for.
     pub effort: u32,
+    /// For how many seconds, from when the gate was made, a better first plan is looked for at the most; where it is 0 that is not limited by the clock.
+    pub seconds: u32,
 }
+
+/// How much work a second stands for where there is no clock, in millions of ticks.
+const EFFORT_OF_SECOND: u32 = 30;
+
+const MILLISECONDS: u64 = 1_000;
 
 /// Tells a gate how far a search over fronts is.
 #[derive(Clone, Copy)]
@@ -46,11 +53,12 @@ impl<'a, G: Gate> Watch for FrontWatch<'a, G> {
     }
 }
 
-/// Tells a gate how far the work for a better first plan is.
+/// Tells a gate how far the work for a better first plan is, and asks it for the time.
 #[derive(Clone, Copy)]
 struct Telling<'a, G> {
     gate: &'a G,
     effort: u32,
+    seconds: u32,
 }
 
 impl<'a, G: Gate> Progress for Telling<'a, G> {
@@ -60,6 +68,33 @@ impl<'a, G: Gate> Progress for Telling<'a, G> {
 
     fn knows(&self, loss: u64) {
         self.gate.sees(loss);
+    }
+
+    fn left(&self) -> Option<u64> {
+        if self.seconds == 0 {
+            return None;
+        }
+        let all = u64::from(self.seconds).saturating_mul(MILLISECONDS);
+        Some(all.saturating_sub(self.gate.elapsed()?))
+    }
+}
+
+impl Opening {
+    /// Whether nothing is done before a search that goes on from a plan.
+    fn is_idle(&self) -> bool {
+        !self.fronts && self.effort == 0 && self.seconds == 0
+    }
+
+    /// How much work is done for a better first plan, in millions of ticks: with a clock the seconds limit it alone, where
+    /// no effort does so too.
+    fn millions<G: Gate>(&self, gate: &G) -> u32 {
+        if self.effort > 0 || self.seconds == 0 {
+            self.effort
+        } else if gate.elapsed().is_some() {
+            u32::MAX
+        } else {
+            self.seconds.saturating_mul(EFFORT_OF_SECOND)
+        }
     }
 }
 
@@ -137,12 +172,13 @@ pub(crate) fn start_of<R: Threads + Sync, G: Gate>(
         start.first) }
 {
     let effort = Effort {
-        millions: opening.effort,
+        millions: opening.millions(workforce.gate),
         threads: workforce.workers,
     };
     let telling = Telling {
         gate: workforce.gate,
-        effort: opening.effort,
+        effort: effort.millions,
+        seconds: opening.seconds,
     };
     let Start { first, floor } = begun(alloc, ground, known, opening, workforce.gate)?;
     let team = Team {
@@ -151,7 +187,7 @@ pub(crate) fn start_of<R: Threads + Sync, G: Gate>(
         progress: &telling,
     };
     match first {
-        Some(first) if opening.effort > 0 => {
+        Some(first) if effort.millions > 0 => {
             let better = improve(alloc, &team, ground, first, floor)?;
             Ok(Start {
                 first: Some(better),
@@ -178,11 +214,11 @@ pub(crate) fn start_behind<R: Threads + Sync, G: Gate>(
     ensures no_worse { IfOk result (λ start. IsNoWorse ground.entry.instance.now known
         start.first) }
 {
-    if opening.fronts || opening.effort > 0 {
-        return start_of(alloc, workforce, ground, known, opening);
+    if opening.is_idle() {
+        return Ok(Start {
+            first: known,
+            floor: 0,
+        });
     }
-    Ok(Start {
-        first: known,
-        floor: 0,
-    })
+    start_of(alloc, workforce, ground, known, opening)
 }

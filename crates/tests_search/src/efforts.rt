@@ -1,4 +1,5 @@
-//! More work for a better first plan: by one thread and by four the same plan, and never a worse one for more.
+//! More work for a better first plan: by one thread and by four the same plan, never a worse one for more, and an end
+//! where the time is over.
 
 use cut_model::{Step, Trace};
 use defect_map::{DefectMap, Ground};
@@ -16,6 +17,8 @@ struct Notes {
     loss: AtomicU64,
     beams: AtomicU64,
     millions: AtomicU64,
+    /// How many milliseconds are left, whenever it is asked.
+    time: Option<u64>,
 }
 
 impl Progress for Notes {
@@ -27,6 +30,10 @@ impl Progress for Notes {
         self.loss.fetch_min(loss, Ordering::SeqCst);
         self.beams.fetch_add(1, Ordering::SeqCst);
     }
+
+    fn left(&self) -> Option<u64> {
+        self.time
+    }
 }
 
 /// What an effort came to.
@@ -36,6 +43,8 @@ struct Outcome {
     loss: u64,
     /// How many plans were known one after the other: the first one, and one behind each wide beam.
     plans: u64,
+    /// How many millions of ticks were spent, as far as that was told.
+    millions: u64,
 }
 
 fn steps_of(alloc: Global, trace: &Trace) -> Result<Vec<Step>, Fail> {
@@ -44,13 +53,13 @@ fn steps_of(alloc: Global, trace: &Trace) -> Result<Vec<Step>, Fail> {
     Ok(steps)
 }
 
-/// What so much work comes to by so many threads.
-fn work_out<R: Threads + Sync>(
+/// What so much work comes to by so many threads, with so much time.
+fn work_out_in<R: Threads + Sync>(
     rt: &R,
     alloc: Global,
     instance: &Instance,
-    millions: u32,
-    threads: u32,
+    effort: Effort,
+    time: Option<u64>,
 ) -> Result<Outcome, Fail> {
     let map = DefectMap::new(alloc, instance)?;
     let Some(first) = first_plan(alloc, instance, &map)? else {
@@ -58,16 +67,18 @@ fn work_out<R: Threads + Sync>(
             steps: Vec::new(alloc),
             loss: u64::MAX,
             plans: 0,
+            millions: 0,
         });
     };
     let notes = Notes {
         loss: AtomicU64::new(u64::MAX),
         beams: AtomicU64::new(0),
         millions: AtomicU64::new(0),
+        time,
     };
     let team = Team {
         rt,
-        effort: Effort { millions, threads },
+        effort,
         progress: &notes,
     };
     let best = improve(
@@ -84,7 +95,19 @@ fn work_out<R: Threads + Sync>(
         steps: steps_of(alloc, &best)?,
         loss: notes.loss.load(Ordering::SeqCst),
         plans: notes.beams.load(Ordering::SeqCst),
+        millions: notes.millions.load(Ordering::SeqCst),
     })
+}
+
+/// The same where it is not timed.
+fn work_out<R: Threads + Sync>(
+    rt: &R,
+    alloc: Global,
+    instance: &Instance,
+    millions: u32,
+    threads: u32,
+) -> Result<Outcome, Fail> {
+    work_out_in(rt, alloc, instance, Effort { millions, threads }, None)
 }
 
 /// Fourteen items and ten defects.
@@ -116,5 +139,33 @@ fn more_work_never_finds_less(rt: HostRuntime) -> Result<(), Fail> {
         before = after;
     }
     assert!(&rt; before.plans > 2);
+    Ok(())
+}
+
+/// An effort with which one wide beam is run of some items, of 270 million ticks where it is not timed.
+const ONE_BEAM: Effort = Effort {
+    millions: 301,
+    threads: 2,
+};
+
+#[test]
+fn no_beam_is_begun_without_time(rt: HostRuntime) -> Result<(), Fail> {
+    let instance = some(rt.alloc())?;
+    let first = work_out(&rt, rt.alloc(), &instance, 0, 2)?;
+    let after = work_out_in(&rt, rt.alloc(), &instance, ONE_BEAM, Some(0))?;
+    assert_eq!(&rt; after.plans, 1);
+    assert_eq!(&rt; after.loss, first.loss);
+    Ok(())
+}
+
+#[test]
+fn a_beam_with_little_time_is_narrow(rt: HostRuntime) -> Result<(), Fail> {
+    let instance = some(rt.alloc())?;
+    let whole = work_out_in(&rt, rt.alloc(), &instance, ONE_BEAM, None)?;
+    let short = work_out_in(&rt, rt.alloc(), &instance, ONE_BEAM, Some(20))?;
+    assert_eq!(&rt; whole.plans, 2);
+    assert_eq!(&rt; short.plans, 2);
+    assert!(&rt; short.millions < 60);
+    assert!(&rt; whole.millions > 120);
     Ok(())
 }

@@ -1,13 +1,20 @@
+//! What an effort finds: `effort BATCH DEFECTS MILLIONS [wholes]` or `effort gen START ITEMS DEFECTS MILLIONS [wholes]`, the latter without tails. Prints the loss and the ticks behind the
+//! first plan and each beam; where the environment has OUT, the plan is stored there.
 use plainbeams::base::Instance;
-use plainbeams::effort::plan;
-use plainbeams::trace::trace_loss;
+use plainbeams::tails::State;
+use std::env;
+use std::fs::{read_to_string, write};
+
 fn main() {
-    let w: Vec<String> = std::env::args().skip(1).collect();
-    let (inst, rest) = if w[0] == "gen" { (Instance::drawn(w[1].parse().unwrap(), w[2].parse().unwrap(), w[3].parse().unwrap()), &w[4..]) } else { (Instance::read(&std::fs::read_to_string(&w[0]).unwrap(), &std::fs::read_to_string(&w[1]).unwrap()), &w[2..]) };
-    let effort: u64 = rest[0].parse().unwrap();
-    let clock = std::time::Instant::now();
-    let mut watch = |beam: usize, loss: u64, ticks: u64| println!("beam {beam} loss {loss} Mticks {} wall {:.1}", ticks / 1_000_000, clock.elapsed().as_secs_f64());
-    let t = plan(&inst, effort * 1_000_000, 1, &mut watch).unwrap();
-    println!("loss {}", trace_loss(&inst, &t));
-    if let Ok(f) = std::env::var("OUT") { std::fs::write(f, plainbeams::plan::text(&inst, &t)).unwrap(); }
+    let words: Vec<String> = env::args().skip(1).collect();
+    let number = |n: usize| words[n].parse().unwrap();
+    let (instance, rest) = if words[0] == "gen" {
+        (Instance::drawn(number(1), number(2), number(3)), &words[4..])
+    } else {
+        (Instance::read(&read_to_string(&words[0]).unwrap(), &read_to_string(&words[1]).unwrap()), &words[2..])
+    };
+    let mut state = State::new(&instance, rest[0].parse::<u64>().unwrap() * 1_000_000, true);
+    if rest.get(1).is_some_and(|word| word == "wholes") { state.wholes() } else { state.rounds() }
+    println!("loss {}", state.loss);
+    if let Ok(file) = env::var("OUT") { write(file, plainbeams::plan::text(&instance, &state.best)).unwrap(); }
 }
