@@ -142,7 +142,7 @@ fn more_work_never_finds_less(rt: HostRuntime) -> Result<(), Fail> {
     Ok(())
 }
 
-/// An effort with which one wide beam is run of some items, of 270 million ticks where it is not timed.
+/// An effort with which one wide beam is run, of 270 million ticks at the most where it is not timed.
 const ONE_BEAM: Effort = Effort {
     millions: 301,
     threads: 2,
@@ -160,7 +160,7 @@ fn no_beam_is_begun_without_time(rt: HostRuntime) -> Result<(), Fail> {
 
 #[test]
 fn a_beam_with_little_time_is_narrow(rt: HostRuntime) -> Result<(), Fail> {
-    let instance = some(rt.alloc())?;
+    let instance = generate(rt.alloc(), 7, 50, 20)?;
     let whole = work_out_in(&rt, rt.alloc(), &instance, ONE_BEAM, None)?;
     let short = work_out_in(&rt, rt.alloc(), &instance, ONE_BEAM, Some(20))?;
     assert_eq!(&rt; whole.plans, 2);
