@@ -60,15 +60,14 @@ impl<'a> State<'a> {
         self.tell(&format!("whole {number} {}", ticks / 1_000_000));
     }
     /// One beam on the tail behind the first `k` plates that is to lose less than the tail of the best plan.
-    pub fn tail(&mut self, k: u32, number: usize, ticks: u64, wide: u64) -> bool {
-        if k == 0 || k >= plates(&self.best) || ticks == 0 { return false; }
+    pub fn tail(&mut self, k: u32, number: usize, ticks: u64) {
+        if k == 0 || k >= plates(&self.best) || ticks == 0 { return; }
         let (r, kept, cut) = rest(self.inst, &self.best, k);
         let frozen = self.inst.before(k) * self.inst.params.height as u64;
         let total = self.loss + self.inst.area;
         let lost = total - frozen - r.area;
         let sheet = Sheet::new(&r);
-        let mut g: Guide = crate::effort::guide(&r, number, lost, ticks);
-        if wide > 0 { g.width = wide; }
+        let g: Guide = crate::effort::guide(&r, number, lost, ticks);
         let (found, took) = run(&r, &sheet, g, lost, 1);
         self.spent += took;
         let mut better = false;
@@ -79,32 +78,31 @@ impl<'a> State<'a> {
             self.best = whole; self.loss = l; better = true;
         }
         self.tell(&format!("  tail {k} of {} ({} items) {number} {}{}", plates(&self.best), r.items.len(), ticks / 1_000_000, if better { " *" } else { "" }));
-        better
     }
 
-    /// Rounds of a beam over the whole and, from six plates on, of tails behind 3/4, 7/8 and 1/2 of the plates in turn, of half its ticks together. The first round then has tails in its
-    /// place, which have the ticks of both; three of them that find nothing end a round.
+    /// Rounds of a beam over the whole and, from six plates on, of tails behind 1/4, 1/2, 3/4, 7/8 and 15/16 of the plates, one after the other, each of no more ticks than the beam over the
+    /// whole, and no more together. The first round then has tails in its place, which have twice its ticks.
     pub fn rounds(&mut self) {
         let first = strong::effort(self.inst.items.len() as u64);
         for round in 0..1000usize {
             let many = plates(&self.best) >= 6;
             let mut ticks = crate::effort::size(first, round);
             if many { ticks = ticks.min(200_000_000 << round.clamp(1, 20)); }
-            let mut until = self.spent + ticks + ticks / 2;
+            let mut until = self.spent + 2 * ticks;
             if round > 0 || !many {
                 if self.spent + ticks > self.limit { return; }
                 self.whole(round, ticks);
-                until = self.spent + ticks / 2;
+                until = self.spent + ticks;
             }
-            let mut missed = 0;
-            for number in 0..6 {
-                if !many || missed == 3 { break; }
-                let k = plates(&self.best) * [6, 7, 4][number % 3] / 8;
+            if !many { continue; }
+            for (number, sixteenths) in [4, 8, 12, 14, 15].into_iter().enumerate() {
+                let k = plates(&self.best) * sixteenths / 16;
                 let left = strong::effort(rest(self.inst, &self.best, k).0.items.len() as u64);
-                let ticks = (left << round.min(20)).min((3 * left) << (round / 6).min(6));
-                if self.spent + ticks > until { break; }
-                if self.spent + ticks > self.limit { return; }
-                missed = if self.tail(k, number, ticks, 0) { 0 } else { missed + 1 };
+                let size = (left << round.min(20)).min((3 * left) << (round / 6).min(6));
+                if size > ticks { continue; }
+                if self.spent + size > until { break; }
+                if self.spent + size > self.limit { return; }
+                self.tail(k, number, size);
             }
         }
     }

@@ -22,16 +22,14 @@ use std::thread::Threads;
 /// At most so many rounds.
 const MOST_ROUNDS: u32 = 1000;
 
-/// From so many plates on beams go over the last ones alone, at most so many in a round, each by a guide of its own, and
-/// no more once so many of them have found nothing.
+/// From so many plates on beams go over the last ones alone too.
 const MANY_PLATES: u32 = 6;
 
-const MOST_TAILS: u32 = 6;
+/// Behind how many sixteenths of the plates those of a round begin, one after the other, each by a guide of its own.
+const SIXTEENTHS: [u32; 5] = [4, 8, 12, 14, 15];
 
-const MOST_MISSED: u32 = 3;
-
-/// Behind how many eighths of the plates they begin, in turn.
-const EIGHTHS: [u32; 3] = [6, 7, 4];
+/// How many these are.
+const TAILS: u32 = 5;
 
 /// How much work is done: so many millions of ticks of about 30 ns, those of the first plan among them, by at most so many threads.
 #[derive(Clone, Copy)]
@@ -56,12 +54,11 @@ struct Part {
     ticks: u64,
 }
 
-/// The best plan so far, the ticks that were spent on it, whether the last beam found it, and whether no more work is done.
+/// The best plan so far, the ticks that were spent on it, and whether no more work is done.
 #[derive(Drop)]
 struct Work {
     best: Trace,
     spent: u64,
-    is_better: bool,
     is_over: bool,
 }
 
@@ -129,12 +126,9 @@ fn worked_on<R: Threads + Sync, P: Progress>(
     let widely = beams.wide(alloc, &crew, ground.instance, beam, &watch)?;
     let whole = joined(alloc, kept, widely.found)?;
     let found = trace_in(checked(ground, whole));
-    let best = shorter_of(ground.instance, best, found);
-    let is_better = length_of_plan(ground.instance, &best) < length;
     Ok(Work {
-        best,
+        best: shorter_of(ground.instance, best, found),
         spent: spent.saturating_add(widely.ticks),
-        is_better,
         is_over: false,
     })
 }
@@ -164,7 +158,6 @@ fn work_on<R: Threads + Sync, P: Progress>(
         return Ok(Work {
             best,
             spent,
-            is_better: false,
             is_over: true,
         });
     }
@@ -173,8 +166,8 @@ fn work_on<R: Threads + Sync, P: Progress>(
 
 /// The beam over the last plates that has this number in a round.
 fn tail_of(instance: &Instance, best: &Trace, round: u32, number: u32) -> Part {
-    let eighths = EIGHTHS[(number % 3) as usize];
-    let plates = plates_of(best).saturating_mul(eighths) / 8;
+    let sixteenths = SIXTEENTHS[(number % TAILS) as usize];
+    let plates = plates_of(best).saturating_mul(sixteenths) / 16;
     let kept = steps_on(best, plates).len();
     let left = instance.items().len().saturating_sub(kept);
     Part {
@@ -184,8 +177,42 @@ fn tail_of(instance: &Instance, best: &Trace, round: u32, number: u32) -> Part {
     }
 }
 
-/// The work after a round: a wide beam over all plates, and where there are many, some over the last ones, which take half as many ticks together at the most. The first round then
-/// has these alone, with the ticks of both.
+/// The work after the beams over the last plates of a round, each of which keeps more plates than the one before. They take no more ticks together than the round's beam over all plates
+/// has, and in the first round, which has no such beam, no more than twice as many; one that would take more by itself is passed over.
+fn work_tails<R: Threads + Sync, P: Progress>(
+    alloc: Global,
+    team: &Team<R, P>,
+    ground: Ground<'_>,
+    floor: u64,
+    before: Work,
+    round: u32,
+    ticks: u64,
+) -> Result<Work, Memory>
+    requires plan { IsFirstPlan ground.instance.now before.best.steps.items }
+    ensures { IfOk result (λ done. IsImproved ground.entry.instance.now before.best.steps.items
+        done.best.steps.items) }
+{
+    let most = if round == 0 {
+        ticks.saturating_mul(2)
+    } else {
+        ticks
+    };
+    let until = before.spent.saturating_add(most);
+    let mut work = before;
+    for number in 0..TAILS {
+        let tail = tail_of(ground.instance, &work.best, round, number);
+        if tail.ticks > ticks {
+            continue;
+        }
+        if work.is_over || work.spent.saturating_add(tail.ticks) > until {
+            break;
+        }
+        work = work_on(alloc, team, ground, floor, work, tail)?;
+    }
+    Ok(work)
+}
+
+/// The work after a round: a wide beam over all plates, and where there are many, some over the last ones. The first round then has these alone.
 fn work_round<R: Threads + Sync, P: Progress>(
     alloc: Global,
     team: &Team<R, P>,
@@ -201,7 +228,6 @@ fn work_round<R: Threads + Sync, P: Progress>(
     let first = first_effort(ground.instance.items().len());
     let has_tails = plates_of(&before.best) >= MANY_PLATES;
     let ticks = round_ticks(first, round, has_tails);
-    let mut until = before.spent.saturating_add(ticks).saturating_add(ticks / 2);
     let mut work = before;
     if round > 0 || !has_tails {
         let whole = Part {
@@ -210,21 +236,9 @@ fn work_round<R: Threads + Sync, P: Progress>(
             ticks,
         };
         work = work_on(alloc, team, ground, floor, work, whole)?;
-        until = work.spent.saturating_add(ticks / 2);
     }
-    let mut missed = if has_tails { 0 } else { MOST_MISSED };
-    for number in 0..MOST_TAILS {
-        let tail = tail_of(ground.instance, &work.best, round, number);
-        let is_done = work.is_over || missed >= MOST_MISSED;
-        if is_done || work.spent.saturating_add(tail.ticks) > until {
-            break;
-        }
-        work = work_on(alloc, team, ground, floor, work, tail)?;
-        missed = if work.is_better {
-            0
-        } else {
-            missed.saturating_add(1)
-        };
+    if has_tails {
+        work = work_tails(alloc, team, ground, floor, work, round, ticks)?;
     }
     Ok(work)
 }
@@ -249,7 +263,6 @@ pub fn improve<R: Threads + Sync, P: Progress>(
     let mut work = Work {
         best: first,
         spent: first_effort(ground.instance.items().len()),
-        is_better: false,
         is_over: false,
     };
     for round in 0..MOST_ROUNDS {

@@ -8,11 +8,12 @@ use crate::sheet::{Plate, Sheet};
 use crate::stretching::{Spot, Stretching};
 use crate::ticks::Ticks;
 
-/// Whether a cell's item or one of its cuts runs through the defect.
+/// Whether a cell's item or one of its cuts runs through the defect. All of them lie in its strip.
 fn is_hit(sheet: &Sheet, wide: Length, defect: &Rectangle, node: &Node, spot: &Spot) -> bool {
-    is_strip_hit(wide, defect, node, spot)
-        || is_band_hit(sheet, defect, node, spot)
-        || is_cell_hit(defect, node, spot)
+    defect.is_along_x(spot.a, spot.b)
+        && (is_strip_hit(wide, defect, node, spot)
+            || is_band_hit(sheet, defect, node, spot)
+            || is_cell_hit(defect, node, spot))
 }
 
 /// Whether the strip's sides, where the cell begins it, run through the defect.
@@ -22,10 +23,9 @@ fn is_strip_hit(wide: Length, defect: &Rectangle, node: &Node, spot: &Spot) -> b
             || (spot.b < wide && defect.is_crossed_x(spot.b)))
 }
 
-/// Whether the band's sides, where the cell begins it, run through the defect.
+/// Whether the band's sides, where the cell begins it, run through the defect, which reaches into the strip.
 fn is_band_hit(sheet: &Sheet, defect: &Rectangle, node: &Node, spot: &Spot) -> bool {
     node.begins.is_band()
-        && defect.is_along_x(spot.a, spot.b)
         && ((Length::ZERO < spot.c && defect.is_crossed_y(spot.c))
             || (spot.d < sheet.high && defect.is_crossed_y(spot.d)))
 }
@@ -67,19 +67,21 @@ pub fn is_clear(sheet: &Sheet, scene: &Scene, new: Node, ticks: &mut Ticks) -> b
     let cost = (plate.defects.len() as u64 / 4).saturating_add(1);
     let mut stretching = Stretching::new();
     let mut current = new;
-    let mut before = Some(scene.base.node);
+    let mut before = Some(&scene.base.node);
     let mut is_clear = true;
     for _ in 0..new.items {
         ticks.spend(cost);
-        let spot = stretching.spot_of(sheet, &current);
-        is_clear = is_clear && is_spot_clear(sheet, plate, &current, &spot);
+        if is_clear {
+            let spot = stretching.spot_of(sheet, &current);
+            is_clear = is_spot_clear(sheet, plate, &current, &spot);
+        }
         if current.begins.is_plate() {
             return is_clear;
         }
         let Some(parent) = before else {
             return is_clear;
         };
-        current = parent;
+        current = *parent;
         before = current.parent_in(scene.arena);
     }
     is_clear

@@ -105,12 +105,12 @@ fn demand_of(sheet: &Sheet, scene: &Scene, defect: &Rectangle, reach: Reach, new
         Demand::Nothing => {}
         demand => return demand,
     }
+    if !defect.is_along_y(scene.c, reach.d) {
+        return Demand::Nothing;
+    }
     match demand_of_band(sheet, scene, defect, reach.d) {
         Demand::Nothing => {}
         demand => return demand,
-    }
-    if defect.y1 <= scene.c || reach.d <= defect.y0 {
-        return Demand::Nothing;
     }
     match demand_of_cells(scene, defect, reach) {
         Demand::Nothing => demand_of_cell(scene, defect, reach, new),

@@ -5,7 +5,7 @@ use crate::form::{Base, Form, Forms};
 use crate::ledger::Ledger;
 use crate::measure::Length;
 use crate::node::{Begins, Candidate, Node};
-use crate::placing::{least_key, place};
+use crate::placing::{is_late, least_waste, place};
 use crate::scene::Scene;
 use crate::shapes::Reach;
 use crate::strip::{OpenStrip, ROOM, closed};
@@ -65,10 +65,18 @@ fn strip_from<'b>(
     }
 }
 
+/// How far strip and band may reach.
+fn furthest(task: &Task, scene: &Scene) -> Reach {
+    Reach {
+        b: scene.wide.min(scene.a + task.sheet.max1),
+        d: task.sheet.high,
+    }
+}
+
 /// Whether strip and band may reach so far.
 fn is_within(task: &Task, scene: &Scene, reach: Reach) -> bool {
-    let furthest = scene.wide.min(scene.a + task.sheet.max1);
-    reach.b <= furthest && reach.d <= task.sheet.high
+    let furthest = furthest(task, scene);
+    reach.b <= furthest.b && reach.d <= furthest.d
 }
 
 /// Whether a cell leaves strip and band as they are, so that it needs no looser place: a cell that begins a band
@@ -149,7 +157,7 @@ impl Attempts {
         if !is_within(task, scene, least) {
             return Ok(());
         }
-        if least_key(task, scene, form, e, least) >= form.limit {
+        if is_late(task, scene, form, e, least) {
             self.hope = false;
             return Ok(());
         }
@@ -163,16 +171,26 @@ impl Attempts {
         Ok(())
     }
 
-    /// Puts each of these forms.
+    /// Puts each of these forms. Once one was passed over for its waste, nothing hangs on others that would be too,
+    /// wherever they are put.
     fn put_each(
         &mut self,
         task: &Task,
         ledger: &mut Ledger,
         scene: &Scene,
-        forms: &mut [Form],
+        forms: &mut Forms,
     ) -> Result<(), Memory> {
-        for form in forms.iter_mut() {
-            self.put(task, ledger, scene, form)?;
+        let least = least_waste(task, scene);
+        if !self.hope && least >= forms.limit {
+            return Ok(());
+        }
+        let furthest = furthest(task, scene);
+        let e = scene.left();
+        for form in forms.list.iter_mut() {
+            let is_within = e + form.width <= furthest.b && scene.c + form.height <= furthest.d;
+            if is_within && (self.hope || least < form.limit) {
+                self.put(task, ledger, scene, form)?;
+            }
         }
         Ok(())
     }
@@ -285,8 +303,8 @@ impl Bench {
             cells: self.strip.cells.as_slice(),
             ..*next
         };
-        let forms = self.forms.list.as_mut_slice();
-        self.attempts.put_each(task, ledger, &scene, forms)
+        self.attempts
+            .put_each(task, ledger, &scene, &mut self.forms)
     }
 
     /// Offers bands in the open strip.
@@ -305,8 +323,8 @@ impl Bench {
             bands: self.strip.bands.as_slice(),
             ..*next
         };
-        let forms = self.forms.list.as_mut_slice();
-        self.attempts.put_each(task, ledger, &scene, forms)
+        self.attempts
+            .put_each(task, ledger, &scene, &mut self.forms)
     }
 
     /// Offers the first cells of a new strip.
@@ -327,7 +345,7 @@ impl Bench {
             defects: self.strip.defects.as_slice(),
             ..*strip
         };
-        let forms = self.forms.list.as_mut_slice();
-        self.attempts.put_each(task, ledger, &scene, forms)
+        self.attempts
+            .put_each(task, ledger, &scene, &mut self.forms)
     }
 }

@@ -96,8 +96,10 @@ pub fn note_tries(
         if x < defect.x1 && defect.x0 < least + width {
             tries.push(defect.x1.max(least))?;
             tries.push(defect.x1.max(least + width) - width)?;
-            tries.push(least)?;
         }
+    }
+    if !tries.is_empty() {
+        tries.push(least)?;
     }
     keep_first(tries, MOST_TRIES);
     Ok(())

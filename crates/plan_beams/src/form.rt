@@ -27,12 +27,16 @@ pub struct Form {
     pub limit: Amount,
     /// Whether no looser place is to be tried.
     pub done: bool,
+    /// Whether the item behind its own in the stack has a side of its width.
+    pairs: bool,
 }
 
 /// The forms of a node.
 #[derive(Drop)]
 pub struct Forms {
     pub list: Vec<Form>,
+    /// The greatest of their limits.
+    pub limit: Amount,
     /// The forms of one item, by their widths.
     widths: Chains,
 }
@@ -104,6 +108,7 @@ impl Forms {
     pub fn new(alloc: Global, most: Length) -> Result<Forms, Memory> {
         Ok(Forms {
             list: Vec::new(alloc),
+            limit: Amount::ZERO,
             widths: Chains::new(alloc, (most.0 as usize).saturating_add(1))?,
         })
     }
@@ -111,6 +116,7 @@ impl Forms {
     /// Notes all cells that may come next: the next item of each stack, then pairs from one stack, then pairs from two.
     pub fn note(&mut self, task: &Task, ledger: &Ledger, base: &Base) -> Result<(), Memory> {
         self.list.clear();
+        self.limit = Amount::ZERO;
         self.note_singles(task, ledger, base)?;
         let singles = self.list.len();
         self.note_pairs_of_stacks(task, ledger, base, singles)?;
@@ -118,10 +124,18 @@ impl Forms {
         self.note_pairs(task, ledger, base, singles)
     }
 
+    /// Adds a form.
+    fn add(&mut self, form: &Form) -> Result<(), Memory> {
+        self.limit = self.limit.max(form.limit);
+        self.list.push(*form)?;
+        Ok(())
+    }
+
     /// Notes the next item of each stack, in both turns.
     fn note_singles(&mut self, task: &Task, ledger: &Ledger, base: &Base) -> Result<(), Memory> {
-        for (number, stack) in task.stock.stacks.iter().enumerate() {
-            if let Some(piece) = task.stock.piece(number, base.places, 0) {
+        let stacks = task.stock.stacks.iter().zip(base.places.iter());
+        for (number, (stack, place)) in stacks.enumerate() {
+            if let Some(piece) = stack.pieces.get(usize::from(*place)) {
                 let limit = base.limit(task, ledger, 1, piece.value);
                 let stack_number = number.min(65_535) as u16;
                 let form = Form {
@@ -137,15 +151,16 @@ impl Forms {
                     mix: stack.mix,
                     limit,
                     done: false,
+                    pairs: piece.pairs_length,
                 };
-                self.note_turns(task, &form)?;
+                self.note_turns(task, &form, piece.pairs_width)?;
             }
         }
         Ok(())
     }
 
-    /// Notes the form of an item, and where it is no square turned too.
-    fn note_turns(&mut self, task: &Task, form: &Form) -> Result<(), Memory> {
+    /// Notes the form of an item, and where it is no square turned too, where `pairs` is as the turned one has it.
+    fn note_turns(&mut self, task: &Task, form: &Form, pairs: bool) -> Result<(), Memory> {
         self.note_single(task, form)?;
         if form.width == form.height {
             return Ok(());
@@ -157,6 +172,7 @@ impl Forms {
             },
             width: form.height,
             height: form.width,
+            pairs,
             ..*form
         };
         self.note_single(task, &turned)
@@ -164,7 +180,7 @@ impl Forms {
 
     fn note_single(&mut self, task: &Task, form: &Form) -> Result<(), Memory> {
         if form.width <= task.sheet.max1 && form.height <= task.sheet.high {
-            self.list.push(*form)?;
+            self.add(form)?;
         }
         Ok(())
     }
@@ -179,24 +195,26 @@ impl Forms {
     ) -> Result<(), Memory> {
         for place in 0..singles {
             if let Some(under) = self.list.get(place).copied() {
-                let stack = usize::from(under.part.stack);
-                if let Some(piece) = task.stock.piece(stack, base.places, 1) {
-                    self.note_pair_of_stack(task, ledger, base, &under, piece)?;
+                if under.pairs {
+                    self.note_pairs_with_next(task, ledger, base, &under)?;
                 }
             }
         }
         Ok(())
     }
 
-    /// Notes an item over the one before it in its stack, in both turns.
-    fn note_pair_of_stack(
+    /// Notes the second next item of a stack over the next one, in both turns.
+    fn note_pairs_with_next(
         &mut self,
         task: &Task,
         ledger: &Ledger,
         base: &Base,
         under: &Form,
-        piece: Piece,
     ) -> Result<(), Memory> {
+        let stack = usize::from(under.part.stack);
+        let Some(piece) = task.stock.second(stack, base.places) else {
+            return Ok(());
+        };
         let over = upper(under, piece, false);
         self.note_pair(task, ledger, base, under, &over)?;
         if piece.length == piece.width {
@@ -216,7 +234,7 @@ impl Forms {
         over: &Form,
     ) -> Result<(), Memory> {
         if over.width == under.width && under.height + over.height <= task.sheet.high {
-            self.list.push(stacked(task, ledger, base, under, over))?;
+            self.add(&stacked(task, ledger, base, under, over))?;
         }
         Ok(())
     }

@@ -102,8 +102,8 @@ impl Node {
     }
 
     /// The node before this one, where there is one.
-    pub fn parent_in(&self, arena: &[Node]) -> Option<Node> {
-        arena.get(self.parent? as usize).copied()
+    pub fn parent_in<'n>(&self, arena: &'n [Node]) -> Option<&'n Node> {
+        arena.get(self.parent? as usize)
     }
 
     /// Marks the node before this one.

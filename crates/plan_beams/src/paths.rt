@@ -31,11 +31,11 @@ pub fn least_of(list: &[Candidate], best: Amount) -> Option<Candidate> {
 }
 
 /// A node and those before it.
-fn nodes_from(alloc: Global, arena: &[Node], last: Node) -> Result<Vec<Node>, Memory> {
+fn nodes_from<'n>(alloc: Global, arena: &'n [Node], last: &'n Node) -> Result<Vec<Node>, Memory> {
     let mut nodes = Vec::new(alloc);
     let mut current = last;
     for _ in 0..last.items {
-        nodes.push(current)?;
+        nodes.push(*current)?;
         let Some(parent) = current.parent_in(arena) else {
             return Ok(nodes);
         };
@@ -47,7 +47,7 @@ fn nodes_from(alloc: Global, arena: &[Node], last: Node) -> Result<Vec<Node>, Me
 /// The path to a candidate that holds all items.
 pub fn path_to(alloc: Global, last: Candidate, arena: &[Node]) -> Result<Path, Memory> {
     Ok(Path {
-        nodes: nodes_from(alloc, arena, last.node)?,
+        nodes: nodes_from(alloc, arena, &last.node)?,
         loss: last.waste,
     })
 }

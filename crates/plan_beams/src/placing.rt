@@ -15,13 +15,18 @@ use glass_base::Memory;
 /// What a free place right of the band is charged where no item can fit, in 1/1024 mm² of waste for each mm².
 const RIGHT_SMALL: Amount = Amount(512);
 
-/// Glass behind the front that is lost: the front of a node is all that lies left of it and below it.
-fn waste_of(task: &Task, scene: &Scene, form: &Form, e: Length, reach: Reach) -> Amount {
-    let right = e + form.width;
+/// Glass behind the front, where the band's last cell ends at `right`, that the items before a new one leave: the front
+/// of a node is all that lies left of it and below it.
+fn glass_behind(task: &Task, scene: &Scene, right: Length, reach: Reach) -> Amount {
     let left_of_strip = task.sheet.high * (scene.before + scene.a);
     let below_band = (reach.b - scene.a) * scene.c;
     let in_band = (right - scene.a) * (reach.d - scene.c);
-    left_of_strip + below_band + in_band - (scene.base.area + form.area)
+    left_of_strip + below_band + in_band - scene.base.area
+}
+
+/// Glass behind the front that is lost.
+fn waste_of(task: &Task, scene: &Scene, form: &Form, e: Length, reach: Reach) -> Amount {
+    glass_behind(task, scene, e + form.width, reach) - form.area
 }
 
 /// What the free place above the band is charged.
@@ -40,14 +45,30 @@ fn charge_of(task: &Task, scene: &Scene, form: &Form, e: Length, reach: Reach) -
     rate * (free * (reach.d - scene.c)) + above_of(task, scene, reach)
 }
 
-/// What a child with at least this reach is charged at the least, and its waste, together in 1/1024 mm²: with `b` and
-/// `d` both grow together, and what the last item loses is more than its charges.
-pub fn least_key(task: &Task, scene: &Scene, form: &Form, e: Length, least: Reach) -> Amount {
+/// What a child with at least this reach is charged at the least: with `b` and `d` this and its waste grow together, and
+/// what the last item loses is more than its charges.
+fn least_charge(task: &Task, scene: &Scene, form: &Form, e: Length, least: Reach) -> Amount {
     let free = least.b - (e + form.width);
     let small = RIGHT_SMALL * Amount(u64::from(free.0));
     let usual = task.guide.right * Amount(u64::from(free.max(task.sheet.small).0));
     let right = small.min(usual) * Amount(u64::from((least.d - scene.c).0));
-    Amount(1024) * waste_of(task, scene, form, e, least) + right + above_of(task, scene, least)
+    right + above_of(task, scene, least)
+}
+
+/// Whether a child with at least this reach is of no use, for its waste and what it is charged at the least.
+pub fn is_late(task: &Task, scene: &Scene, form: &Form, e: Length, least: Reach) -> bool {
+    let waste = Amount(1024) * waste_of(task, scene, form, e, least);
+    waste >= form.limit || waste + least_charge(task, scene, form, e, least) >= form.limit
+}
+
+/// The least waste of any child, whatever its form, in 1/1024 mm²: a cell adds no less glass behind the front than its
+/// items have.
+pub fn least_waste(task: &Task, scene: &Scene) -> Amount {
+    let reach = Reach {
+        b: scene.b,
+        d: scene.d,
+    };
+    Amount(1024) * glass_behind(task, scene, scene.left(), reach)
 }
 
 /// The waste and the charge of a child. With all items nothing is charged, and the waste is the loss.

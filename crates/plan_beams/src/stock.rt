@@ -5,7 +5,7 @@ ghost use Rattle.std.specs.Prelude.{◌<◌, length};
 use crate::guide::Guide;
 use crate::measure::{Amount, Length};
 use crate::rest::Rest;
-use glass_base::{Instance, Memory};
+use glass_base::{Instance, Item, Memory};
 use std::alloc::Global;
 
 /// An item. All lengths are in mm.
@@ -17,6 +17,9 @@ pub struct Piece {
     /// What it is worth when it is cut, in 1/1024 mm² of waste: more where much stands behind it in its stack, so
     /// that the stacks are kept even.
     pub value: Amount,
+    /// Whether the item behind it in its stack has a side of its length, and one of its width.
+    pub pairs_length: bool,
+    pub pairs_width: bool,
 }
 
 impl Piece {
@@ -78,6 +81,14 @@ fn value_of(area: u64, behind: u64, guide: &Guide, mean: u64) -> u64 {
     loss.wrapping_mul(share.wrapping_add(512))
 }
 
+/// Whether an item, if there is one, has a side of this length.
+fn has_side(item: Option<&Item>, side: u32) -> bool {
+    match item {
+        Some(item) => item.length == side || item.width == side,
+        None => false,
+    }
+}
+
 /// The items at these positions of the batch, from the last to the first.
 fn pieces_of(
     alloc: Global,
@@ -89,6 +100,7 @@ fn pieces_of(
     let items = instance.items();
     let mut pieces = Vec::new(alloc);
     let mut behind = 0u64;
+    let mut next = None;
     for position in positions.iter().rev() {
         if let Some(item) = items.get(*position as usize) {
             let area = u64::from(item.length).wrapping_mul(u64::from(item.width));
@@ -97,7 +109,10 @@ fn pieces_of(
                 width: Length(item.width),
                 area: Amount(area),
                 value: Amount(value_of(area, behind, guide, mean)),
+                pairs_length: has_side(next, item.length),
+                pairs_width: has_side(next, item.width),
             })?;
+            next = Some(item);
             behind = behind.wrapping_add(area);
         }
     }
@@ -154,12 +169,12 @@ impl Stock {
         })
     }
 
-    /// The item of this stack that is cut next but `behind`, where so many are cut already.
-    pub fn piece(&self, stack: usize, places: &[u16], behind: usize) -> Option<Piece> {
+    /// The item of this stack that is cut next but one, where so many are cut already.
+    pub fn second(&self, stack: usize, places: &[u16]) -> Option<Piece> {
         match (self.stacks.get(stack), places.get(stack)) {
             (Some(held), Some(place)) => {
-                let next = usize::from(*place).saturating_add(behind);
-                held.pieces.get(next).copied()
+                let second = usize::from(*place).saturating_add(1);
+                held.pieces.get(second).copied()
             }
             _ => None,
         }

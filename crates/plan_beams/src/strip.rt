@@ -51,11 +51,11 @@ impl OpenStrip {
     }
 
     /// Notes the bands of the strip in which a node's cell lies, and the cells of the open one.
-    pub fn note(&mut self, arena: &[Node], node: &Node) -> Result<(), Memory> {
+    pub fn note<'n>(&mut self, arena: &'n [Node], node: &'n Node) -> Result<(), Memory> {
         self.bands.clear();
         self.cells.clear();
         self.bands.push(node.band())?;
-        let mut current = *node;
+        let mut current = node;
         let mut is_open = true;
         for _ in 0..node.items {
             if is_open {
