@@ -15,6 +15,7 @@ import sys
 TOP = os.path.join(os.path.dirname(os.path.abspath(__file__)), "..", "crates")
 FUNCTION = re.compile(r"^(\s*)(?:pub(?:\(crate\))? )?fn (\w+)")
 CLAUSE = re.compile(r"^\s*ensures\s*(\w*)\s*\{")
+ONE = "its one clause"
 
 
 def edit(path):
@@ -41,7 +42,7 @@ def around(text, old):
             for row in rows[start + 1:]:
                 clause = CLAUSE.match(row)
                 if clause:
-                    names.append(clause.group(1) or "its one clause")
+                    names.append(clause.group(1) or ONE)
                 if row.strip() in ("{", "{}") or row.rstrip().endswith(" {") and "ensures" not in row:
                     break
             return head.group(2), names
@@ -75,7 +76,11 @@ def main():
             where = f"`{module}::{function}`" if function else f"`{module}`"
             claimed = file.startswith("proofs/")
             what = "the definition, computed" if claimed else ", ".join(clauses) if clauses else "what the callers ensure"
-            print(f"| {name[:-5].replace('_', ' ')} | {where} | {what}{f' (`{goal}`)' if goal else ''} |")
+            if what == ONE:
+                refused = f"`{goal}`" if goal else ONE
+            else:
+                refused = f"{what} (`{goal}`)" if goal else what
+            print(f"| {name[:-5].replace('_', ' ')} | {where} | {refused} |")
 
 
 main()

@@ -14,6 +14,8 @@ use Rattle.command_line.specs.declared.grammar.Flag.{Flag}
 use Rattle.command_line.specs.declared.grammar.Flag.TheVariants as flag
 use Rattle.command_line.specs.declared.grammar.Lead.{Lead}
 use Rattle.command_line.specs.declared.grammar.Lead.TheVariants as lead
+use Rattle.command_line.specs.declared.grammar.LineOption.{LineOption}
+use Rattle.command_line.specs.declared.grammar.LineOption.TheVariants as option
 use Rattle.command_line.specs.declared.grammar.Product.{Product}
 use Rattle.command_line.specs.declared.grammar.Product.TheVariants as product
 use Rattle.command_line.specs.declared.grammar.Verb.{Verb}
@@ -21,17 +23,22 @@ use Rattle.command_line.specs.declared.grammar.Verb.TheVariants as verb
 use Rattle.glass_base.specs.declared.limits.TheConstants.{MOST_BUDGET, MOST_DEFECTS, MOST_ITEMS, MOST_PLATES}
 
 -- what the words of a command are: its own word, then a number for each of these, a name for each file that it reads and for each that
--- it stores, in this order, and then options, which name further files that it reads, set numbers, or are words of their own; a dash may
--- stand in the place of a file that it can do without
+-- it stores, in this order, and then options; a dash may stand in the place of a file that it can do without
 pub record Pattern : Type 0 where
   pub word : List ℕ
   pub leads : List Lead
   pub reads : List Role
   pub without : List Role
   pub stores : List Product
-  pub options : List Role
-  pub counts : List Count
-  pub flags : List Flag
+  pub options : List LineOption
+
+-- the options that name files of other parameters and other plates
+abbrev pub sizes : List LineOption
+sizes = option.File role.Params ∷ option.File role.Plates ∷ []
+
+-- the options that say how much a search may do
+abbrev pub limits : List LineOption
+limits = option.Number count.Workers ∷ option.Number count.Budget ∷ option.Number count.Effort ∷ option.Number count.Seconds ∷ []
 
 -- what most commands are: they read a batch and its defects, and options name files of other parameters and other plates
 abbrev pub usual : Pattern
@@ -41,9 +48,7 @@ usual = record {
   reads = role.Batch ∷ role.Defects ∷ [];
   without = [];
   stores = [];
-  options = role.Params ∷ role.Plates ∷ [];
-  counts = [];
-  flags = [];
+  options = sizes;
 }
 
 -- what commands store that search for a plan
@@ -52,26 +57,24 @@ found = product.Plan ∷ product.Certificate ∷ []
 
 -- what commands are that check a certificate: they can do without a plan, and a search over fronts may show the certificate's floor
 abbrev pub check : Pattern
-check = record usual { reads = role.Batch ∷ role.Defects ∷ role.Plan ∷ role.Cert ∷ []; without = role.Plan ∷ []; counts = count.FrontsLimit ∷ [] }
+check = record usual { reads = role.Batch ∷ role.Defects ∷ role.Plan ∷ role.Cert ∷ []; without = role.Plan ∷ []; options = sizes ++ option.Number count.FrontsLimit ∷ [] }
 
 -- each command by its own word, and by what is not as usual
 abbrev pub pattern_of : Verb → Pattern
 pattern_of verb.Draft = record usual { word = codes "draft"; reads = role.Batch ∷ []; stores = product.Plan ∷ [] }
-pattern_of verb.Plan = record usual { word = codes "plan"; stores = found; options = role.Params ∷ role.Plates ∷ role.Plan ∷ []; counts = count.Workers ∷ count.Budget ∷ count.Effort ∷ count.Seconds ∷ []; flags = flag.Watch ∷ flag.Fronts ∷ [] }
+pattern_of verb.Plan = record usual { word = codes "plan"; stores = found; options = sizes ++ option.File role.Plan ∷ limits ++ option.Word flag.Watch ∷ option.Word flag.Fronts ∷ [] }
 pattern_of verb.Gen = record usual {
   word = codes "gen";
   leads = lead.Start ∷ lead.Items ∷ lead.Defects ∷ [];
   reads = [];
   stores = found;
-  options = [];
-  counts = count.Workers ∷ count.Budget ∷ count.Effort ∷ count.Seconds ∷ [];
-  flags = flag.Fronts ∷ [];
+  options = limits ++ option.Word flag.Fronts ∷ [];
 }
 pattern_of verb.Judge = record usual { word = codes "judge"; reads = role.Batch ∷ role.Defects ∷ role.Plan ∷ [] }
-pattern_of verb.Verify = record check { word = codes "verify"; counts = count.Frozen ∷ count.FrontsLimit ∷ [] }
+pattern_of verb.Verify = record check { word = codes "verify"; options = sizes ++ option.Number count.Frozen ∷ option.Number count.FrontsLimit ∷ [] }
 pattern_of verb.Convert = record check { word = codes "convert"; stores = product.Certificate ∷ [] }
-pattern_of verb.Resume = record check { word = codes "resume"; stores = found; counts = count.Workers ∷ count.Budget ∷ count.Effort ∷ count.Seconds ∷ count.FrontsLimit ∷ []; flags = flag.Fronts ∷ [] }
-pattern_of verb.Freeze = record usual { word = codes "freeze"; leads = lead.Frozen ∷ []; reads = role.Batch ∷ role.Defects ∷ role.Plan ∷ []; stores = found; counts = count.Workers ∷ count.Budget ∷ count.Effort ∷ count.Seconds ∷ []; flags = flag.Fronts ∷ [] }
+pattern_of verb.Resume = record check { word = codes "resume"; stores = found; options = sizes ++ limits ++ option.Number count.FrontsLimit ∷ option.Word flag.Fronts ∷ [] }
+pattern_of verb.Freeze = record usual { word = codes "freeze"; leads = lead.Frozen ∷ []; reads = role.Batch ∷ role.Defects ∷ role.Plan ∷ []; stores = found; options = sizes ++ limits ++ option.Word flag.Fronts ∷ [] }
 pattern_of verb.Sheet = record usual { word = codes "sheet"; reads = role.Batch ∷ role.Defects ∷ role.Plan ∷ []; stores = product.Sheet ∷ [] }
 pattern_of verb.Replay = record usual { word = codes "replay"; reads = role.Batch ∷ role.Defects ∷ role.Sheet ∷ [] }
 pattern_of verb.Picture = record usual { word = codes "picture"; reads = role.Batch ∷ role.Defects ∷ role.Plan ∷ []; stores = product.Picture ∷ [] }
@@ -195,23 +198,19 @@ is_count of word = is_some (count_value of word)
 abbrev pub is_flag : Flag → List ℕ → Bool
 is_flag of word = bytes_eq word (flag_word of)
 
+-- a word is this option: it names a further file that is read, sets a number, or has no value
+abbrev pub is_line_option : LineOption → List ℕ → Bool
+is_line_option (option.File of) word = is_option of word
+is_line_option (option.Number of) word = is_count of word
+is_line_option (option.Word of) word = is_flag of word
+
 -- a word is one of these options
-abbrev pub is_any_of : {A : Type 0} → (A → List ℕ → Bool) → List A → List ℕ → Bool
-is_any_of is all word = list_any (λ of. is of word) all
+abbrev pub is_any_of : List LineOption → List ℕ → Bool
+is_any_of all word = list_any (λ of. is_line_option of word) all
 
--- each of these options is one of these words at the most
-abbrev pub are_once : {A : Type 0} → (A → List ℕ → Bool) → List A → List (List ℕ) → Bool
-are_once is all words = list_all (λ of. nat_le (count_by (is of) words) 1) all
-
--- a word is one of the options of a command
-abbrev pub is_command_option : Pattern → List ℕ → Bool
-is_command_option pattern word = is_any_of is_option pattern.options word || is_any_of is_count pattern.counts word || is_any_of is_flag pattern.flags word
-
--- the words are options of a command, each of them once at the most
-abbrev pub are_options : Pattern → List (List ℕ) → Bool
-are_options pattern words =
-    list_all (is_command_option pattern) words && are_once is_option pattern.options words && are_once is_count pattern.counts words
-    && are_once is_flag pattern.flags words
+-- the words are some of these options, each of them once at the most
+abbrev pub are_options : List LineOption → List (List ℕ) → Bool
+are_options all words = list_all (is_any_of all) words && list_all (λ of. nat_le (count_by (is_line_option of) words) 1) all
 
 -- a command line: its command, the numbers behind it, the names of files, and its options
 pub record Line : Type 0 where
@@ -240,9 +239,10 @@ name_at line of =
 abbrev pub is_read_named : Line → Role → Bool
 is_read_named line of = is_some (name_at line of) || list_any (λ other. is_role of other) (pattern_of line.verb).without
 
--- whether a line names the file without which this number says nothing, where it sets the number
-abbrev pub is_count_served : Line → Count → Bool
-is_count_served line of = not (list_any (is_count of) line.options) || option_map_or (λ needed. is_some (name_at line needed)) (setting_of of).needs true
+-- whether a line names the file without which an option says nothing, where it has the option
+abbrev pub is_served : Line → LineOption → Bool
+is_served line (option.Number of) = not (list_any (is_count of) line.options) || option_map_or (λ needed. is_some (name_at line needed)) (setting_of of).needs true
+is_served line _ = true
 
 -- the names under which a line stores
 abbrev pub stored_names : Line → List (List ℕ)
@@ -262,13 +262,14 @@ is_product of other = product_place of == product_place other
 abbrev pub stored_as : Line → Product → List ℕ
 stored_as line of = unwrap_or (option_and_then (λ place. slice_get (stored_names line) place) (position (λ other. is_product of other) (pattern_of line.verb).stores)) []
 
--- whether a word is an option of this role that names this file
-abbrev pub is_option_for : Role → List ℕ → List ℕ → Bool
-is_option_for of name word = option_map_or (λ n. bytes_eq n name) (option_name of word) false
+-- whether a word is this option and names this file
+abbrev pub is_option_for : LineOption → List ℕ → List ℕ → Bool
+is_option_for (option.File of) name word = option_map_or (λ n. bytes_eq n name) (option_name of word) false
+is_option_for _ name word = false
 
--- whether an option of one of these roles names this file
-abbrev pub option_names : List Role → List ℕ → List ℕ → Bool
-option_names roles name word = list_any (λ of. is_option_for of name word) roles
+-- whether one of these options names this file
+abbrev pub option_names : List LineOption → List ℕ → List ℕ → Bool
+option_names all name word = list_any (λ of. is_option_for of name word) all
 
 -- whether a line names a file once
 abbrev pub is_named_once : Line → List ℕ → Bool
@@ -286,8 +287,8 @@ are_files_named line =
 -- name that is stored differs from all other names
 abbrev pub is_line : Line → Bool
 is_line line =
-    are_leads_said line && are_files_named line && are_options (pattern_of line.verb) line.options
-    && list_all (is_count_served line) (pattern_of line.verb).counts && list_all (is_named_once line) (stored_names line)
+    are_leads_said line && are_files_named line && are_options (pattern_of line.verb).options line.options
+    && list_all (is_served line) (pattern_of line.verb).options && list_all (is_named_once line) (stored_names line)
 
 -- the words behind a command's own as its numbers, its names and its options
 abbrev pub line_with : Verb → List (List ℕ) → Line

@@ -1,18 +1,20 @@
 -- What the programs tell of themselves: their commands and options, made from the table of commands, and their version.
-use Rattle.std.specs.Prelude.{◌≡◌, ◌&&◌, ◌||◌, ◌++◌, ℕ, List, [], ◌∷◌, Bool, true, if◌then◌else◌, Option, Some, None, codes}
+use Rattle.std.specs.Prelude.{◌≡◌, ◌||◌, ◌++◌, ℕ, List, [], ◌∷◌, Bool, true, if◌then◌else◌, Option, Some, None, codes}
 use Rattle.std.specs.Fmt.{decimal}
 use Rattle.std.specs.List.{flat_map, list_all, list_any}
 use Rattle.std.specs.Str.{bytes_eq}
 use Rattle.glass_base.specs.Roles.{is_role}
 use Rattle.glass_base.specs.declared.role.Role.{Role}
 use Rattle.glass_base.specs.declared.role.Role.TheVariants as role
-use Rattle.command_line.specs.Grammar.{flag_word, option_front, pattern_of, setting_of, verbs}
+use Rattle.command_line.specs.Grammar.{flag_word, limits, option_front, pattern_of, setting_of, sizes, verbs}
 use Rattle.command_line.specs.declared.grammar.Count.{Count}
 use Rattle.command_line.specs.declared.grammar.Count.TheVariants as count
 use Rattle.command_line.specs.declared.grammar.Flag.{Flag}
 use Rattle.command_line.specs.declared.grammar.Flag.TheVariants as flag
 use Rattle.command_line.specs.declared.grammar.Lead.{Lead}
 use Rattle.command_line.specs.declared.grammar.Lead.TheVariants as lead
+use Rattle.command_line.specs.declared.grammar.LineOption.{LineOption}
+use Rattle.command_line.specs.declared.grammar.LineOption.TheVariants as option
 use Rattle.command_line.specs.declared.grammar.Product.{Product}
 use Rattle.command_line.specs.declared.grammar.Product.TheVariants as product
 use Rattle.command_line.specs.declared.grammar.Verb.{Verb}
@@ -73,14 +75,13 @@ read_piece of = codes " " ++ read_name of
 abbrev pub stored_piece : List Role → Product → List ℕ
 stored_piece reads of = codes " " ++ stored_name reads of
 
-abbrev pub option_piece : Role → List ℕ
-option_piece of = codes " [" ++ option_front of ++ codes "FILE]"
+abbrev pub option_text : LineOption → List ℕ
+option_text (option.File of) = option_front of ++ codes "FILE"
+option_text (option.Number of) = (setting_of of).front ++ codes "N"
+option_text (option.Word of) = flag_word of
 
-abbrev pub count_piece : Count → List ℕ
-count_piece of = codes " [" ++ (setting_of of).front ++ codes "N]"
-
-abbrev pub flag_piece : Flag → List ℕ
-flag_piece of = codes " [" ++ flag_word of ++ codes "]"
+abbrev pub option_piece : LineOption → List ℕ
+option_piece of = codes " [" ++ option_text of ++ codes "]"
 
 -- the line of a command: its numbers and its files, and behind them in brackets its options
 abbrev pub named_line : Verb → List ℕ
@@ -89,9 +90,7 @@ named_line of =
     line_front of ++ flat_map lead_piece pattern.leads ++ flat_map read_piece pattern.reads ++ flat_map (stored_piece pattern.reads) pattern.stores
 
 abbrev pub usage_of : Verb → List ℕ
-usage_of of =
-    let pattern = pattern_of of in
-    named_line of ++ flat_map option_piece pattern.options ++ flat_map count_piece pattern.counts ++ flat_map flag_piece pattern.flags
+usage_of of = named_line of ++ flat_map option_piece (pattern_of of).options
 
 -- what the commands do
 abbrev pub verb_about : Verb → List ℕ
@@ -108,11 +107,11 @@ verb_about verb.Replay = codes "follows such instructions"
 verb_about verb.Picture = codes "a picture of a plan, with its loss or the first rule that it breaks"
 
 -- what the options do
-abbrev pub option_about : Role → List ℕ
-option_about role.Params = codes "other sizes of plates and other least sizes of pieces"
-option_about role.Plates = codes "plates with widths of their own"
-option_about role.Plan = codes "a plan to go on from, so that what is stored loses no more"
-option_about _ = codes "another file"
+abbrev pub file_about : Role → List ℕ
+file_about role.Params = codes "other sizes of plates and other least sizes of pieces"
+file_about role.Plates = codes "plates with widths of their own"
+file_about role.Plan = codes "a plan to go on from, so that what is stored loses no more"
+file_about _ = codes "another file"
 
 abbrev pub count_about : Count → List ℕ
 count_about count.Workers = codes "how many workers search"
@@ -133,45 +132,40 @@ entry line about = codes "  " ++ line ++ codes "\n      " ++ about ++ codes "\n"
 abbrev pub verb_entry : Verb → List ℕ
 verb_entry of = entry (usage_of of) (verb_about of)
 
-abbrev pub option_entry : Role → List ℕ
-option_entry of = entry (option_front of ++ codes "FILE") (option_about of)
-
--- with the numbers that can be set, and the one that is set where the option is not there
+-- of a number also which ones can be set, and the one that is set where the option is not there
 abbrev pub count_told : Count → List ℕ
 count_told of = count_about of ++ codes ": 1 to " ++ decimal (setting_of of).most ++ codes ", usually " ++ decimal (setting_of of).usual
 
-abbrev pub count_entry : Count → List ℕ
-count_entry of = entry ((setting_of of).front ++ codes "N") (count_told of)
+abbrev pub option_about : LineOption → List ℕ
+option_about (option.File of) = file_about of
+option_about (option.Number of) = count_told of
+option_about (option.Word of) = flag_about of
 
-abbrev pub flag_entry : Flag → List ℕ
-flag_entry of = entry (flag_word of) (flag_about of)
+abbrev pub option_entry : LineOption → List ℕ
+option_entry of = entry (option_text of) (option_about of)
 
 -- a program by its name, its commands, and their options
 pub record Manual : Type 0 where
   pub name : List ℕ
   pub verbs : List Verb
-  pub options : List Role
-  pub counts : List Count
-  pub flags : List Flag
+  pub options : List LineOption
 
 abbrev pub manual_of : Program → Manual
 manual_of program.Glass = record {
   name = codes "glass";
   verbs = verbs;
-  options = role.Params ∷ role.Plates ∷ role.Plan ∷ [];
-  counts = count.Workers ∷ count.Budget ∷ count.Effort ∷ count.Seconds ∷ count.Frozen ∷ count.FrontsLimit ∷ [];
-  flags = flag.Watch ∷ flag.Fronts ∷ [];
+  options =
+      sizes ++ option.File role.Plan ∷ limits ++ option.Number count.Frozen ∷ option.Number count.FrontsLimit ∷ option.Word flag.Watch
+      ∷ option.Word flag.Fronts ∷ [];
 }
-manual_of program.Picture = record { name = codes "glass-picture"; verbs = verb.Picture ∷ []; options = role.Params ∷ role.Plates ∷ []; counts = []; flags = [] }
+manual_of program.Picture = record { name = codes "glass-picture"; verbs = verb.Picture ∷ []; options = sizes }
 
 -- the commands and the options of a program
 unfoldable pub commands_text : Manual → List ℕ
 commands_text manual = codes "usage:\n" ++ flat_map verb_entry manual.verbs
 
 unfoldable pub options_text : Manual → List ℕ
-options_text manual =
-    codes "\noptions, behind the names and in any order:\n" ++ flat_map option_entry manual.options ++ flat_map count_entry manual.counts
-    ++ flat_map flag_entry manual.flags
+options_text manual = codes "\noptions, behind the names and in any order:\n" ++ flat_map option_entry manual.options
 
 abbrev pub help_text : Program → List ℕ
 help_text of = commands_text (manual_of of) ++ options_text (manual_of of) ++ codes "\n--help, -h and --version, alone, tell this and the version\n"
@@ -189,8 +183,5 @@ answer_of of question.Version = version_line of
 abbrev pub AreTold : Program → Type 0
 AreTold of =
     let manual = manual_of of in
-    let is_told : Verb → Bool = λ v.
-    list_all (λ x. list_any (λ y. bytes_eq (option_front x) (option_front y)) manual.options) (pattern_of v).options
-    && list_all (λ x. list_any (λ y. bytes_eq (setting_of x).front (setting_of y).front) manual.counts) (pattern_of v).counts
-    && list_all (λ x. list_any (λ y. bytes_eq (flag_word x) (flag_word y)) manual.flags) (pattern_of v).flags in
-    list_all is_told manual.verbs ≡ true
+    let is_told : LineOption → Bool = λ x. list_any (λ y. bytes_eq (option_text x) (option_text y)) manual.options in
+    list_all (λ v. list_all is_told (pattern_of v).options) manual.verbs ≡ true

@@ -1,7 +1,7 @@
 //! The commands, each a row of one table.
 
 ghost use Rattle.std.specs.Prelude.{◌≡◌};
-ghost use Rattle.command_line.specs.Grammar.{fetch_order, option_front as option_front_of, role_word as role_word_of, flag_word as flag_word_of, verbs, setting_of, lead_range};
+ghost use Rattle.command_line.specs.Grammar.{fetch_order, option_front as option_front_of, role_word as role_word_of, flag_word as flag_word_of, verbs, lead_range};
 
 use glass_base::Role;
 use glass_base::limits::{MOST_BUDGET, MOST_DEFECTS, MOST_ITEMS, MOST_PLATES};
@@ -124,6 +124,78 @@ pub enum Count {
     FrontsLimit,
 }
 
+/// A number that a line can set.
+#[derive(Clone, Copy, Debug)]
+pub(crate) struct Setting {
+    /// What stands before it in an option.
+    pub front: &'static str,
+    /// The least that a line may have, whether it sets one or not.
+    pub least: u32,
+    /// The greatest that can be set.
+    pub most: u32,
+    /// The one where a line sets none.
+    pub usual: u32,
+    /// The file without which it says nothing, if there is one.
+    pub needs: Option<Role>,
+}
+
+impl Count {
+    ghost use Rattle.std.specs.Prelude.{◌≡◌};
+    ghost use Rattle.command_line.specs.Grammar.{setting_of};
+    ghost use Rattle.command_line.specs.inner.Forms.{setting_in};
+
+    /// The row of this number: usually no plates are cut already, and no more work is done than for the usual first
+    /// plan. The least that can be set is 1.
+    pub(crate) fn setting(self) -> Setting
+        ensures { setting_in result ≡ setting_of self }
+    {
+        match self {
+            Count::Workers => Setting {
+                front: "--workers=",
+                least: 1,
+                most: 8,
+                usual: 4,
+                needs: None,
+            },
+            Count::Budget => Setting {
+                front: "--budget=",
+                least: 1,
+                most: MOST_BUDGET,
+                usual: 100_000,
+                needs: None,
+            },
+            Count::Frozen => Setting {
+                front: "--frozen=",
+                least: 0,
+                most: MOST_PLATES,
+                usual: 0,
+                needs: Some(Role::Plan),
+            },
+            Count::Effort => Setting {
+                front: "--effort=",
+                least: 0,
+                most: 1_000_000,
+                usual: 0,
+                needs: None,
+            },
+            Count::Seconds => Setting {
+                front: "--seconds=",
+                least: 0,
+                most: 86_400,
+                usual: 0,
+                needs: None,
+            },
+            Count::FrontsLimit => Setting {
+                front: "--fronts-limit=",
+                least: 1,
+                most: 4_000_000_000,
+                usual: 500_000_000,
+                needs: None,
+            },
+        }
+    }
+}
+
 /// An option that has no value.
 #[derive(Clone, Copy, Debug, PartialEq, Eq)]
 pub enum Flag {
@@ -133,9 +205,20 @@ pub enum Flag {
     Fronts,
 }
 
-/// What the words of a command are: its own word, then a number for each of `leads`, a name for each file that it reads and for each that
-/// it stores, in this order, and then its options, which name further files that it reads, set counts, or have no value. A dash may stand in
-/// the place of a file that it can do without.
+/// An option of a command: it names a further file that is read, sets a number, or is a word without a value.
+#[derive(Clone, Copy, Debug, PartialEq, Eq)]
+pub enum LineOption {
+    /// It names the file of this role.
+    File(Role),
+    /// It sets this number.
+    Number(Count),
+    /// It has no value.
+    Word(Flag),
+}
+
+/// What the words of a command are: its own word, then a number for each of `leads`, a name for each file that it reads
+/// and for each that it stores, in this order, and then options. A dash may stand in the place of a file that it can do
+/// without.
 #[derive(Clone, Copy, Debug)]
 pub struct Form {
     pub word: &'static str,
@@ -143,10 +226,38 @@ pub struct Form {
     pub reads: &'static [Role],
     pub without: &'static [Role],
     pub stores: &'static [Product],
-    pub options: &'static [Role],
-    pub counts: &'static [Count],
-    pub flags: &'static [Flag],
+    pub options: &'static [LineOption],
 }
+
+/// What most commands are: they read a batch and its defects, and options name files of other parameters and other
+/// plates.
+const USUAL: Form = Form {
+    word: "",
+    leads: &[],
+    reads: &[Role::Batch, Role::Defects],
+    without: &[],
+    stores: &[],
+    options: &[
+        LineOption::File(Role::Params),
+        LineOption::File(Role::Plates),
+    ],
+};
+
+/// What commands are that check a certificate: they can do without a plan, and a search over fronts may show the
+/// certificate's floor.
+const CHECK: Form = Form {
+    reads: &[Role::Batch, Role::Defects, Role::Plan, Role::Cert],
+    without: &[Role::Plan],
+    options: &[
+        LineOption::File(Role::Params),
+        LineOption::File(Role::Plates),
+        LineOption::Number(Count::FrontsLimit),
+    ],
+    ..USUAL
+};
+
+/// What commands store that search for a plan.
+const FOUND: [Product; 2] = [Product::Plan, Product::Certificate];
 
 /// The commands of `glass`.
 pub(crate) const VERBS: [Verb; 10] = [
@@ -184,119 +295,107 @@ impl Verb {
         match self {
             Verb::Draft => Form {
                 word: "draft",
-                leads: &[],
                 reads: &[Role::Batch],
-                without: &[],
                 stores: &[Product::Plan],
-                options: &[Role::Params, Role::Plates],
-                counts: &[],
-                flags: &[],
+                ..USUAL
             },
             Verb::Plan => Form {
                 word: "plan",
-                leads: &[],
-                reads: &[Role::Batch, Role::Defects],
-                without: &[],
-                stores: &[Product::Plan, Product::Certificate],
-                options: &[Role::Params, Role::Plates, Role::Plan],
-                counts: &[Count::Workers, Count::Budget, Count::Effort, Count::Seconds],
-                flags: &[Flag::Watch, Flag::Fronts],
+                stores: &FOUND,
+                options: &[
+                    LineOption::File(Role::Params),
+                    LineOption::File(Role::Plates),
+                    LineOption::File(Role::Plan),
+                    LineOption::Number(Count::Workers),
+                    LineOption::Number(Count::Budget),
+                    LineOption::Number(Count::Effort),
+                    LineOption::Number(Count::Seconds),
+                    LineOption::Word(Flag::Watch),
+                    LineOption::Word(Flag::Fronts),
+                ],
+                ..USUAL
             },
             Verb::Gen => Form {
                 word: "gen",
                 leads: &[Lead::Start, Lead::Items, Lead::Defects],
                 reads: &[],
-                without: &[],
-                stores: &[Product::Plan, Product::Certificate],
-                options: &[],
-                counts: &[Count::Workers, Count::Budget, Count::Effort, Count::Seconds],
-                flags: &[Flag::Fronts],
+                stores: &FOUND,
+                options: &[
+                    LineOption::Number(Count::Workers),
+                    LineOption::Number(Count::Budget),
+                    LineOption::Number(Count::Effort),
+                    LineOption::Number(Count::Seconds),
+                    LineOption::Word(Flag::Fronts),
+                ],
+                ..USUAL
             },
             Verb::Judge => Form {
                 word: "judge",
-                leads: &[],
                 reads: &[Role::Batch, Role::Defects, Role::Plan],
-                without: &[],
-                stores: &[],
-                options: &[Role::Params, Role::Plates],
-                counts: &[],
-                flags: &[],
+                ..USUAL
             },
             Verb::Verify => Form {
                 word: "verify",
-                leads: &[],
-                reads: &[Role::Batch, Role::Defects, Role::Plan, Role::Cert],
-                without: &[Role::Plan],
-                stores: &[],
-                options: &[Role::Params, Role::Plates],
-                counts: &[Count::Frozen, Count::FrontsLimit],
-                flags: &[],
+                options: &[
+                    LineOption::File(Role::Params),
+                    LineOption::File(Role::Plates),
+                    LineOption::Number(Count::Frozen),
+                    LineOption::Number(Count::FrontsLimit),
+                ],
+                ..CHECK
             },
             Verb::Convert => Form {
                 word: "convert",
-                leads: &[],
-                reads: &[Role::Batch, Role::Defects, Role::Plan, Role::Cert],
-                without: &[Role::Plan],
                 stores: &[Product::Certificate],
-                options: &[Role::Params, Role::Plates],
-                counts: &[Count::FrontsLimit],
-                flags: &[],
+                ..CHECK
             },
             Verb::Resume => Form {
                 word: "resume",
-                leads: &[],
-                reads: &[Role::Batch, Role::Defects, Role::Plan, Role::Cert],
-                without: &[Role::Plan],
-                stores: &[Product::Plan, Product::Certificate],
-                options: &[Role::Params, Role::Plates],
-                counts: &[
-                    Count::Workers,
-                    Count::Budget,
-                    Count::Effort,
-                    Count::Seconds,
-                    Count::FrontsLimit,
+                stores: &FOUND,
+                options: &[
+                    LineOption::File(Role::Params),
+                    LineOption::File(Role::Plates),
+                    LineOption::Number(Count::Workers),
+                    LineOption::Number(Count::Budget),
+                    LineOption::Number(Count::Effort),
+                    LineOption::Number(Count::Seconds),
+                    LineOption::Number(Count::FrontsLimit),
+                    LineOption::Word(Flag::Fronts),
                 ],
-                flags: &[Flag::Fronts],
+                ..CHECK
             },
             Verb::Freeze => Form {
                 word: "freeze",
                 leads: &[Lead::Frozen],
                 reads: &[Role::Batch, Role::Defects, Role::Plan],
-                without: &[],
-                stores: &[Product::Plan, Product::Certificate],
-                options: &[Role::Params, Role::Plates],
-                counts: &[Count::Workers, Count::Budget, Count::Effort, Count::Seconds],
-                flags: &[Flag::Fronts],
+                stores: &FOUND,
+                options: &[
+                    LineOption::File(Role::Params),
+                    LineOption::File(Role::Plates),
+                    LineOption::Number(Count::Workers),
+                    LineOption::Number(Count::Budget),
+                    LineOption::Number(Count::Effort),
+                    LineOption::Number(Count::Seconds),
+                    LineOption::Word(Flag::Fronts),
+                ],
+                ..USUAL
             },
             Verb::Sheet => Form {
                 word: "sheet",
-                leads: &[],
                 reads: &[Role::Batch, Role::Defects, Role::Plan],
-                without: &[],
                 stores: &[Product::Sheet],
-                options: &[Role::Params, Role::Plates],
-                counts: &[],
-                flags: &[],
+                ..USUAL
             },
             Verb::Replay => Form {
                 word: "replay",
-                leads: &[],
                 reads: &[Role::Batch, Role::Defects, Role::Sheet],
-                without: &[],
-                stores: &[],
-                options: &[Role::Params, Role::Plates],
-                counts: &[],
-                flags: &[],
+                ..USUAL
             },
             Verb::Picture => Form {
                 word: "picture",
-                leads: &[],
                 reads: &[Role::Batch, Role::Defects, Role::Plan],
-                without: &[],
                 stores: &[Product::Picture],
-                options: &[Role::Params, Role::Plates],
-                counts: &[],
-                flags: &[],
+                ..USUAL
             },
         }
     }
@@ -329,62 +428,6 @@ pub(crate) fn option_front(role: Role) -> &'static str
         Role::Cert => "--cert=",
         Role::Plates => "--plates=",
         Role::Sheet => "--sheet=",
-    }
-}
-
-/// What stands before the number in an option.
-pub(crate) fn count_front(count: Count) -> &'static str
-    ensures { result.now ≡ (setting_of count).front }
-{
-    match count {
-        Count::Workers => "--workers=",
-        Count::Budget => "--budget=",
-        Count::Frozen => "--frozen=",
-        Count::Effort => "--effort=",
-        Count::Seconds => "--seconds=",
-        Count::FrontsLimit => "--fronts-limit=",
-    }
-}
-
-/// The greatest number that can be set.
-pub(crate) fn count_most(count: Count) -> u32
-    ensures { result ≡ (setting_of count).most }
-{
-    match count {
-        Count::Workers => 8,
-        Count::Budget => MOST_BUDGET,
-        Count::Frozen => MOST_PLATES,
-        Count::Effort => 1_000_000,
-        Count::Seconds => 86_400,
-        Count::FrontsLimit => 4_000_000_000,
-    }
-}
-
-/// The number where a line sets none.
-pub(crate) fn count_usual(count: Count) -> u32
-    ensures { result ≡ (setting_of count).usual }
-{
-    match count {
-        Count::Workers => 4,
-        Count::Budget => 100_000,
-        Count::Frozen => 0,
-        Count::Effort => 0,
-        Count::Seconds => 0,
-        Count::FrontsLimit => 500_000_000,
-    }
-}
-
-/// The file without which the number says nothing, if there is one.
-pub(crate) fn count_needs(count: Count) -> Option<Role>
-    ensures { result ≡ (setting_of count).needs }
-{
-    match count {
-        Count::Workers => None,
-        Count::Budget => None,
-        Count::Frozen => Some(Role::Plan),
-        Count::Effort => None,
-        Count::Seconds => None,
-        Count::FrontsLimit => None,
     }
 }
 

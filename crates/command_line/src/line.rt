@@ -8,9 +8,7 @@ ghost use Rattle.std.specs.String.{string_bytes};
 ghost use Rattle.command_line.specs.Grammar.{line_if, line_of, line_with, picture_line_of, verb_of, setting_of, lead_range};
 ghost use Rattle.command_line.specs.Lines.{line_in};
 
-use crate::grammar::{
-    Count, Flag, Lead, Product, VERBS, Verb, count_needs, count_usual, lead_least,
-};
+use crate::grammar::{Count, Flag, Lead, LineOption, Product, VERBS, Verb, lead_least};
 use crate::words::{
     are_names, are_names_or_dashes, are_options, count_set, first_option, has_flag, is_among,
     lead_among, lead_value, name_said, option_name, option_names, place_among, product_among,
@@ -29,7 +27,7 @@ pub struct CommandLine<'a> {
 
 impl<'a> CommandLine<'a> {
     ghost use Rattle.command_line.specs.Lines.{line_in};
-    ghost use Rattle.command_line.specs.Grammar.{are_files_named, are_leads_said, is_count, is_count_served, is_line, is_named_once, is_product, is_read_named, lead_at, lead_in, name_at, name_by_option, name_of, option_names as option_names_of, pattern_of, count_in, flag_in, stored_as, stored_names};
+    ghost use Rattle.command_line.specs.Grammar.{are_files_named, are_leads_said, is_count, is_served, is_line, is_named_once, is_product, is_read_named, lead_at, lead_in, name_at, name_by_option, name_of, option_names as option_names_of, pattern_of, count_in, flag_in, stored_as, stored_names};
 
     /// The number of this kind that the line says before its names.
     fn lead_at(&self, lead: Lead) -> Option<u32>
@@ -72,12 +70,12 @@ impl<'a> CommandLine<'a> {
             + count_by (option_names_of (pattern_of self.now.verb).options name.now)
             (line_in self.now).options }
     {
-        let roles = self.verb.form().options;
+        let all = self.verb.form().options;
         let names = self.names.iter().filter(|n| n.as_str() == name).count();
         let options = self
             .options
             .iter()
-            .filter(|word| option_names(roles, name, word.as_str()))
+            .filter(|word| option_names(all, name, word.as_str()))
             .count();
         names + options
     }
@@ -171,39 +169,43 @@ impl<'a> CommandLine<'a> {
         ensures { result ≡ option_map_or (λ needed. is_some (name_at (line_in self.now) needed))
             (setting_of count).needs true }
     {
-        match count_needs(count) {
+        match count.setting().needs {
             Some(role) => self.name_at(role).is_some(),
             None => true,
         }
     }
 
-    /// Whether the line names that file, where it sets the number.
-    fn serves(&self, count: Count) -> bool
-        ensures { result ≡ is_count_served (line_in self.now) count }
+    /// Whether the line names the file without which an option says nothing, where it has the option.
+    fn serves(&self, option: LineOption) -> bool
+        ensures { result ≡ is_served (line_in self.now) option }
     {
-        !sets_count(count, self.options) || self.names_needed(count)
+        match option {
+            LineOption::Number(count) => {
+                !sets_count(count, self.options) || self.names_needed(count)
+            }
+            LineOption::File(_) | LineOption::Word(_) => true,
+        }
     }
 
-    /// Whether the line names the file that each number needs.
+    /// Whether the line names the file that each of its options needs.
     fn serves_all(&self) -> bool
-        ensures { result ≡ list_all (is_count_served (line_in self.now))
-            (pattern_of self.now.verb).counts }
+        ensures { result ≡ list_all (is_served (line_in self.now))
+            (pattern_of self.now.verb).options }
     {
         self.verb
             .form()
-            .counts
+            .options
             .iter()
-            .all(|count| self.serves(*count))
+            .all(|option| self.serves(*option))
     }
 
     /// Whether numbers, names and options are those of the command.
     fn is_whole(&self) -> bool
         ensures { result ≡ is_line (line_in self.now) }
     {
-        let form = self.verb.form();
         self.says_leads()
             && self.names_files()
-            && are_options(&form, self.options)
+            && are_options(self.verb.form().options, self.options)
             && self.serves_all()
             && self.stores_apart()
     }
@@ -228,7 +230,7 @@ impl<'a> CommandLine<'a> {
     {
         match count_set(count, self.options) {
             Some(number) => number,
-            None => count_usual(count),
+            None => count.setting().usual,
         }
     }
 

@@ -3,13 +3,12 @@
 ghost use Rattle.std.specs.Prelude.{◌≡◌, ◌++◌, ℕ, List, IfOk, OnOk};
 ghost use Rattle.std.specs.List.{flat_map};
 ghost use Rattle.std.specs.String.{string_bytes};
-ghost use Rattle.command_line.specs.Manual.{answer_of, cert_name as cert_name_of, count_about as count_about_of, count_entry as count_entry_of, count_piece as count_piece_of, count_told as count_told_of, commands_text as commands_text_of, options_text as options_text_of, entry as entry_of, flag_about as flag_about_of, flag_entry as flag_entry_of, flag_piece as flag_piece_of, help_text as help_text_of, lead_name as lead_name_of, lead_piece as lead_piece_of, line_front as line_front_of, option_about as option_about_of, option_entry as option_entry_of, option_piece as option_piece_of, read_name as read_name_of, read_piece as read_piece_of, stored_name as stored_name_of, stored_piece as stored_piece_of, usage_of, named_line as named_line_of, manual_of, verb_about as verb_about_of, verb_entry as verb_entry_of, version_line as version_line_of};
+ghost use Rattle.command_line.specs.Manual.{answer_of, cert_name as cert_name_of, count_about as count_about_of, count_told as count_told_of, commands_text as commands_text_of, options_text as options_text_of, entry as entry_of, flag_about as flag_about_of, help_text as help_text_of, lead_name as lead_name_of, lead_piece as lead_piece_of, line_front as line_front_of, option_about as option_about_of, option_entry as option_entry_of, option_piece as option_piece_of, option_text as option_text_of, file_about as file_about_of, read_name as read_name_of, read_piece as read_piece_of, stored_name as stored_name_of, stored_piece as stored_piece_of, usage_of, named_line as named_line_of, manual_of, verb_about as verb_about_of, verb_entry as verb_entry_of, version_line as version_line_of};
 ghost use Rattle.command_line.specs.inner.Manuals.{manual_in};
 ghost use Rattle.command_line.specs.inner.Tellings.{Tells};
 
 use crate::grammar::{
-    Count, Flag, Lead, Product, VERBS, Verb, count_front, count_most, count_usual, flag_word,
-    option_front,
+    Count, Flag, Lead, LineOption, Product, VERBS, Verb, flag_word, option_front,
 };
 use crate::questions::{Program, Question};
 use crate::words::is_among;
@@ -88,28 +87,29 @@ fn stored_piece(alloc: Global, reads: &[Role], product: Product) -> Result<Strin
     Ok(format!(in alloc; " {name}")?)
 }
 
-/// What a line says of an option that names a file.
-fn option_piece(alloc: Global, role: Role) -> Result<String, Memory>
-    ensures { IfOk result (λ piece. string_bytes piece ≡ option_piece_of role) }
+/// An option as a line says it.
+fn option_text(alloc: Global, option: LineOption) -> Result<String, Memory>
+    ensures { IfOk result (λ text. string_bytes text ≡ option_text_of option) }
 {
-    let front = option_front(role);
-    Ok(format!(in alloc; " [{front}FILE]")?)
+    match option {
+        LineOption::File(role) => {
+            let front = option_front(role);
+            Ok(format!(in alloc; "{front}FILE")?)
+        }
+        LineOption::Number(count) => {
+            let front = count.setting().front;
+            Ok(format!(in alloc; "{front}N")?)
+        }
+        LineOption::Word(flag) => Ok(String::from_str(alloc, flag_word(flag))?),
+    }
 }
 
-/// What a line says of an option that sets a number.
-fn count_piece(alloc: Global, count: Count) -> Result<String, Memory>
-    ensures { IfOk result (λ piece. string_bytes piece ≡ count_piece_of count) }
+/// What a line says of an option.
+fn option_piece(alloc: Global, option: LineOption) -> Result<String, Memory>
+    ensures { IfOk result (λ piece. string_bytes piece ≡ option_piece_of option) }
 {
-    let front = count_front(count);
-    Ok(format!(in alloc; " [{front}N]")?)
-}
-
-/// What a line says of an option without a value.
-fn flag_piece(alloc: Global, flag: Flag) -> Result<String, Memory>
-    ensures { IfOk result (λ piece. string_bytes piece ≡ flag_piece_of flag) }
-{
-    let word = flag_word(flag);
-    Ok(format!(in alloc; " [{word}]")?)
+    let text = option_text(alloc, option)?;
+    Ok(format!(in alloc; " [{text}]")?)
 }
 
 /// Appends what is told of each of these.
@@ -169,11 +169,9 @@ fn named_line(alloc: Global, verb: Verb) -> Result<String, Memory>
 pub fn usage_line(alloc: Global, verb: Verb) -> Result<String, Memory>
     ensures { IfOk result (λ line. string_bytes line ≡ usage_of verb) }
 {
-    let form = verb.form();
+    let options = verb.form().options;
     let mut line = named_line(alloc, verb)?;
-    push_each(&mut line, form.options, |role| option_piece(alloc, role))?;
-    push_each(&mut line, form.counts, |count| count_piece(alloc, count))?;
-    push_each(&mut line, form.flags, |flag| flag_piece(alloc, flag))?;
+    push_each(&mut line, options, |option| option_piece(alloc, option))?;
     Ok(line)
 }
 
@@ -197,8 +195,8 @@ fn verb_about(verb: Verb) -> &'static str
 }
 
 /// What an option does that names a file.
-fn option_about(role: Role) -> &'static str
-    ensures { result.now ≡ option_about_of role }
+fn file_about(role: Role) -> &'static str
+    ensures { result.now ≡ file_about_of role }
 {
     match role {
         Role::Params => "other sizes of plates and other least sizes of pieces",
@@ -249,41 +247,35 @@ fn verb_entry(alloc: Global, verb: Verb) -> Result<String, Memory>
     entry(alloc, line.as_str(), verb_about(verb))
 }
 
-/// What is told of an option that names a file.
-fn option_entry(alloc: Global, role: Role) -> Result<String, Memory>
-    ensures { IfOk result (λ entry. string_bytes entry ≡ option_entry_of role) }
-{
-    let front = option_front(role);
-    let line = format!(in alloc; "{front}FILE")?;
-    entry(alloc, line.as_str(), option_about(role))
-}
-
 /// What an option does that sets a number, the numbers that can be set, and the one that is set where the option is
 /// not there.
 fn count_told(alloc: Global, count: Count) -> Result<String, Memory>
     ensures { IfOk result (λ told. string_bytes told ≡ count_told_of count) }
 {
     let about = count_about(count);
-    let most = count_most(count);
-    let usual = count_usual(count);
+    let most = count.setting().most;
+    let usual = count.setting().usual;
     Ok(format!(in alloc; "{about}: 1 to {most}, usually {usual}")?)
 }
 
-/// What is told of an option that sets a number.
-fn count_entry(alloc: Global, count: Count) -> Result<String, Memory>
-    ensures { IfOk result (λ entry. string_bytes entry ≡ count_entry_of count) }
+/// What an option does.
+fn option_about(alloc: Global, option: LineOption) -> Result<String, Memory>
+    ensures { IfOk result (λ about. string_bytes about ≡ option_about_of option) }
 {
-    let front = count_front(count);
-    let line = format!(in alloc; "{front}N")?;
-    let told = count_told(alloc, count)?;
-    entry(alloc, line.as_str(), told.as_str())
+    match option {
+        LineOption::File(role) => Ok(String::from_str(alloc, file_about(role))?),
+        LineOption::Number(count) => count_told(alloc, count),
+        LineOption::Word(flag) => Ok(String::from_str(alloc, flag_about(flag))?),
+    }
 }
 
-/// What is told of an option without a value.
-fn flag_entry(alloc: Global, flag: Flag) -> Result<String, Memory>
-    ensures { IfOk result (λ entry. string_bytes entry ≡ flag_entry_of flag) }
+/// What is told of an option.
+fn option_entry(alloc: Global, option: LineOption) -> Result<String, Memory>
+    ensures { IfOk result (λ entry. string_bytes entry ≡ option_entry_of option) }
 {
-    entry(alloc, flag_word(flag), flag_about(flag))
+    let text = option_text(alloc, option)?;
+    let about = option_about(alloc, option)?;
+    entry(alloc, text.as_str(), about.as_str())
 }
 
 /// A program by its name, its commands, and their options.
@@ -291,9 +283,7 @@ fn flag_entry(alloc: Global, flag: Flag) -> Result<String, Memory>
 struct Manual {
     name: &'static str,
     verbs: &'static [Verb],
-    options: &'static [Role],
-    counts: &'static [Count],
-    flags: &'static [Flag],
+    options: &'static [LineOption],
 }
 
 /// What there is to be told of a program.
@@ -304,23 +294,27 @@ fn told_of(program: Program) -> Manual
         Program::Glass => Manual {
             name: "glass",
             verbs: &VERBS,
-            options: &[Role::Params, Role::Plates, Role::Plan],
-            counts: &[
-                Count::Workers,
-                Count::Budget,
-                Count::Effort,
-                Count::Seconds,
-                Count::Frozen,
-                Count::FrontsLimit,
+            options: &[
+                LineOption::File(Role::Params),
+                LineOption::File(Role::Plates),
+                LineOption::File(Role::Plan),
+                LineOption::Number(Count::Workers),
+                LineOption::Number(Count::Budget),
+                LineOption::Number(Count::Effort),
+                LineOption::Number(Count::Seconds),
+                LineOption::Number(Count::Frozen),
+                LineOption::Number(Count::FrontsLimit),
+                LineOption::Word(Flag::Watch),
+                LineOption::Word(Flag::Fronts),
             ],
-            flags: &[Flag::Watch, Flag::Fronts],
         },
         Program::Picture => Manual {
             name: "glass-picture",
             verbs: &[Verb::Picture],
-            options: &[Role::Params, Role::Plates],
-            counts: &[],
-            flags: &[],
+            options: &[
+                LineOption::File(Role::Params),
+                LineOption::File(Role::Plates),
+            ],
         },
     }
 }
@@ -335,24 +329,14 @@ fn commands_text(alloc: Global, manual: Manual) -> Result<String, Memory>
     Ok(text)
 }
 
-/// Appends what is told of the options of a program.
-fn push_options(alloc: Global, text: &mut String, manual: Manual) -> Result<(), Memory>
-    ensures { OnOk result (string_bytes text.new
-        ≡ string_bytes text.old ++ flat_map option_entry_of manual.options.now
-        ++ flat_map count_entry_of manual.counts.now ++ flat_map flag_entry_of manual.flags.now) }
-{
-    push_each(text, manual.options, |role| option_entry(alloc, role))?;
-    push_each(text, manual.counts, |count| count_entry(alloc, count))?;
-    push_each(text, manual.flags, |flag| flag_entry(alloc, flag))
-}
-
 /// The options of the commands of a program.
-#[tactic(auto, unfolding(crate::specs::Manual::options_text))]
 fn options_text(alloc: Global, manual: Manual) -> Result<String, Memory>
     ensures { IfOk result (λ text. string_bytes text ≡ options_text_of (manual_in manual)) }
 {
     let mut text = String::from_str(alloc, "\noptions, behind the names and in any order:\n")?;
-    push_options(alloc, &mut text, manual)?;
+    push_each(&mut text, manual.options, |option| {
+        option_entry(alloc, option)
+    })?;
     Ok(text)
 }
 

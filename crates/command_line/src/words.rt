@@ -1,15 +1,13 @@
 //! Questions on single words of a command line, and on all words of one kind.
 
-ghost use Rattle.std.specs.Prelude.{◌≡◌, ◌≤◌, ◌||◌, map, count_by, option_map, option_and_then, find, position, slice_get, IfSome};
+ghost use Rattle.std.specs.Prelude.{◌≡◌, ◌≤◌, ◌||◌, map, count_by, option_map, option_and_then, find, nat_le, position, slice_get, IfSome};
 ghost use Rattle.std.specs.List.{list_all, list_any};
 ghost use Rattle.std.specs.String.{string_bytes};
 ghost use Rattle.glass_base.specs.Roles.{is_role};
-ghost use Rattle.command_line.specs.Grammar.{are_options as are_options_of, has_leading_zero as has_leading_zero_of, is_command_option as is_command_option_of, is_flag as is_flag_of, is_number as is_number_of, is_count as is_count_of, is_dash as is_dash_of, is_lead, is_product, lead_value as lead_value_of, name_said as name_said_of, number_within as number_within_of, count_value as count_value_of, is_option_for as is_option_for_of, is_name as is_name_of, is_option as is_option_of, option_name as option_name_of, option_names as option_names_of, setting_of, is_any_of, are_once as are_once_of};
-ghost use Rattle.command_line.specs.inner.Forms.{pattern_in};
+ghost use Rattle.command_line.specs.Grammar.{are_options as are_options_of, has_leading_zero as has_leading_zero_of, is_flag as is_flag_of, is_number as is_number_of, is_count as is_count_of, is_dash as is_dash_of, is_lead, is_product, lead_value as lead_value_of, name_said as name_said_of, number_within as number_within_of, count_value as count_value_of, is_option_for as is_option_for_of, is_name as is_name_of, is_option as is_option_of, option_name as option_name_of, option_names as option_names_of, setting_of, is_any_of as is_any_of_these, is_line_option as is_line_option_of};
 
 use crate::grammar::{
-    Count, Flag, Form, Lead, Product, count_front, count_most, flag_word, lead_least, lead_most,
-    option_front,
+    Count, Flag, Lead, LineOption, Product, flag_word, lead_least, lead_most, option_front,
 };
 use glass_base::{Role, are_digits};
 
@@ -81,30 +79,6 @@ fn is_option(role: Role, word: &str) -> bool
     option_name(role, word).is_some()
 }
 
-/// Whether a word is an option of one of these roles.
-fn is_some_option(roles: &[Role], word: &str) -> bool
-    ensures { result ≡ is_any_of is_option_of roles.now word.now }
-{
-    roles.iter().any(|role| is_option(*role, word))
-}
-
-/// How many words are options of this role.
-fn options_of_role(role: Role, words: &[String]) -> usize
-    ensures { result ≡ count_by (is_option_of role) (map string_bytes words.now) }
-{
-    words
-        .iter()
-        .filter(|word| is_option(role, word.as_str()))
-        .count()
-}
-
-/// Whether each of these roles has one option at the most.
-fn are_once(roles: &[Role], words: &[String]) -> bool
-    ensures { result ≡ are_once_of is_option_of roles.now (map string_bytes words.now) }
-{
-    roles.iter().all(|role| options_of_role(*role, words) <= 1)
-}
-
 /// Whether a zero stands before other digits.
 fn has_leading_zero(text: &[u8]) -> bool
     ensures { result ≡ has_leading_zero_of text.now }
@@ -154,8 +128,9 @@ fn count_value(count: Count, word: &str) -> Option<u32>
     ensures value { result ≡ count_value_of count word.now }
     ensures within { IfSome result (λ n. (1 ≤ n) × (n ≤ (setting_of count).most)) }
 {
-    match word.strip_prefix(count_front(count)) {
-        Some(text) => number_within(1, count_most(count), text),
+    let setting = count.setting();
+    match word.strip_prefix(setting.front) {
+        Some(text) => number_within(1, setting.most, text),
         None => None,
     }
 }
@@ -167,35 +142,11 @@ fn is_count(count: Count, word: &str) -> bool
     count_value(count, word).is_some()
 }
 
-/// Whether a word sets one of these numbers.
-fn is_some_count(counts: &[Count], word: &str) -> bool
-    ensures { result ≡ is_any_of is_count_of counts.now word.now }
-{
-    counts.iter().any(|count| is_count(*count, word))
-}
-
 /// Whether one of the words sets this number.
 pub(crate) fn sets_count(count: Count, words: &[String]) -> bool
     ensures { result ≡ list_any (is_count_of count) (map string_bytes words.now) }
 {
     words.iter().any(|word| is_count(count, word.as_str()))
-}
-
-/// How many words set this number.
-fn counts_of(count: Count, words: &[String]) -> usize
-    ensures { result ≡ count_by (is_count_of count) (map string_bytes words.now) }
-{
-    words
-        .iter()
-        .filter(|word| is_count(count, word.as_str()))
-        .count()
-}
-
-/// Whether each of these numbers is set once at the most.
-fn are_counts_once(counts: &[Count], words: &[String]) -> bool
-    ensures { result ≡ are_once_of is_count_of counts.now (map string_bytes words.now) }
-{
-    counts.iter().all(|count| counts_of(*count, words) <= 1)
 }
 
 /// Whether a word is this option without a value.
@@ -205,30 +156,6 @@ fn is_flag(flag: Flag, word: &str) -> bool
     word == flag_word(flag)
 }
 
-/// Whether a word is one of these options without a value.
-fn is_some_flag(flags: &[Flag], word: &str) -> bool
-    ensures { result ≡ is_any_of is_flag_of flags.now word.now }
-{
-    flags.iter().any(|flag| is_flag(*flag, word))
-}
-
-/// How many words are this option without a value.
-fn flags_of(flag: Flag, words: &[String]) -> usize
-    ensures { result ≡ count_by (is_flag_of flag) (map string_bytes words.now) }
-{
-    words
-        .iter()
-        .filter(|word| is_flag(flag, word.as_str()))
-        .count()
-}
-
-/// Whether each of these options without a value is there once at the most.
-fn are_flags_once(flags: &[Flag], words: &[String]) -> bool
-    ensures { result ≡ are_once_of is_flag_of flags.now (map string_bytes words.now) }
-{
-    flags.iter().all(|flag| flags_of(*flag, words) <= 1)
-}
-
 /// Whether one of the words is this option without a value.
 pub(crate) fn has_flag(flag: Flag, words: &[String]) -> bool
     ensures { result ≡ list_any (is_flag_of flag) (map string_bytes words.now) }
@@ -236,47 +163,73 @@ pub(crate) fn has_flag(flag: Flag, words: &[String]) -> bool
     words.iter().any(|word| is_flag(flag, word.as_str()))
 }
 
-/// Whether a word is one of the options of a command.
-fn is_command_option(form: &Form, word: &str) -> bool
-    ensures { result ≡ is_command_option_of (pattern_in form.now) word.now }
+/// Whether a word is this option: it names a further file that is read, sets a number, or has no value.
+fn is_line_option(option: LineOption, word: &str) -> bool
+    ensures { result ≡ is_line_option_of option word.now }
 {
-    is_some_option(form.options, word)
-        || is_some_count(form.counts, word)
-        || is_some_flag(form.flags, word)
+    match option {
+        LineOption::File(role) => is_option(role, word),
+        LineOption::Number(count) => is_count(count, word),
+        LineOption::Word(flag) => is_flag(flag, word),
+    }
 }
 
-/// Whether each word is one of the options of a command.
-fn are_command_options(form: &Form, words: &[String]) -> bool
-    ensures { result ≡ list_all (is_command_option_of (pattern_in form.now))
-        (map string_bytes words.now) }
+/// Whether a word is one of these options.
+fn is_any_of(options: &[LineOption], word: &str) -> bool
+    ensures { result ≡ is_any_of_these options.now word.now }
+{
+    options.iter().any(|option| is_line_option(*option, word))
+}
+
+/// Whether each word is one of these options.
+fn are_all_of(options: &[LineOption], words: &[String]) -> bool
+    ensures { result ≡ list_all (is_any_of_these options.now) (map string_bytes words.now) }
+{
+    words.iter().all(|word| is_any_of(options, word.as_str()))
+}
+
+/// How many words are this option.
+fn times(option: LineOption, words: &[String]) -> usize
+    ensures { result ≡ count_by (is_line_option_of option) (map string_bytes words.now) }
 {
     words
         .iter()
-        .all(|word| is_command_option(form, word.as_str()))
+        .filter(|word| is_line_option(option, word.as_str()))
+        .count()
 }
 
-/// Whether words are options of a command, each of them once at the most.
-pub(crate) fn are_options(form: &Form, words: &[String]) -> bool
-    ensures { result ≡ are_options_of (pattern_in form.now) (map string_bytes words.now) }
+/// Whether each of these options is there once at the most.
+fn are_once(options: &[LineOption], words: &[String]) -> bool
+    ensures { result ≡ list_all (λ of. nat_le (count_by (is_line_option_of of)
+        (map string_bytes words.now)) 1) options.now }
 {
-    are_command_options(form, words)
-        && are_once(form.options, words)
-        && are_counts_once(form.counts, words)
-        && are_flags_once(form.flags, words)
+    options.iter().all(|option| times(*option, words) <= 1)
 }
 
-/// Whether a word is an option of this role that names this file.
-fn is_option_for(role: Role, name: &str, word: &str) -> bool
-    ensures { result ≡ is_option_for_of role name.now word.now }
+/// Whether words are some of these options, each of them once at the most.
+pub(crate) fn are_options(options: &[LineOption], words: &[String]) -> bool
+    ensures { result ≡ are_options_of options.now (map string_bytes words.now) }
 {
-    option_name(role, word) == Some(name)
+    are_all_of(options, words) && are_once(options, words)
 }
 
-/// Whether an option of one of these roles names this file.
-pub(crate) fn option_names(roles: &[Role], name: &str, word: &str) -> bool
-    ensures { result ≡ option_names_of roles.now name.now word.now }
+/// Whether a word is this option and names this file.
+fn is_option_for(option: LineOption, name: &str, word: &str) -> bool
+    ensures { result ≡ is_option_for_of option name.now word.now }
 {
-    roles.iter().any(|role| is_option_for(*role, name, word))
+    match option {
+        LineOption::File(role) => option_name(role, word) == Some(name),
+        LineOption::Number(_) | LineOption::Word(_) => false,
+    }
+}
+
+/// Whether one of these options names this file.
+pub(crate) fn option_names(options: &[LineOption], name: &str, word: &str) -> bool
+    ensures { result ≡ option_names_of options.now name.now word.now }
+{
+    options
+        .iter()
+        .any(|option| is_option_for(*option, name, word))
 }
 
 /// The place of a role among others.

@@ -11,10 +11,9 @@ ghost use Rattle.run_plans.specs.Verdicts.{verdict_line as verdict_line_of};
 use command_line::Product;
 use cut_model::{Plan, Verdict};
 use glass_base::{Instance, Memory};
-use plan_csv::read_plan;
 use plan_picture::picture;
-use run_frame::{Reply, Status, one_output, refused, reply_with};
-use run_plans::{lawful_line, plan_refusal, unlawful_line, verdict_on};
+use run_frame::{Reply, Status, one_output, reply_at};
+use run_plans::{lawful_line, read_plan_of, unlawful_line, verdict_on};
 use std::alloc::Global;
 
 /// The line that tells what was found of a plan: its loss, or its first breach.
@@ -48,8 +47,8 @@ pub(crate) fn draw_text(alloc: Global, instance: &Instance, bytes: &[u8]) -> Res
     ensures { IfOk result (λ r. (name : Product → List ℕ)
         → DrawsText instance.now (name Product.Picture) bytes.now (answer_in name r)) }
 {
-    match read_plan(alloc, instance, bytes) {
+    match read_plan_of(alloc, instance, bytes) {
         Ok(plan) => draw_plan(alloc, instance, &plan),
-        Err(reason) => Ok(reply_with(alloc, refused(alloc, plan_refusal(reason))?)),
+        Err(stop) => reply_at(alloc, stop),
     }
 }

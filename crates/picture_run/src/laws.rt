@@ -8,9 +8,10 @@ ghost use Rattle.run_frame.specs.Runs.{World};
 ghost use Rattle.run_frame.specs.declared.status.Status.TheVariants as status;
 ghost use Rattle.picture_run.specs.PictureHeadlines.{PictureEnded, StoresPicture};
 
-/// Where the program that draws is done, OUT holds the text of a picture of the plan that PLAN says, stored whole,
-/// and all other names are as before: each row of the plan has exactly one rectangle of a piece in it, in the row's
-/// place and of its size. What is printed is the plan's loss where it is lawful, and else its first breach.
+/// Where the program that draws is done, OUT holds the text of a picture of the plan that PLAN says, stored whole, with exactly one rectangle of a piece for
+/// each row, in the row's place and size and on its plate; the plates stand one below the other, each with its defects, the piece that breaks a rule is
+/// outlined, and the texts tell the loss or the breach, the numbers of plates and items, each plate's sides, and of pieces only what is true of one; all other
+/// names are as before; and what is printed is the plan's loss where it is lawful, and else its first breach.
 pub fn done_pictures_are_true()
     ensures { (words : List (List ℕ)) → (line : Line) → (held : Contents) → (old new : World)
         → PictureEnded words line held old new status.Done → StoresPicture line held old new }

@@ -12,26 +12,26 @@ use Rattle.cert_log.specs.declared.certificate.Certificate.{Certificate}
 use Rattle.cert_log.specs.Good.{IsGood}
 use Rattle.run_frame.specs.Answers.{Answer}
 use Rattle.run_checks.specs.Checks.{Verifies, accepted, root_ranges}
-use Rattle.run_checks.specs.FrozenChecks.{NotAcceptedBehind, VerifiesBehind, VerifiesFrom, loss_behind, raised}
+use Rattle.run_checks.specs.FrozenChecks.{LeavesNone, NotAcceptedBehind, VerifiesBehind, VerifiesFrom, loss_behind, raised}
 use Rattle.run_checks.specs.FrozenChecks.NotAcceptedBehind.{bad_cert, bad_plan, bad_tree, broken_plan, none_left}
 use Rattle.run_checks.specs.Said.{SayBoth}
-use Rattle.run_checks.specs.inner.Checked.{IsAcceptedBehindFor, IsRightBehind, IsUnlawful, IsWrong, IsWrongBehind, LeavesNone, RefusesCertText, RefusesPlanText}
+use Rattle.run_checks.specs.inner.Checked.{IsAcceptedBehindFor, IsRightBehind, IsWrong, IsWrongBehind, RefusesCertText}
+use Rattle.run_plans.specs.Judgements.{TellsBreach, TellsNoPlan}
 use Rattle.run_frame.specs.Forms.{OnTold, Tells}
 use Rattle.run_frame.specs.declared.notices.Stop.{Stop}
-use Rattle.run_frame.specs.declared.notices.Stop.TheVariants as stop
-use Rattle.run_checks.proofs.Accepting.{told_more}
+use Rattle.run_checks.proofs.Accepting.{told_is, told_more}
 
 module _ (b : Problem) (k : ℕ) (plan_text text : List ℕ) (s : Stop) where
-  pub plan_not_accepted : OnTold (RefusesPlanText b (Some plan_text)) s → OnTold (NotAcceptedBehind b k plan_text text) s
-  plan_not_accepted told = told_more (RefusesPlanText b (Some plan_text)) (NotAcceptedBehind b k plan_text text) s (λ answer h. bad_plan h.0 h.1 h.2) told
+  pub plan_not_accepted : OnTold (TellsNoPlan b plan_text) s → OnTold (NotAcceptedBehind b k plan_text text) s
+  plan_not_accepted told = told_more (TellsNoPlan b plan_text) (NotAcceptedBehind b k plan_text text) s (λ answer h. bad_plan h.0 h.1 h.2) told
 
   pub cert_not_accepted : (plan : Forest) → plan_said b plan_text ≡ Ok plan → OnTold (RefusesCertText text) s → OnTold (NotAcceptedBehind b k plan_text text) s
   cert_not_accepted plan said told =
       told_more (RefusesCertText text) (NotAcceptedBehind b k plan_text text) s (λ answer h. bad_cert plan h.0 said h.1 h.2) told
 
-  pub broken_not_accepted : (plan : Forest) (c : Certificate) → SayBoth b (Some plan_text) text (Some plan) c → OnTold (IsUnlawful b (Some plan)) s → OnTold (NotAcceptedBehind b k plan_text text) s
+  pub broken_not_accepted : (plan : Forest) (c : Certificate) → SayBoth b (Some plan_text) text (Some plan) c → OnTold (TellsBreach b plan) s → OnTold (NotAcceptedBehind b k plan_text text) s
   broken_not_accepted plan c said told =
-      told_more (IsUnlawful b (Some plan)) (NotAcceptedBehind b k plan_text text) s (λ answer h. broken_plan plan c h.0 said h.1 h.2 h.3) told
+      told_more (TellsBreach b plan) (NotAcceptedBehind b k plan_text text) s (λ answer h. broken_plan plan c h.0 said h.1 h.2 h.3) told
 
   pub none_not_accepted : (plan : Forest) (c : Certificate) → SayBoth b (Some plan_text) text (Some plan) c → IsLawful b plan → OnTold (LeavesNone plan k) s → OnTold (NotAcceptedBehind b k plan_text text) s
   none_not_accepted plan c said lawful told =
@@ -67,8 +67,7 @@ verifies_behind b k more plan_text text plan c answer told accepts loses is tell
     inl (plan, accepts.0, c, accepts.1, is ∙ tells ∙ ap (λ (n : ℕ). accepted (raised n c)) loses)
 
 pub verifies_none : (b : Problem) (k : ℕ) (plan_text text : List ℕ) (answer : Answer) (s : Stop) → OnTold (NotAcceptedBehind b k plan_text text) s → Tells s answer → VerifiesBehind b k plan_text text answer
-verifies_none b k plan_text text answer stop.Memory refused is = absurd is
-verifies_none b k plan_text text answer (stop.Told notice) refused is = inr (subst (λ (a : Answer). NotAcceptedBehind b k plan_text text a) (sym is) refused)
+verifies_none b k plan_text text answer s refused is = inr (told_is (NotAcceptedBehind b k plan_text text) s answer refused is)
 
 -- the answer where no plate is cut already, and where some are
 pub verifies_all : (k : ℕ) (b : Problem) (plan_text : Option (List ℕ)) (text : List ℕ) (answer : Answer) → k ≡ 0 → Verifies b plan_text text answer → VerifiesFrom k b plan_text text answer

@@ -24,6 +24,10 @@ use Rattle.run_checks.specs.Said.{IsPlanIn, SayBoth}
 abbrev pub all_frozen : ℕ → Forest → Answer
 all_frozen k plan = bad_input role.Plan 16 k (neighbour_count plan)
 
+-- this is the answer, and no plate is left
+abbrev pub LeavesNone : Forest → ℕ → Answer → Type 0
+LeavesNone plan k answer = (neighbour_count plan ≤ k) × (answer ≡ all_frozen k plan)
+
 -- a certificate with this loss added to its loss and to its bound
 abbrev pub raised : ℕ → Certificate → Certificate
 raised more c = record c { loss = option_map (λ n. more + n) c.loss; bound = option_map (λ n. more + n) c.bound }

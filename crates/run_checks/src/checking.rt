@@ -8,7 +8,6 @@ ghost use Rattle.cert_log.specs.Outcomes.{IsReading};
 ghost use Rattle.cert_log.specs.Texts.{cert_text};
 ghost use Rattle.cert_log.specs.Trees.{IsTree};
 ghost use Rattle.run_checks.specs.Checks.{Converts, IsAccepted, IsConverted, IsLawfulPlanIn, IsLawfulToo, NoLawfulPlan, NotAccepted, Verifies, accepted as accepted_of, cert_refusal as cert_refusal_of, converted as converted_of, converted_if_short, loss_in, refused as refused_of, root_ranges, too_long_to_store as too_long_to_store_of};
-ghost use Rattle.run_plans.specs.Judgements.{unlawful as unlawful_of};
 ghost use Rattle.run_checks.specs.Said.{IsPlanIn};
 ghost use Rattle.run_checks.specs.inner.Checked.{IsUnlawful, IsWrong, RefusesCertText, RefusesPlanText};
 ghost use Rattle.run_frame.specs.Forms.{OnTold, answer_in, notice_in};
@@ -18,18 +17,17 @@ use crate::lines::{bound_line, refused_line};
 use cert_check::{Verdict, Why, check_cert, reasoned};
 use cert_log::{BadCert, Certificate, read_cert, write_cert};
 use command_line::Product;
-use cut_model::{Broken, Plan};
+use cut_model::Plan;
 use defect_map::{DefectMap, Ground};
 use front_bound::losses::FrontSearch;
 use front_bound::watch::Watch;
 use glass_base::{Instance, Memory, Role, Run};
 use loss_area::loss;
-use plan_csv::read_plan;
 use run_frame::{
     Notice, Refusal, Reply, Status, Stop, bad_input, limit, numbered, one_output, reply_at,
     reply_with, stop_at,
 };
-use run_plans::{first_breach, plan_refusal, unlawful};
+use run_plans::{lawful, read_plan_of};
 use std::alloc::Global;
 
 /// The refusal of a text that is no certificate, none where memory ran out.
@@ -65,16 +63,6 @@ fn accepted(alloc: Global, certificate: &Certificate) -> Result<Notice, Memory>
     })
 }
 
-/// What is told of a plan that breaks a rule.
-pub(crate) fn stop_at_breach(alloc: Global, broken: &Broken) -> Stop
-    ensures { OnTold (λ answer. answer ≡ unlawful_of broken.now) result }
-{
-    match unlawful(alloc, broken) {
-        Ok(notice) => Stop::Told(notice),
-        Err(memory) => Stop::from(memory),
-    }
-}
-
 /// What is told of a certificate that fails this check.
 fn stop_at_check(alloc: Global, line: u64, why: Why) -> Stop
     ensures { OnTold (λ answer. answer ≡ refused_of line why) result }
@@ -96,12 +84,9 @@ fn read_plan_in(
         (OnTold (RefusesPlanText instance.now (option_map (λ bytes. bytes.now) text.entry))) }
     ensures fits { IfOk result FitsToo }
 {
-    let Some(bytes) = text else {
-        return Ok(None);
-    };
-    match read_plan(alloc, instance, bytes) {
-        Ok(plan) => Ok(Some(plan)),
-        Err(reason) => Err(stop_at(alloc, plan_refusal(reason))),
+    match text {
+        None => Ok(None),
+        Some(bytes) => Ok(Some(read_plan_of(alloc, instance, bytes)?)),
     }
 }
 
@@ -125,12 +110,9 @@ fn judge_plan_in(alloc: Global, ground: Ground<'_>, plan: &Option<Plan>) -> Resu
         MatchResult result (λ _. IsLawfulToo b (option_map tree plan.now))
         (OnTold (IsUnlawful b (option_map tree plan.now))) }
 {
-    let Some(plan) = plan else {
-        return Ok(());
-    };
-    match first_breach(alloc, ground, plan)? {
+    match plan {
         None => Ok(()),
-        Some(broken) => Err(stop_at_breach(alloc, &broken)),
+        Some(plan) => lawful(alloc, ground, plan),
     }
 }
 

@@ -1,18 +1,17 @@
 //! What `verify` answers where the first plates of the plan are cut already.
 
-ghost use Rattle.std.specs.Prelude.{◌≡◌, ◌⊎◌, ◌+◌, ◌<◌, ◌≤◌, ◌^◌, ℕ, List, [], Some, Ok, IfOk, IfSome, MatchResult, option_map, unwrap_or};
+ghost use Rattle.std.specs.Prelude.{◌≡◌, ◌⊎◌, ◌+◌, ◌<◌, ◌≤◌, ◌^◌, ℕ, List, [], IfOk, IfSome, MatchResult, option_map, unwrap_or};
 ghost use Rattle.cut_model.specs.Fits.{Fits};
 ghost use Rattle.cut_model.specs.Lawful.{IsLawful};
 ghost use Rattle.cut_model.specs.Tree.{neighbour_count, tree};
 ghost use Rattle.cert_log.specs.Good.{HasVersion};
 ghost use Rattle.cert_log.specs.Trees.{IsTree};
-ghost use Rattle.plan_csv.specs.PlanTexts.{plan_said};
 ghost use Rattle.run_checks.specs.Checks.{accepted as accepted_of};
-ghost use Rattle.run_checks.specs.FrozenChecks.{NotAcceptedBehind, VerifiesBehind, VerifiesFrom, raised as raised_of};
-ghost use Rattle.run_checks.specs.inner.Checked.{IsAcceptedBehindFor, IsRightBehind, IsUnlawful, IsWrongBehind, LeavesNone, RefusesPlanText};
+ghost use Rattle.run_checks.specs.FrozenChecks.{LeavesNone, NotAcceptedBehind, VerifiesBehind, VerifiesFrom, raised as raised_of};
+ghost use Rattle.run_checks.specs.inner.Checked.{IsAcceptedBehindFor, IsRightBehind, IsWrongBehind};
 ghost use Rattle.run_frame.specs.Forms.{OnTold, answer_in, notice_in};
 
-use crate::checking::{check_cert_in, read_cert_in, stop_at_breach, verify_texts};
+use crate::checking::{check_cert_in, read_cert_in, verify_texts};
 use crate::lines::line_with_bound;
 use cert_log::Certificate;
 use command_line::Product;
@@ -22,36 +21,10 @@ use front_bound::losses::FrontSearch;
 use front_bound::watch::Watch;
 use glass_base::{Instance, Memory, Role};
 use loss_area::loss;
-use plan_csv::read_plan;
 use plan_freeze::{frozen_loss, rest};
 use run_frame::{Notice, Reply, Status, Stop, numbered, reply_at, reply_with, stop_at};
-use run_plans::{first_breach, plan_refusal};
+use run_plans::{lawful, read_plan_of};
 use std::alloc::Global;
-
-/// The plan that a text says.
-fn read_whole(alloc: Global, instance: &Instance, bytes: &[u8]) -> Result<Plan, Stop>
-    ensures plan { MatchResult result (λ plan. plan_said instance.now bytes.now
-        ≡ Ok (tree plan)) (OnTold (RefusesPlanText instance.now (Some bytes.now))) }
-    ensures fits { IfOk result (λ plan. Fits (tree plan)) }
-{
-    match read_plan(alloc, instance, bytes) {
-        Ok(plan) => Ok(plan),
-        Err(reason) => Err(stop_at(alloc, plan_refusal(reason))),
-    }
-}
-
-/// Goes on where a plan is lawful.
-fn judge_whole(alloc: Global, ground: Ground<'_>, plan: &Plan) -> Result<(), Stop>
-    requires fits { Fits (tree plan.now) }
-    ensures { let b = ground.entry.instance.now in
-        MatchResult result (λ _. IsLawful b (tree plan.now))
-        (OnTold (IsUnlawful b (Some (tree plan.now)))) }
-{
-    match first_breach(alloc, ground, plan)? {
-        None => Ok(()),
-        Some(broken) => Err(stop_at_breach(alloc, &broken)),
-    }
-}
 
 /// What is told of a plan that has no more than `k` plates.
 fn stop_at_last(alloc: Global, plan: &Plan, k: u32) -> Stop
@@ -65,7 +38,7 @@ fn stop_at_last(alloc: Global, plan: &Plan, k: u32) -> Stop
 }
 
 /// Goes on where a plan has more than `k` plates.
-fn leaves_some(alloc: Global, plan: &Plan, k: u32) -> Result<(), Stop>
+pub fn leaves_some(alloc: Global, plan: &Plan, k: u32) -> Result<(), Stop>
     ensures { MatchResult result (λ _. k < neighbour_count (tree plan.now))
         (OnTold (LeavesNone (tree plan.now) k)) }
 {
@@ -125,9 +98,9 @@ fn accepted_behind<W: Watch>(
         (tree a.plan) a.certificate) (OnTold (NotAcceptedBehind b k plan_text.now cert_text.now)) }
     ensures fits { IfOk result (λ a. Fits (tree a.plan)) }
 {
-    let plan = read_whole(alloc, ground.instance, plan_text)?;
+    let plan = read_plan_of(alloc, ground.instance, plan_text)?;
     let certificate = read_cert_in(alloc, cert_text)?;
-    judge_whole(alloc, ground, &plan)?;
+    lawful(alloc, ground, &plan)?;
     leaves_some(alloc, &plan, k)?;
     check_behind(alloc, ground.instance, &plan, k, &certificate, search)?;
     Ok(CheckedBehind { plan, certificate })

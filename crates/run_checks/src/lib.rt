@@ -7,5 +7,5 @@ pub mod laws;
 pub mod lines;
 
 pub use checking::{Checked, accepted_texts, convert_texts, lawful_plan_in, too_long_to_store};
-pub use checking_behind::{raised, verify_from};
+pub use checking_behind::{leaves_some, raised, verify_from};
 pub use lines::number_or_none;

@@ -41,11 +41,13 @@ IsFirstBroken b plan broken =
     ⊎ (All (KeepsCutRules b) (families_of b plan)
     × IsOrderBreach b (cuts_of b.items (rows_of b plan)) (plate_rows (rows_of b plan)) broken)
 
+-- the answer to a plan that is not lawful: its first breach
+abbrev pub TellsBreach : Problem → Forest → Answer → Type 0
+TellsBreach b plan answer = (broken : Broken) × ¬ IsLawful b plan × IsFirstBroken b plan broken × (answer ≡ unlawful broken)
+
 -- the answer to a plan: its loss exactly where it is lawful, else its first breach
 abbrev pub Judges : Problem → Forest → Answer → Type 0
-Judges b plan answer =
-    (IsLawful b plan × (answer ≡ lawful (loss_of b plan)))
-    ⊎ ((broken : Broken) × (¬ IsLawful b plan) × IsFirstBroken b plan broken × (answer ≡ unlawful broken))
+Judges b plan answer = (IsLawful b plan × (answer ≡ lawful (loss_of b plan))) ⊎ TellsBreach b plan answer
 
 -- the refusals of a text that is no plan
 abbrev pub plan_refusal : BadPlan → Option Refusal
@@ -60,6 +62,10 @@ plan_refusal (bad_plan.Kind row) = refusal role.Plan 25 row 0
 -- the answer to a text that is no plan
 abbrev pub PlanRefused : BadPlan → Answer → Type 0
 PlanRefused reason answer = Refused (plan_refusal reason) answer
+
+-- the answer to a text that says no plan
+abbrev pub TellsNoPlan : Problem → List ℕ → Answer → Type 0
+TellsNoPlan b text answer = (reason : BadPlan) × (plan_said b text ≡ Err reason) × PlanRefused reason answer
 
 -- the answer to the plan that was said, or to its refusal
 abbrev pub JudgesSaid : Problem → Result Forest BadPlan → Answer → Type 0

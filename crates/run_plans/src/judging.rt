@@ -22,7 +22,7 @@ use stack_order::judge_order;
 use std::alloc::Global;
 
 /// The notice of a plan that breaks a rule.
-pub fn unlawful(alloc: Global, broken: &Broken) -> Result<Notice, Memory>
+pub(crate) fn unlawful_notice(alloc: Global, broken: &Broken) -> Result<Notice, Memory>
     ensures { IfOk result (λ n. notice_in n ≡ unlawful_of broken.now) }
 {
     Ok(Notice {
@@ -32,7 +32,7 @@ pub fn unlawful(alloc: Global, broken: &Broken) -> Result<Notice, Memory>
 }
 
 /// The notice of a lawful plan of this loss.
-fn lawful(alloc: Global, loss: u64) -> Result<Notice, Memory>
+fn lawful_notice(alloc: Global, loss: u64) -> Result<Notice, Memory>
     ensures { IfOk result (λ n. notice_in n ≡ lawful_of loss) }
 {
     Ok(Notice {
@@ -42,7 +42,7 @@ fn lawful(alloc: Global, loss: u64) -> Result<Notice, Memory>
 }
 
 /// The refusal of a text that is no plan, none where memory ran out.
-pub fn plan_refusal(reason: BadPlan) -> Option<Refusal>
+pub(crate) fn plan_refusal(reason: BadPlan) -> Option<Refusal>
     ensures { result ≡ plan_refusal_of reason }
 {
     match reason {
@@ -69,7 +69,7 @@ fn order_breach(alloc: Global, instance: &Instance, plan: &Plan) -> Result<Optio
 }
 
 /// The first breach of a plan, if there is one. The rules on cuts come before those on the order of items.
-pub fn first_breach(
+pub(crate) fn first_breach(
     alloc: Global,
     ground: Ground<'_>,
     plan: &Plan,
@@ -108,8 +108,8 @@ fn judge_plan(alloc: Global, instance: &Instance, plan: &Plan) -> Result<Notice,
     ensures { IfOk result (λ n. Judges instance.now (tree plan.now) (notice_in n)) }
 {
     match verdict_on(alloc, instance, plan)? {
-        Verdict::Lawful(loss) => lawful(alloc, loss),
-        Verdict::Broken(broken) => unlawful(alloc, &broken),
+        Verdict::Lawful(loss) => lawful_notice(alloc, loss),
+        Verdict::Broken(broken) => unlawful_notice(alloc, &broken),
     }
 }
 

@@ -6,12 +6,14 @@ pub mod drafting;
 pub mod instances;
 pub mod judging;
 pub mod lines;
+pub mod reading;
 pub mod replaying;
 pub mod sheeting;
 
 pub use drafting::draft_instance;
 pub use instances::instance_of;
-pub use judging::{first_breach, judge_text, plan_refusal, unlawful, verdict_on};
+pub use judging::{judge_text, verdict_on};
 pub use lines::{lawful_line, unlawful_line};
+pub use reading::{lawful, read_plan_of};
 pub use replaying::replay_text;
 pub use sheeting::sheet_text;

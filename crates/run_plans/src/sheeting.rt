@@ -1,22 +1,21 @@
 //! What `sheet` answers to an instance and the text of a plan.
 
-ghost use Rattle.std.specs.Prelude.{◌≡◌, [], ℕ, List, IfOk};
+ghost use Rattle.std.specs.Prelude.{◌≡◌, [], ℕ, List, IfOk, MatchResult};
 ghost use Rattle.cut_model.specs.Fits.{Fits};
 ghost use Rattle.cut_model.specs.Lawful.{IsLawful};
 ghost use Rattle.cut_model.specs.Tree.{tree};
 ghost use Rattle.cut_sheet.specs.Sheets.{sheet_in};
-ghost use Rattle.run_plans.specs.Sheets.{Sheets, SheetsText, sheeted};
-ghost use Rattle.run_frame.specs.Forms.{answer_in};
+ghost use Rattle.run_plans.specs.Sheets.{SheetsText, sheeted};
+ghost use Rattle.run_frame.specs.Forms.{OnTold, answer_in};
 
-use crate::judging::{first_breach, plan_refusal, unlawful};
 use crate::lines::instructions_line;
+use crate::reading::{lawful, read_plan_of};
 use command_line::Product;
 use cut_model::Plan;
 use cut_sheet::{sheet_of, write_sheet};
 use defect_map::{DefectMap, Ground};
 use glass_base::{Instance, Memory};
-use plan_csv::read_plan;
-use run_frame::{Reply, Status, one_output, refused, reply_with};
+use run_frame::{Reply, Status, Stop, one_output, reply_at};
 use std::alloc::Global;
 
 /// The reply that stores the sheet of a lawful plan, and tells how many instructions it has.
@@ -37,34 +36,30 @@ fn store_sheet(alloc: Global, instance: &Instance, plan: &Plan) -> Result<Reply,
     })
 }
 
-/// The reply to a plan: its sheet is stored where it is lawful, and else its first breach is told.
-fn sheet_plan(alloc: Global, instance: &Instance, plan: &Plan) -> Result<Reply, Memory>
-    requires { Fits (tree plan.now) }
-    ensures { IfOk result (λ r. (name : Product → List ℕ)
-        → Sheets instance.now (name Product.Sheet) (tree plan.now) (answer_in name r)) }
+/// The reply that stores the sheet of the plan that a text says, where it is lawful; or what is told of the text, or of the plan.
+fn store_sheet_of(alloc: Global, ground: Ground<'_>, bytes: &[u8]) -> Result<Reply, Stop>
+    ensures { let b = ground.entry.instance.now in
+        MatchResult result (λ r. (name : Product → List ℕ)
+        → SheetsText b (name Product.Sheet) bytes.now (answer_in name r))
+        (OnTold (λ answer. (name : List ℕ) → SheetsText b name bytes.now answer)) }
 {
-    let map = DefectMap::new(alloc, instance)?;
-    let breach = first_breach(
-        alloc,
-        Ground {
-            instance,
-            map: &map,
-        },
-        plan,
-    )?;
-    match breach {
-        None => store_sheet(alloc, instance, plan),
-        Some(broken) => Ok(reply_with(alloc, unlawful(alloc, &broken)?)),
-    }
+    let plan = read_plan_of(alloc, ground.instance, bytes)?;
+    lawful(alloc, ground, &plan)?;
+    Ok(store_sheet(alloc, ground.instance, &plan)?)
 }
 
-/// The reply to the text of a plan of this instance.
+/// The reply to the text of a plan of this instance: its sheet is stored where it is lawful.
 pub fn sheet_text(alloc: Global, instance: &Instance, bytes: &[u8]) -> Result<Reply, Memory>
     ensures { IfOk result (λ r. (name : Product → List ℕ)
         → SheetsText instance.now (name Product.Sheet) bytes.now (answer_in name r)) }
 {
-    match read_plan(alloc, instance, bytes) {
-        Ok(plan) => sheet_plan(alloc, instance, &plan),
-        Err(reason) => Ok(reply_with(alloc, refused(alloc, plan_refusal(reason))?)),
+    let map = DefectMap::new(alloc, instance)?;
+    let ground = Ground {
+        instance,
+        map: &map,
+    };
+    match store_sheet_of(alloc, ground, bytes) {
+        Ok(reply) => Ok(reply),
+        Err(stop) => reply_at(alloc, stop),
     }
 }

@@ -24,18 +24,19 @@ use Rattle.cert_log.specs.Texts.{cert_text, head_of}
 use Rattle.cert_log.proofs.Covers.{bounds_each_plan}
 use Rattle.cert_log.proofs.Versions.{has_version}
 use Rattle.run_frame.specs.Answers.{Answer}
+use Rattle.run_frame.specs.Forms.{OnTold, notice_in}
+use Rattle.run_frame.specs.declared.notices.Stop.{Stop}
+use Rattle.run_frame.specs.declared.notices.Stop.TheVariants as stop
 use Rattle.run_search.specs.Freezes.{Freezes, FreezesPlan, FreezesSaid, IsFoundFrom, frozen_if_short}
 use Rattle.run_search.specs.Freezes.FreezesPlan.{broken_plan}
-use Rattle.run_plans.specs.Judgements.{unlawful}
+use Rattle.run_plans.specs.Judgements.{TellsBreach}
 use Rattle.run_search.specs.Plans.{HasLoss}
 use Rattle.run_checks.specs.Checks.{root_ranges}
 use Rattle.run_checks.specs.Said.{SayBoth}
-use Rattle.run_plans.specs.Breaches.{IsBreachIfAny}
 use Rattle.plan_csv.specs.Solutions.{solution_text}
 use Rattle.plan_csv.specs.declared.bad_plan.BadPlan.{BadPlan}
 use Rattle.plan_csv.proofs.AddedUp.{plan_within}
 use Rattle.plan_csv.proofs.ReadAgain.{read_again}
-use Rattle.cut_model.specs.declared.broken.Broken.{Broken}
 use Rattle.run_search.specs.inner.Searches.{Certifies, IsFoundBehind, IsHistoryFrom}
 use Rattle.run_checks.proofs.RaisedBounds.{loss_small, raises_some}
 use Rattle.run_search.proofs.Searched.{known, names_causes, of_search}
@@ -136,13 +137,13 @@ freezes b plan k budget more fronts c best whole out cert answer rules lawful fe
   answer_is = told ∙ ap (λ (n : ℕ). frozen_if_short b out cert n c (tree whole)) loses ∙ ap (frozen_if_short b out cert (frozen_loss b plan k) c) glued;
 }
 
--- the answer to a plan that breaks a rule
-pub broken_told : (b : Problem) (plan : Forest) (k budget : ℕ) (fronts : Bool) (broken : Broken) (found : Option Broken) (out cert : List ℕ) (answer told : Answer) → IsBreachIfAny b plan found → found ≡ Some broken → answer ≡ told → told ≡ unlawful broken →
-    FreezesPlan b k budget fronts plan out cert answer
-broken_told b plan k budget fronts broken found out cert answer told any is same tells =
-    let breach = subst (IsBreachIfAny b plan) is any in
-    broken_plan broken breach.0 breach.1 (same ∙ tells)
-
 -- the answer to the plan that was said
 pub said_plan : (b : Problem) (plan : Forest) (k budget : ℕ) (fronts : Bool) (said : Result Forest BadPlan) (out cert : List ℕ) (answer : Answer) → said ≡ Ok plan → FreezesPlan b k budget fronts plan out cert answer → FreezesSaid b k budget fronts said out cert answer
 said_plan b plan k budget fronts said out cert answer is h = rw is h
+
+-- what is told of one that breaks a rule
+pub broken_told : (b : Problem) (plan : Forest) (k budget : ℕ) (fronts : Bool) (said : Result Forest BadPlan) (s : Stop) → said ≡ Ok plan → OnTold (TellsBreach b plan) s →
+    OnTold (λ answer. (out cert : List ℕ) → FreezesSaid b k budget fronts said out cert answer) s
+broken_told b plan k budget fronts said stop.Memory is told = tt
+broken_told b plan k budget fronts said (stop.Told notice) is told =
+    λ out cert. said_plan b plan k budget fronts said out cert (notice_in notice) is (broken_plan told.0 told.1 told.2 told.3)

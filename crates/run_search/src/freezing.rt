@@ -1,6 +1,6 @@
 //! What `freeze` answers to an instance and the text of a plan.
 
-ghost use Rattle.std.specs.Prelude.{◌≡◌, ◌+◌, ◌*◌, ◌<◌, ◌≤◌, ◌^◌, [], ◌∷◌, ℕ, List, length, IfOk, IfSome, map, option_map};
+ghost use Rattle.std.specs.Prelude.{◌≡◌, ◌+◌, ◌*◌, ◌<◌, ◌≤◌, ◌^◌, [], ◌∷◌, ℕ, List, length, IfOk, IfSome, MatchResult, map, option_map};
 ghost use Rattle.cut_model.specs.Fits.{Fits};
 ghost use Rattle.cut_model.specs.Lawful.{IsLawful};
 ghost use Rattle.cut_model.specs.Tree.{count, neighbour_count, tree};
@@ -9,8 +9,8 @@ ghost use Rattle.cert_log.specs.Outcomes.{IsHead};
 ghost use Rattle.cert_log.specs.Texts.{cert_text, head_of};
 ghost use Rattle.plan_csv.specs.PlanTexts.{plan_said};
 ghost use Rattle.plan_csv.specs.Solutions.{solution_text};
-ghost use Rattle.run_search.specs.Freezes.{Freezes, FreezesPlan, FreezesSaid, FreezesWithin, IsFoundFrom, frozen_if_short, frozen_planned};
-ghost use Rattle.run_frame.specs.Forms.{answer_in, store_in};
+ghost use Rattle.run_search.specs.Freezes.{Freezes, FreezesSaid, FreezesWithin, IsFoundFrom, frozen_if_short, frozen_planned};
+ghost use Rattle.run_frame.specs.Forms.{OnTold, answer_in, store_in};
 ghost use Rattle.run_search.specs.inner.Searches.{IsFoundBehind, IsHistoryFrom};
 
 use crate::lines::six_lines;
@@ -24,12 +24,12 @@ use command_line::Product;
 use cut_model::{Plan, plates_used};
 use defect_map::{DefectMap, Ground};
 use glass_base::{Instance, Memory, Role, Run, append};
-use plan_csv::{read_plan, write_plan};
+use plan_csv::write_plan;
 use plan_freeze::{frozen_loss, glue, rest};
 use plan_trace::trace_of;
-use run_checks::{raised, too_long_to_store};
-use run_frame::{Output, Reply, bad_input, limit, refused, reply_with};
-use run_plans::{first_breach, plan_refusal, unlawful};
+use run_checks::{leaves_some, raised, too_long_to_store};
+use run_frame::{Output, Reply, Stop, bad_input, limit, reply_at, reply_with};
+use run_plans::{lawful, read_plan_of};
 use std::alloc::Global;
 use std::sync::Wait;
 use std::thread::Threads;
@@ -227,57 +227,27 @@ fn plan_behind<R: Threads + Wait + Sync, G: Gate + Sync>(
     reply_with_whole(alloc, instance, &found.certificate, &whole, more)
 }
 
-/// The reply to a plan: its first breach, a refusal where it has no more than `k` plates, or what a search finds behind these.
-fn freeze_plan<R: Threads + Wait + Sync, G: Gate + Sync>(
+/// The reply to the plan that a text says, where it is lawful and has more than `k` plates: what a search finds behind these; or what is told of the
+/// first that fails: the text, the plan, its number of plates.
+fn freeze_plan_of<R: Threads + Wait + Sync, G: Gate + Sync>(
     alloc: Global,
     workforce: &Workforce<'_, R, G>,
-    instance: &Instance,
-    plan: &Plan,
-    k: u32,
-    opening: Opening,
-) -> Result<Reply, Memory>
-    requires fits { Fits (tree plan.now) }
-    requires rows { count (tree plan.now) ≤ 1000000000 }
-    ensures { IfOk result (λ r. (name : Product → List ℕ)
-        → FreezesPlan instance.now k workforce.now.budget opening.fronts (tree plan.now) (name Product.Plan)
-        (name Product.Certificate) (answer_in name r)) }
-{
-    let map = DefectMap::new(alloc, instance)?;
-    if let Some(broken) = first_breach(
-        alloc,
-        Ground {
-            instance,
-            map: &map,
-        },
-        plan,
-    )? {
-        return Ok(reply_with(alloc, unlawful(alloc, &broken)?));
-    }
-    let plates = plates_used(plan);
-    if u64::from(k) >= plates {
-        let notice = bad_input(alloc, Role::Plan, 16, u64::from(k), plates)?;
-        return Ok(reply_with(alloc, notice));
-    }
-    plan_behind(alloc, workforce, instance, plan, k, opening)
-}
-
-/// The reply to the plan that a text says, or to its refusal.
-fn freeze_said<R: Threads + Wait + Sync, G: Gate + Sync>(
-    alloc: Global,
-    workforce: &Workforce<'_, R, G>,
-    instance: &Instance,
+    ground: Ground<'_>,
     bytes: &[u8],
     k: u32,
     opening: Opening,
-) -> Result<Reply, Memory>
-    ensures { IfOk result (λ r. (name : Product → List ℕ)
-        → FreezesSaid instance.now k workforce.now.budget opening.fronts (plan_said instance.now bytes.now)
-        (name Product.Plan) (name Product.Certificate) (answer_in name r)) }
+) -> Result<Reply, Stop>
+    ensures { let b = ground.entry.instance.now in
+        MatchResult result (λ r. (name : Product → List ℕ)
+        → FreezesSaid b k workforce.now.budget opening.fronts (plan_said b bytes.now)
+        (name Product.Plan) (name Product.Certificate) (answer_in name r))
+        (OnTold (λ answer. (out cert : List ℕ)
+        → FreezesSaid b k workforce.now.budget opening.fronts (plan_said b bytes.now) out cert answer)) }
 {
-    match read_plan(alloc, instance, bytes) {
-        Ok(plan) => freeze_plan(alloc, workforce, instance, &plan, k, opening),
-        Err(reason) => Ok(reply_with(alloc, refused(alloc, plan_refusal(reason))?)),
-    }
+    let plan = read_plan_of(alloc, ground.instance, bytes)?;
+    lawful(alloc, ground, &plan)?;
+    leaves_some(alloc, &plan, k)?;
+    Ok(plan_behind(alloc, workforce, ground.instance, &plan, k, opening)?)
 }
 
 /// The reply to the text of a plan: its first `k` plates stay as they are, and the best plan that a search finds stands behind them; or a
@@ -300,5 +270,13 @@ pub fn freeze_text<R: Threads + Wait + Sync, G: Gate + Sync>(
         let notice = bad_input(alloc, Role::Batch, 9, items, u64::from(workforce.budget))?;
         return Ok(reply_with(alloc, notice));
     }
-    freeze_said(alloc, workforce, instance, bytes, k, opening)
+    let map = DefectMap::new(alloc, instance)?;
+    let ground = Ground {
+        instance,
+        map: &map,
+    };
+    match freeze_plan_of(alloc, workforce, ground, bytes, k, opening) {
+        Ok(reply) => Ok(reply),
+        Err(stop) => reply_at(alloc, stop),
+    }
 }

@@ -4,4 +4,4 @@ use Rattle.command_line.specs.declared.manual.Manual.{Manual}
 
 -- the program that a table tells of
 abbrev pub manual_in : Manual → ManualOf
-manual_in m = record { name = m.name.now; verbs = m.verbs.now; options = m.options.now; counts = m.counts.now; flags = m.flags.now }
+manual_in m = record { name = m.name.now; verbs = m.verbs.now; options = m.options.now }

@@ -1,11 +1,8 @@
 -- The parts of a check of a plan and a certificate.
-use Rattle.std.specs.Prelude.{◌≡◌, ◌≤◌, ◌++◌, ℕ, List, Option, Some, None, Err, codes}
+use Rattle.std.specs.Prelude.{◌≡◌, ◌++◌, ℕ, List, Option, Some, None, Err, codes}
 use Rattle.std.specs.Fmt.{decimal}
 use Rattle.glass_base.specs.Problem.{Problem}
-use Rattle.cut_model.specs.declared.broken.Broken.{Broken}
-use Rattle.cut_model.specs.Lawful.{IsLawful}
-use Rattle.cut_model.specs.Tree.{Forest, neighbour_count}
-use Rattle.plan_csv.specs.declared.bad_plan.BadPlan.{BadPlan}
+use Rattle.cut_model.specs.Tree.{Forest}
 use Rattle.plan_freeze.specs.Rests.{IsRest}
 use Rattle.cert_log.specs.declared.bad_cert.BadCert.{BadCert}
 use Rattle.cert_log.specs.declared.certificate.Certificate.{Certificate}
@@ -15,13 +12,14 @@ use Rattle.cert_log.specs.Texts.{loss_text}
 use Rattle.cert_check.specs.declared.verdict.Why.{Why}
 use Rattle.cert_check.specs.Faults.{IsFirstFault, SaysWrong}
 use Rattle.run_frame.specs.Answers.{Answer}
-use Rattle.run_checks.specs.Checks.{CertRefused, IsAccepted, RefusesPlan, refused, root_ranges}
-use Rattle.run_checks.specs.FrozenChecks.{IsAcceptedBehind, all_frozen, loss_behind}
-use Rattle.run_plans.specs.Judgements.{IsFirstBroken, PlanRefused, unlawful}
+use Rattle.run_checks.specs.Checks.{CertRefused, IsAccepted, refused, root_ranges}
+use Rattle.run_checks.specs.FrozenChecks.{IsAcceptedBehind, loss_behind}
+use Rattle.run_plans.specs.Judgements.{TellsBreach, TellsNoPlan}
 
 -- the answer to the text of a plan that is refused
 abbrev pub RefusesPlanText : Problem → Option (List ℕ) → Answer → Type 0
-RefusesPlanText b text answer = (reason : BadPlan) × RefusesPlan b text reason × PlanRefused reason answer
+RefusesPlanText b None answer = ⊥
+RefusesPlanText b (Some text) answer = TellsNoPlan b text answer
 
 -- the answer to the text of a certificate that is refused
 abbrev pub RefusesCertText : List ℕ → Answer → Type 0
@@ -30,7 +28,7 @@ RefusesCertText text answer = (reason : BadCert) × IsReading text (Err reason) 
 -- the answer to a plan that is not lawful
 abbrev pub IsUnlawful : Problem → Option Forest → Answer → Type 0
 IsUnlawful b None answer = ⊥
-IsUnlawful b (Some plan) answer = (broken : Broken) × ¬ IsLawful b plan × IsFirstBroken b plan broken × (answer ≡ unlawful broken)
+IsUnlawful b (Some plan) answer = TellsBreach b plan answer
 
 -- the answer to a certificate that is not right
 abbrev pub IsWrong : Problem → Option ℕ → Certificate → Answer → Type 0
@@ -39,10 +37,6 @@ IsWrong b loss c answer = (line : ℕ) × (why : Why) × SaysWrong b (root_range
 -- the certificate is accepted with the plan that the text says, or without one
 abbrev pub IsAcceptedFor : Problem → Option (List ℕ) → List ℕ → Certificate → Type 0
 IsAcceptedFor b plan_text cert_text c = (plan : Option Forest) × IsAccepted b plan_text cert_text plan c
-
--- the answer to a plan that has no more plates than these
-abbrev pub LeavesNone : Forest → ℕ → Answer → Type 0
-LeavesNone plan k answer = (neighbour_count plan ≤ k) × (answer ≡ all_frozen k plan)
 
 -- a certificate is right for the instance that is left behind the first plates of a plan, and for what the plan loses there
 abbrev pub IsRightBehind : Problem → Forest → ℕ → Certificate → Type 0
