@@ -1,21 +1,18 @@
 #!/usr/bin/env python3
-"""Says of each must-fail edit in which function it plants its mistake, and what of that function's contract refuses it.
+"""Prints a table for each crate: in which function each must-fail edit plants its mistake, and by what it is refused.
 
-    bench/edits.py                  the table of docs/EDITS.md
-    bench/edits.py < LOG            the same, with the goal that refused each edit, from what `rt must-fail` printed
-
-The function is the one around the first line that the edit changes; its clauses are named as its contract names them. A mistake in a function without a
-contract of its own (a closure, a loop's helper, a constant) is refused by those that call it, and a method of a trait by what the trait says of it. What is
-claimed of a worked example (a file of proofs) is refused by the definition, computed.
+The function is the one around the first line that the edit changes; what refuses it are the clauses of its contract, as it
+names them. A mistake in a function without a contract of its own (a closure, a loop's helper, a constant) is refused by
+those that call it, and a method of a trait by what the trait says of it. What is claimed of a worked example (a file of
+proofs) is refused by the definition, computed.
 """
 import os
 import re
-import sys
 
 TOP = os.path.join(os.path.dirname(os.path.abspath(__file__)), "..", "crates")
 FUNCTION = re.compile(r"^(\s*)(?:pub(?:\(crate\))? )?fn (\w+)")
 CLAUSE = re.compile(r"^\s*ensures\s*(\w*)\s*\{")
-ONE = "its one clause"
+ONE = "its clause"
 
 
 def edit(path):
@@ -49,38 +46,26 @@ def around(text, old):
     return None, []
 
 
-def refusals(log):
-    """The goal that refused each edit, by crate and name."""
-    found = {}
-    for line in log:
-        told = re.search(r"must-fail (\w+)/(\w+)\.edit: refused, as it must be: (.*)", line)
-        if told:
-            goal = re.search(r"`((?:returns|loop|invariant|[\w-]+-requires)[\w-]*)`", told.group(3))
-            found[(told.group(1), told.group(2))] = goal.group(1) if goal else ""
-    return found
-
-
-def main():
-    told = refusals(sys.stdin) if not sys.stdin.isatty() else {}
+def tables():
+    """The lines of the tables, a table for each crate and a row for each function."""
     for crate in sorted(os.listdir(TOP)):
         folder = os.path.join(TOP, crate, "must-fail")
         edits = sorted(name for name in os.listdir(folder) if name.endswith(".edit")) if os.path.isdir(folder) else []
-        if edits:
-            print(f"\n| `{crate}` ({len(edits)}) | In | Refused by |\n|---|---|---|")
+        rows = {}
         for name in edits:
             file, old = edit(os.path.join(folder, name))
             with open(os.path.join(TOP, crate, file), encoding="utf-8") as source:
                 function, clauses = around(source.read(), old)
-            goal = told.get((crate, name[:-5]), "")
             module = os.path.splitext(os.path.basename(file))[0]
             where = f"`{module}::{function}`" if function else f"`{module}`"
             claimed = file.startswith("proofs/")
-            what = "the definition, computed" if claimed else ", ".join(clauses) if clauses else "what the callers ensure"
-            if what == ONE:
-                refused = f"`{goal}`" if goal else ONE
-            else:
-                refused = f"{what} (`{goal}`)" if goal else what
-            print(f"| {name[:-5].replace('_', ' ')} | {where} | {refused} |")
+            refused = "the definition, computed" if claimed else ", ".join(clauses) if clauses else "its callers"
+            rows.setdefault((where, refused), []).append(name[:-5].replace("_", " "))
+        if rows:
+            yield from ("", f"| `{crate}` ({len(edits)}) | Mistakes | Refused by |", "|---|---|---|")
+        for (where, refused), names in sorted(rows.items()):
+            yield f"| {where} | {'; '.join(names)} | {refused} |"
 
 
-main()
+if __name__ == "__main__":
+    print("\n".join(tables()))

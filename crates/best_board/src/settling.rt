@@ -14,13 +14,23 @@ use defect_map::{DefectMap, Ground};
 use glass_base::{Instance, Memory, Run, append};
 use std::alloc::Global;
 
-/// Whether a loss lies between two, the upper one of which may be missing.
-fn is_within(loss: u64, most: Option<u64>, least: u64) -> bool
-    ensures { IsTrue result ↔ ((least < loss) × IfSome most (λ limit. loss < limit)) }
+/// Two losses in mm², between which others may lie.
+#[derive(Clone, Copy)]
+struct LossRange {
+    /// The upper one, if there is one.
+    most: Option<u64>,
+    /// The lower one.
+    least: u64,
+}
+
+/// Whether a loss lies between two.
+fn is_within(loss: u64, between: LossRange) -> bool
+    ensures { IsTrue result
+        ↔ ((between.least < loss) × IfSome between.most (λ limit. loss < limit)) }
 {
-    match most {
-        None => least < loss,
-        Some(most) => least < loss && loss < most,
+    match between.most {
+        None => between.least < loss,
+        Some(most) => between.least < loss && loss < most,
     }
 }
 
@@ -32,10 +42,11 @@ fn is_improvement(ground: Ground<'_>, entry: &Entry) -> bool
 }
 
 /// Whether an entry is a plan of this instance whose loss lies between two.
-fn is_between(ground: Ground<'_>, most: Option<u64>, least: u64, entry: &Entry) -> bool
-    ensures { IsTrue result ↔ IsBetween ground.entry.instance.now most least (found entry.now) }
+fn is_between(ground: Ground<'_>, between: LossRange, entry: &Entry) -> bool
+    ensures { IsTrue result ↔ IsBetween ground.entry.instance.now between.most between.least
+        (found entry.now) }
 {
-    is_within(entry.loss, most, least) && is_improvement(ground, entry)
+    is_within(entry.loss, between) && is_improvement(ground, entry)
 }
 
 /// Appends a plan with this loss.
@@ -73,17 +84,17 @@ fn put_first(
 fn put_between(
     alloc: Global,
     ground: Ground<'_>,
-    most: Option<u64>,
-    least: u64,
+    between: LossRange,
     entries: &[Entry],
     list: &mut Run<Entry>,
 ) -> Result<(), Memory>
-    ensures { OnOk result ((between : List Found)
-        × AreThose (IsBetween ground.entry.instance.now most least) (found_in entries.now) between
-        × (found_in list.new.items ≡ found_in list.old.items ++ between)) }
+    ensures { OnOk result ((added : List Found)
+        × AreThose (IsBetween ground.entry.instance.now between.most between.least)
+        (found_in entries.now) added
+        × (found_in list.new.items ≡ found_in list.old.items ++ added)) }
 {
     for entry in entries {
-        if is_between(ground, most, least, entry) {
+        if is_between(ground, between, entry) {
             put_plan(alloc, entry.loss, &entry.trace, list)?;
         }
     }
@@ -148,7 +159,8 @@ pub fn settle(
     };
     let least = trace_loss(instance, last);
     let most = put_first(alloc, instance, first, &mut list)?;
-    put_between(alloc, ground, most, least, entries.list(), &mut list)?;
+    let between = LossRange { most, least };
+    put_between(alloc, ground, between, entries.list(), &mut list)?;
     put_last(alloc, most, least, last, &mut list)?;
     Ok(list)
 }

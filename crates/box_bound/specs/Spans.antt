@@ -5,7 +5,7 @@ use Rattle.plan_box.specs.Decisions.{is_free}
 use Rattle.plan_box.specs.Leasts.{Known}
 use Rattle.plan_box.specs.Ranges.{Ranges}
 use Rattle.plan_box.specs.declared.var.Var.{Var}
-use Rattle.box_bound.specs.declared.cuts.Cut.{Cut}
+use Rattle.box_bound.specs.declared.cuts.StepCut.{StepCut}
 use Rattle.box_bound.specs.Kept.{late}
 use Rattle.box_bound.specs.Leastings.{Leastings}
 
@@ -27,10 +27,10 @@ abbrev pub span_at : Leastings → ℕ → Var → ℕ
 span_at v step var = option_map_or (λ k. span_in var (late k)) (slice_get v.steps step) 0
 
 -- a variable is as wide as this cut, where the cut can be split
-abbrev pub IsAsWide : Leastings → List Ranges → ℕ × Var → Cut → Type 0
+abbrev pub IsAsWide : Leastings → List Ranges → ℕ × Var → StepCut → Type 0
 IsAsWide v rs p cut = IsTrue (is_free rs cut.step cut.var) → span_at v cut.step cut.var ≤ span_at v p.0 p.1
 
 -- of these cuts one that can be split and is as wide as any other such one, or none where none can be split
-abbrev pub IsWidest : Leastings → List Ranges → List Cut → Option (ℕ × Var) → Type 0
+abbrev pub IsWidest : Leastings → List Ranges → List StepCut → Option (ℕ × Var) → Type 0
 IsWidest v rs cuts None = All (λ cut. is_free rs cut.step cut.var ≡ false) cuts
 IsWidest v rs cuts (Some p) = IsTrue (is_free rs p.0 p.1) × All (IsAsWide v rs p) cuts

@@ -17,6 +17,7 @@ use crate::kept::{Kept, drawn};
 use crate::leasts::Leasts;
 use glass_base::Instance;
 use glass_base::limits::{MOST_ITEMS, MOST_LENGTH};
+use loss_area::loss_of_length;
 use plan_box::{Packed, PlanBox, Var};
 
 /// The quotient, rounded up.
@@ -119,15 +120,6 @@ pub fn length_of(instance: &Instance, bx: &PlanBox) -> u64
     length_by(instance, instance.area(), ranges.len(), &last)
 }
 
-/// What a trace of this length loses beside its items, in mm².
-#[tactic(auto, using(plan_box::proofs::LeastLengths::height_times))]
-fn loss_of_length(instance: &Instance, length: u64) -> u64
-    requires { length ≤ 810000000000000 }
-    ensures { result ≡ instance.now.params.height * length - area_of instance.now.items }
-{
-    (u64::from(instance.params().height) * length).saturating_sub(instance.area())
-}
-
 /// The bound on the loss of the traces in a box, in mm². It takes no memory, and computes each step anew.
 pub fn bound(instance: &Instance, bx: &PlanBox) -> u64
     requires instance { bx.now.frame ≡ frame_of instance.now }
@@ -137,7 +129,7 @@ pub fn bound(instance: &Instance, bx: &PlanBox) -> u64
 }
 
 /// `bound`, where the leasts are for the box.
-#[tactic(auto, using(plan_box::proofs::LeastLengths::height_times))]
+#[tactic(auto, using(loss_area::proofs::Heights::height_times))]
 pub fn bound_at(instance: &Instance, leasts: &Leasts, bx: &PlanBox) -> u64
     requires instance { bx.now.frame ≡ frame_of instance.now }
     requires leasts { IsFor instance.now bx.now leasts.now }

@@ -5,7 +5,7 @@ ghost use Rattle.plan_box.specs.Decisions.{IsPoint, decided as decided_of, is_di
 ghost use Rattle.plan_box.specs.declared.var.Var.{Var as VarOf};
 ghost use Rattle.box_bound.specs.Spans.{IsWidest};
 
-use crate::cuts::{Cut, cuts_read};
+use crate::cuts::{StepCut, cuts_read};
 use crate::leasts::Leasts;
 use plan_box::{PlanBox, Var};
 use plan_trace::TraceBroken;
@@ -75,7 +75,7 @@ pub fn choose(bx: &PlanBox) -> Option<(u32, Var)>
 }
 
 /// Of these cuts the free one with the widest span from its least value to its high end, if one is free.
-fn widest_free(leasts: &Leasts, bx: &PlanBox, cuts: &[Cut]) -> Option<(u32, Var)>
+fn widest_free(leasts: &Leasts, bx: &PlanBox, cuts: &[StepCut]) -> Option<(u32, Var)>
     ensures { IsWidest leasts.now bx.now.ranges cuts.now result }
 {
     let mut found = None;

@@ -7,34 +7,31 @@ use plan_trace::level::Level;
 
 /// A cut: the step that opens it, and its variable.
 #[derive(Clone, Copy)]
-pub struct Cut {
+pub struct StepCut {
     pub step: u32,
     pub var: Var,
 }
 
 /// A piece that a step can begin.
 #[derive(Clone, Copy)]
-enum Piece {
+enum PieceKind {
     Strip,
     Band,
     Cell,
 }
 
 /// Whether a step of this level begins such a piece.
-fn begins(level: Level, piece: Piece) -> bool {
-    match (level, piece) {
-        (Level::NewPlate, _) => true,
-        (Level::NewStrip, _) => true,
-        (Level::NewBand, Piece::Strip) => false,
-        (Level::NewBand, _) => true,
-        (Level::NewCell, Piece::Cell) => true,
-        (Level::NewCell, _) => false,
-        (Level::Over, _) => false,
+fn begins(level: Level, piece: PieceKind) -> bool {
+    match level {
+        Level::NewPlate | Level::NewStrip => true,
+        Level::NewBand => !matches!(piece, PieceKind::Strip),
+        Level::NewCell => matches!(piece, PieceKind::Cell),
+        Level::Over => false,
     }
 }
 
 /// The step that begins the piece in which the item of this step lies.
-fn opener(steps: &[Kept], step: u32, piece: Piece) -> u32 {
+fn opener(steps: &[Kept], step: u32, piece: PieceKind) -> u32 {
     for at in (1..=step).rev() {
         if let Some(kept) = steps.get(at as usize) {
             if begins(kept.level, piece) {
@@ -46,44 +43,44 @@ fn opener(steps: &[Kept], step: u32, piece: Piece) -> u32 {
 }
 
 /// The step that begins the piece before the one that `step` begins, or `step` where it is the first one.
-fn opener_before(steps: &[Kept], step: u32, piece: Piece) -> u32 {
+fn opener_before(steps: &[Kept], step: u32, piece: PieceKind) -> u32 {
     opener(steps, step.saturating_sub(1), piece)
 }
 
 /// Whether the item of this step hangs from its band's upper side: it is lifted, or lies over another one.
 fn is_hanging(steps: &[Kept], step: u32) -> bool {
     match steps.get(step as usize) {
-        Some(kept) => kept.place.lift > 0 || !begins(kept.level, Piece::Cell),
+        Some(kept) => kept.place.lift > 0 || !begins(kept.level, PieceKind::Cell),
         None => false,
     }
 }
 
-impl Cut {
-    fn new(step: u32, var: Var) -> Cut {
-        Cut { step, var }
+impl StepCut {
+    fn new(step: u32, var: Var) -> StepCut {
+        StepCut { step, var }
     }
 }
 
 /// The cuts that the broken rule reads at the step that breaks it; some may stand here twice.
-pub fn cuts_read(steps: &[Kept], broken: TraceBroken) -> [Cut; 5] {
+pub fn cuts_read(steps: &[Kept], broken: TraceBroken) -> [StepCut; 5] {
     let step = broken.step;
-    let strip = opener(steps, step, Piece::Strip);
-    let band = opener(steps, step, Piece::Band);
-    let cell = opener(steps, step, Piece::Cell);
-    let (a, b) = (Cut::new(strip, Var::A), Cut::new(strip, Var::B));
-    let (c, d) = (Cut::new(band, Var::C), Cut::new(band, Var::D));
-    let e = Cut::new(cell, Var::E);
+    let strip = opener(steps, step, PieceKind::Strip);
+    let band = opener(steps, step, PieceKind::Band);
+    let cell = opener(steps, step, PieceKind::Cell);
+    let (a, b) = (StepCut::new(strip, Var::A), StepCut::new(strip, Var::B));
+    let (c, d) = (StepCut::new(band, Var::C), StepCut::new(band, Var::D));
+    let e = StepCut::new(cell, Var::E);
     match broken.rule {
         4 => {
-            let before = Cut::new(opener_before(steps, strip, Piece::Strip), Var::B);
+            let before = StepCut::new(opener_before(steps, strip, PieceKind::Strip), Var::B);
             [a, b, before, a, b]
         }
         5 => {
-            let before = Cut::new(opener_before(steps, band, Piece::Band), Var::D);
+            let before = StepCut::new(opener_before(steps, band, PieceKind::Band), Var::D);
             [c, d, before, c, d]
         }
         6 => {
-            let before = Cut::new(opener_before(steps, cell, Piece::Cell), Var::E);
+            let before = StepCut::new(opener_before(steps, cell, PieceKind::Cell), Var::E);
             [e, a, b, before, e]
         }
         7 => [c, d, c, d, c],

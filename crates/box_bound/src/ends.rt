@@ -150,18 +150,12 @@ impl Ends {
             ≡ settled_known level (known_of p self) (known_of q next.now) }
     {
         match level {
-            Level::NewPlate => self,
-            Level::NewStrip => self,
+            Level::NewPlate | Level::NewStrip => self,
             Level::NewBand => Ends {
                 least_b: next.least_b,
                 ..self
             },
-            Level::NewCell => Ends {
-                least_b: next.least_b,
-                least_d: next.least_d,
-                ..self
-            },
-            Level::Over => Ends {
+            Level::NewCell | Level::Over => Ends {
                 least_b: next.least_b,
                 least_d: next.least_d,
                 ..self

@@ -73,13 +73,7 @@ fn settle(steps: &mut Run<Kept>, start: usize, count: usize)
 fn starts_strip(level: Level) -> bool
     ensures { IsTrue result ↔ StartsStrip level }
 {
-    match level {
-        Level::NewPlate => true,
-        Level::NewStrip => true,
-        Level::NewBand => false,
-        Level::NewCell => false,
-        Level::Over => false,
-    }
+    matches!(level, Level::NewPlate | Level::NewStrip)
 }
 
 /// Where the last strip of these steps begins.

@@ -82,9 +82,7 @@ fn strip(instance: &Instance, whole: bool, last: &Kept, here: &Kept, later: &[Pa
             here,
             later,
         ),
-        Level::NewBand => false,
-        Level::NewCell => false,
-        Level::Over => false,
+        Level::NewBand | Level::NewCell | Level::Over => false,
     }
 }
 
@@ -112,8 +110,7 @@ fn band(params: &Params, whole: bool, last: &Kept, here: &Kept, later: &[Packed]
         (levels_of later.now) }
 {
     match here.level {
-        Level::NewPlate => band_from(params, whole, (0, 0), here, later),
-        Level::NewStrip => band_from(params, whole, (0, 0), here, later),
+        Level::NewPlate | Level::NewStrip => band_from(params, whole, (0, 0), here, later),
         Level::NewBand => band_from(
             params,
             whole,
@@ -121,8 +118,7 @@ fn band(params: &Params, whole: bool, last: &Kept, here: &Kept, later: &[Packed]
             here,
             later,
         ),
-        Level::NewCell => false,
-        Level::Over => false,
+        Level::NewCell | Level::Over => false,
     }
 }
 
@@ -147,9 +143,9 @@ fn cell(params: &Params, whole: bool, last: &Kept, here: &Kept, later: &[Packed]
 {
     let left = wide(here.ends.least_a, here.ends.high_a);
     match here.level {
-        Level::NewPlate => cell_from(params, whole, left, here, later),
-        Level::NewStrip => cell_from(params, whole, left, here, later),
-        Level::NewBand => cell_from(params, whole, left, here, later),
+        Level::NewPlate | Level::NewStrip | Level::NewBand => {
+            cell_from(params, whole, left, here, later)
+        }
         Level::NewCell => cell_from(params, whole, cell_end(last), here, later),
         Level::Over => false,
     }
@@ -181,14 +177,9 @@ fn two(params: &Params, whole: bool, last: &Kept, here: &Kept, later: &[Packed])
     let _params = params;
     let _whole = whole;
     let tops = u64::from(k.high_c) + (u64::from(last.place.h) + u64::from(here.place.h));
-    let over = tops < u64::from(k.least_d) && is_last_in_cell(true, later);
-    match last.level {
-        Level::NewPlate => over,
-        Level::NewStrip => over,
-        Level::NewBand => over,
-        Level::NewCell => over,
-        Level::Over => false,
-    }
+    !matches!(last.level, Level::Over)
+        && tops < u64::from(k.least_d)
+        && is_last_in_cell(true, later)
 }
 
 /// What is left over the items of a cell.
@@ -196,12 +187,10 @@ fn top(params: &Params, whole: bool, last: &Kept, here: &Kept, later: &[Packed])
     ensures { IsTrue result ↔ TopR2 params.now whole last.now.level here.now.level
         here.now.place.lift (late last.now) (late here.now) (levels_of later.now) }
 {
-    match here.level {
-        Level::NewPlate => alone(params, whole, last, here, later),
-        Level::NewStrip => alone(params, whole, last, here, later),
-        Level::NewBand => alone(params, whole, last, here, later),
-        Level::NewCell => alone(params, whole, last, here, later),
-        Level::Over => two(params, whole, last, here, later),
+    if matches!(here.level, Level::Over) {
+        two(params, whole, last, here, later)
+    } else {
+        alone(params, whole, last, here, later)
     }
 }
 

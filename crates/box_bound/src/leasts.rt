@@ -7,7 +7,7 @@ use crate::kept::Kept;
 use crate::seen::look;
 use defect_map::{DefectMap, Ground};
 use glass_base::{Instance, Memory, Run};
-use plan_box::{PlanBox, Reason, Var};
+use plan_box::{BoxGround, PlanBox, Reason, Var};
 use std::alloc::Global;
 use std::marker::Model;
 
@@ -101,12 +101,15 @@ impl Leasts {
         let whole = ranges.len() == instance.items().len();
         let start = refill(instance, &mut self.steps, self.count, ranges);
         self.count = ranges.len();
-        look(
-            Ground {
+        let asked = BoxGround {
+            ground: Ground {
                 instance,
                 map: &self.map,
             },
             whole,
+        };
+        look(
+            asked,
             &self.steps.as_slice()[..ranges.len()],
             ranges,
             start,
@@ -179,10 +182,7 @@ impl Leasts {
             Var::C => ends.least_c,
             Var::D => ends.least_d,
             Var::E => ends.least_e,
-            Var::Stack => 0,
-            Var::Turn => 0,
-            Var::Kind => 0,
-            Var::Lift => 0,
+            Var::Stack | Var::Turn | Var::Kind | Var::Lift => 0,
         }
     }
 }

@@ -26,9 +26,7 @@ pub fn is_last_strip(end: bool, later: &[Packed]) -> bool
         match later_level(step) {
             Level::NewPlate => return true,
             Level::NewStrip => return false,
-            Level::NewBand => {}
-            Level::NewCell => {}
-            Level::Over => {}
+            Level::NewBand | Level::NewCell | Level::Over => {}
         }
     }
     end
@@ -41,11 +39,9 @@ pub fn is_last_band(end: bool, later: &[Packed]) -> bool
 {
     for step in later {
         match later_level(step) {
-            Level::NewPlate => return true,
-            Level::NewStrip => return true,
+            Level::NewPlate | Level::NewStrip => return true,
             Level::NewBand => return false,
-            Level::NewCell => {}
-            Level::Over => {}
+            Level::NewCell | Level::Over => {}
         }
     }
     end
@@ -58,9 +54,7 @@ pub fn is_last_cell(end: bool, later: &[Packed]) -> bool
 {
     for step in later {
         match later_level(step) {
-            Level::NewPlate => return true,
-            Level::NewStrip => return true,
-            Level::NewBand => return true,
+            Level::NewPlate | Level::NewStrip | Level::NewBand => return true,
             Level::NewCell => return false,
             Level::Over => {}
         }
@@ -74,12 +68,6 @@ pub fn is_last_in_cell(end: bool, later: &[Packed]) -> bool
 {
     match later.first() {
         None => end,
-        Some(step) => match later_level(step) {
-            Level::NewPlate => true,
-            Level::NewStrip => true,
-            Level::NewBand => true,
-            Level::NewCell => true,
-            Level::Over => false,
-        },
+        Some(step) => !matches!(later_level(step), Level::Over),
     }
 }

@@ -63,12 +63,10 @@ pub fn item_met(map: &DefectMap, here: &Kept) -> bool
     requires within { AreWithin MOST_LENGTH (late here.now) }
     ensures { IsTrue result ↔ ItemR3 map.now here.now.level here.now.place.lift (late here.now) }
 {
-    match here.level {
-        Level::NewPlate => begun_met(map, here),
-        Level::NewStrip => begun_met(map, here),
-        Level::NewBand => begun_met(map, here),
-        Level::NewCell => begun_met(map, here),
-        Level::Over => high_met(map, here),
+    if matches!(here.level, Level::Over) {
+        high_met(map, here)
+    } else {
+        begun_met(map, here)
     }
 }
 
@@ -177,12 +175,10 @@ fn line_met(map: &DefectMap, here: &Kept) -> bool
     requires within { AreWithin MOST_LENGTH (late here.now) }
     ensures { IsTrue result ↔ LiftR4 map.now here.now.level here.now.place.lift (late here.now) }
 {
-    match here.level {
-        Level::NewPlate => begun_line_met(map, here),
-        Level::NewStrip => begun_line_met(map, here),
-        Level::NewBand => begun_line_met(map, here),
-        Level::NewCell => begun_line_met(map, here),
-        Level::Over => over_line_met(map, here),
+    if matches!(here.level, Level::Over) {
+        over_line_met(map, here)
+    } else {
+        begun_line_met(map, here)
     }
 }
 

@@ -35,25 +35,12 @@ pub fn is_too_wide(params: &Params, last: &Kept, here: &Kept) -> bool
 fn is_badly_over(last: &Kept, here: &Kept) -> bool
     ensures { IsTrue result ↔ OverR6 last.now.level here.now.level (late last.now) (late here.now) }
 {
-    let over_two = match last.level {
-        Level::NewPlate => false,
-        Level::NewStrip => false,
-        Level::NewBand => false,
-        Level::NewCell => false,
-        Level::Over => true,
-    };
-    let bad = 1 <= here.place.lift
-        || here.place.w < last.place.w
-        || last.place.w < here.place.w
-        || 1 <= last.place.lift
-        || over_two;
-    match here.level {
-        Level::NewPlate => false,
-        Level::NewStrip => false,
-        Level::NewBand => false,
-        Level::NewCell => false,
-        Level::Over => bad,
-    }
+    matches!(here.level, Level::Over)
+        && (1 <= here.place.lift
+            || here.place.w < last.place.w
+            || last.place.w < here.place.w
+            || 1 <= last.place.lift
+            || matches!(last.level, Level::Over))
 }
 
 /// Whether a step's discrete numbers break a rule.

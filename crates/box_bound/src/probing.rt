@@ -18,27 +18,8 @@ use cut_model::{Step, Trace};
 use defect_map::{DefectMap, Ground};
 use glass_base::limits::MOST_ITEMS;
 use glass_base::{Instance, Run};
-use plan_box::PlanBox;
+use plan_box::{BoxGround, PlanBox};
 use plan_trace::{TraceBroken, first_broken};
-
-/// The step that a decided step stands for at its least values.
-pub fn least_step(kept: &Kept) -> Step
-    ensures { result ≡ least_step_of (late kept.now) }
-{
-    let place = &kept.place;
-    let ends = &kept.ends;
-    Step {
-        stack: place.stack,
-        turn: place.turn,
-        kind: place.kind,
-        lift: place.lift,
-        a: ends.least_a,
-        b: ends.least_b,
-        c: ends.least_c,
-        d: ends.least_d,
-        e: ends.least_e,
-    }
-}
 
 /// Writes the least steps of these over a list that has a step for each of them.
 fn write(kept: &[Kept], steps: &mut Run<Step>)
@@ -46,7 +27,7 @@ fn write(kept: &[Kept], steps: &mut Run<Step>)
     ensures { steps.new.items ≡ mapped (λ k. least_step_of (late k)) kept.now }
 {
     for (i, k) in kept.iter().enumerate() {
-        steps.set(i, least_step(k));
+        steps.set(i, k.least_step());
     }
 }
 
@@ -73,9 +54,13 @@ pub fn probe(instance: &Instance, map: &DefectMap, bx: &PlanBox, trace: &mut Tra
     let _items = instance.items();
     let _frame = bx.frame();
     let ground = Ground { instance, map };
-    let mut numbers = [least_step(&Kept::before_all(instance)); MOST_ITEMS];
+    let mut numbers = [Kept::before_all(instance).least_step(); MOST_ITEMS];
     let ranges = decided_ranges(instance, bx);
-    let _seen = seen_in(ground, true, ranges, &mut numbers);
+    let asked = BoxGround {
+        ground,
+        whole: true,
+    };
+    let _seen = seen_in(asked, ranges, &mut numbers);
     overwrite(&numbers[..ranges.len()], &mut trace.steps);
     first_broken(ground, trace.steps.as_slice()).is_none()
 }

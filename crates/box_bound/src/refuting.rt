@@ -17,13 +17,12 @@ use crate::bounding::{length_at, length_of};
 use crate::filling::decided_ranges;
 use crate::kept::Kept;
 use crate::leasts::Leasts;
-use crate::probing::least_step;
 use crate::walking::seen_in;
 use cut_model::Step;
 use defect_map::{DefectMap, Ground};
 use glass_base::Instance;
 use glass_base::limits::MOST_ITEMS;
-use plan_box::{PlanBox, Reason};
+use plan_box::{BoxGround, PlanBox, Reason};
 use plan_trace::first_broken;
 
 /// The first reason that was seen at the decided steps, or that more glass is needed than there is.
@@ -57,9 +56,9 @@ fn is_broken(ground: Ground<'_>, steps: &[Kept]) -> bool
         let numbers = mapped (λ k. least_step_of (late k)) steps.now in
         MatchBool result (¬ Meets b numbers) (Meets b numbers) }
 {
-    let mut numbers = [least_step(&Kept::before_all(ground.instance)); MOST_ITEMS];
+    let mut numbers = [Kept::before_all(ground.instance).least_step(); MOST_ITEMS];
     for (i, step) in steps.iter().enumerate() {
-        numbers[i] = least_step(step);
+        numbers[i] = step.least_step();
     }
     breaks(ground, &numbers[..steps.len()])
 }
@@ -129,8 +128,11 @@ fn refuted_early(ground: Ground<'_>, bx: &PlanBox, numbers: &mut [Step]) -> Opti
 {
     let _frame = bx.frame();
     let ranges = decided_ranges(ground.instance, bx);
-    let whole = ranges.len() == ground.instance.items().len();
-    let seen = seen_in(ground, whole, ranges, numbers);
+    let asked = BoxGround {
+        ground,
+        whole: ranges.len() == ground.instance.items().len(),
+    };
+    let seen = seen_in(asked, ranges, numbers);
     with_length(
         seen,
         is_too_long(ground.instance, length_of(ground.instance, bx)),
@@ -160,7 +162,7 @@ pub fn refuted(instance: &Instance, map: &DefectMap, bx: &PlanBox) -> Option<Rea
     let _items = instance.items();
     let _frame = bx.frame();
     let ground = Ground { instance, map };
-    let mut numbers = [least_step(&Kept::before_all(instance)); MOST_ITEMS];
+    let mut numbers = [Kept::before_all(instance).least_step(); MOST_ITEMS];
     if let Some(reason) = refuted_early(ground, bx, &mut numbers) {
         return Some(reason);
     }

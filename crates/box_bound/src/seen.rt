@@ -18,7 +18,7 @@ use crate::numbers::{breaks_a_rule, has_no_place, is_too_wide};
 use defect_map::Ground;
 use glass_base::limits::MOST_LENGTH;
 use glass_base::{Instance, Run};
-use plan_box::{Packed, Reason};
+use plan_box::{BoxGround, Packed, Reason};
 
 /// The one that comes first of two reasons, if there is one.
 pub fn earlier(one: Option<Reason>, other: Option<Reason>) -> Option<Reason>
@@ -48,23 +48,19 @@ fn is_cut_met(ground: Ground<'_>, last: &Kept, here: &Kept) -> bool
     cut_met(ground, last, here)
 }
 
-/// The first reason that is a fact at a decided step, if one is. `last` is the step before; `whole` where all steps are decided.
-pub fn seen_at(
-    ground: Ground<'_>,
-    whole: bool,
-    last: &Kept,
-    here: &Kept,
-    later: &[Packed],
-) -> Option<Reason>
+/// The first reason that is a fact at a decided step, if one is. `last` is the step before.
+pub fn seen_at(asked: BoxGround<'_>, last: &Kept, here: &Kept, later: &[Packed]) -> Option<Reason>
     requires within { AreWithin MOST_LENGTH (late here.now) }
-    ensures { IsFirstIfAny (λ reason. FactOf ground.entry.instance.now whole reason last.now.level
+    ensures { let b = asked.entry.ground.instance.now in
+        IsFirstIfAny (λ reason. FactOf b asked.entry.whole reason last.now.level
         (late last.now) here.now.level (late here.now) (levels_of later.now)) result }
 {
+    let ground = asked.ground;
     let params = ground.instance.params();
     if has_no_place(last, here) {
         return Some(Reason::R1);
     }
-    if has_tight_gap(ground.instance, whole, last, here, later) {
+    if has_tight_gap(ground.instance, asked.whole, last, here, later) {
         return Some(Reason::R2);
     }
     if item_met(ground.map, here) {
@@ -106,8 +102,7 @@ fn seen_before(seen: &[Option<Reason>], at: usize) -> Option<Reason>
 
 /// Looks at these decided steps from one on, and puts for each the first reason that is a fact at it or at one before it.
 pub fn look(
-    ground: Ground<'_>,
-    whole: bool,
+    asked: BoxGround<'_>,
     steps: &[Kept],
     ranges: &[Packed],
     start: usize,
@@ -118,17 +113,17 @@ pub fn look(
     requires levels { HaveLevels steps.now ranges.now }
     requires room { length steps.now ≤ length seen.old.items }
     requires inside { start ≤ length steps.now }
-    requires before { AreSeen ground.instance.now whole
+    requires before { AreSeen asked.ground.instance.now asked.whole
         (mapped late_fixed steps.now) seen.old.items start }
     ensures many { length seen.new.items ≡ length seen.old.items }
-    ensures seen { AreSeen ground.entry.instance.now whole
+    ensures seen { AreSeen asked.entry.ground.instance.now asked.entry.whole
         (mapped late_fixed steps.now) seen.new.items (length steps.now) }
 {
-    let mut last = step_before(ground.instance, steps, start);
+    let mut last = step_before(asked.ground.instance, steps, start);
     let mut found = seen_before(seen.as_slice(), start);
     for i in start..steps.len() {
         let here = steps[i];
-        let next = seen_at(ground, whole, &last, &here, &ranges[i + 1..]);
+        let next = seen_at(asked, &last, &here, &ranges[i + 1..]);
         found = earlier(found, next);
         seen.set(i, found);
         last = here;

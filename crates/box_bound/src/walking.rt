@@ -14,17 +14,14 @@ ghost use Rattle.box_bound.specs.inner.Walks.{AreLevels, IsHead, SomeBehind, ste
 ghost use Rattle.plan_box.specs.Within.{AreRangesWithin, AreWithin, limit};
 
 use crate::kept::{Kept, drawn};
-use crate::probing::least_step;
 use crate::seen::{earlier, seen_at};
 use cut_model::Step;
-use defect_map::Ground;
-use glass_base::Instance;
 use glass_base::limits::{MOST_ITEMS, MOST_LENGTH};
-use plan_box::{Packed, Reason, Var};
+use plan_box::{BoxGround, Packed, Reason, Var};
 
 /// What a walk over the decided steps from one on hands back.
 #[derive(Clone, Copy)]
-struct Walked {
+struct WalkedBack {
     /// The first of them, with its least values.
     first: Option<Kept>,
     /// The first reason that is a fact at one of the others.
@@ -32,7 +29,7 @@ struct Walked {
 }
 
 /// A step with the least values of the last one of its strip and of its band, by the step behind it.
-fn settled_before(step: &Kept, behind: &Walked) -> Kept
+fn settled_before(step: &Kept, behind: &WalkedBack) -> Kept
     ensures ends { result ≡ with_ends result.ends step.now }
     ensures late { (ks : List Fixed) → IsHead behind.now.first ks
         → late result ≡ settle_at (early step.now) ks }
@@ -51,14 +48,14 @@ fn settled_before(step: &Kept, behind: &Walked) -> Kept
 
 /// The first reason that is a fact at one of the steps behind this one, of which these are the ranges.
 fn seen_behind(
-    ground: Ground<'_>,
-    whole: bool,
+    asked: BoxGround<'_>,
     step: &Kept,
     ranges: &[Packed],
-    behind: &Walked,
+    behind: &WalkedBack,
 ) -> Option<Reason>
     requires within { IfSome behind.now.first (λ k. AreWithin MOST_LENGTH (late k)) }
-    ensures { let b = ground.entry.instance.now in (ks : List Fixed) → IsHead behind.now.first ks
+    ensures { let b = asked.entry.ground.instance.now in let whole = asked.entry.whole in
+        (ks : List Fixed) → IsHead behind.now.first ks
         → AreLevels ks ranges.now → IsFirstIfAny
         (λ reason. SomeBehind (FactOf b whole reason) ks) behind.now.seen
         → IsFirstIfAny (λ reason. SomeFixed (FactOf b whole reason) step.now.level
@@ -69,49 +66,49 @@ fn seen_behind(
     };
     match ranges.split_first() {
         None => None,
-        Some((_, later)) => earlier(seen_at(ground, whole, step, &next, later), behind.seen),
+        Some((_, later)) => earlier(seen_at(asked, step, &next, later), behind.seen),
     }
 }
 
 /// Goes over the decided steps of these ranges from one on, behind the step `last`, and writes the step that each stands for at
 /// its least values.
 fn walk(
-    ground: Ground<'_>,
-    whole: bool,
+    asked: BoxGround<'_>,
     ranges: &[Packed],
     at: usize,
     last: &Kept,
     steps: &mut [Step],
-) -> Walked
+) -> WalkedBack
     requires few { length ranges.now ≤ MOST_ITEMS }
     requires room { length ranges.now ≤ length steps.old }
     requires inside { at ≤ length ranges.now }
     requires ranges { All (λ x. AreRangesWithin (unpacked x)) ranges.now }
     requires within { AreWithin (limit at) (early last.now) }
-    ensures first { IsHead result.first (steps_from ground.entry.instance.now ranges.now at
+    ensures first { IsHead result.first (steps_from asked.entry.ground.instance.now ranges.now at
         (early last.now)) }
     ensures within { IfSome result.first (λ k. AreWithin MOST_LENGTH (late k)) }
-    ensures seen { let b = ground.entry.instance.now in
-        IsFirstIfAny (λ reason. SomeBehind (FactOf b whole reason)
+    ensures seen { let b = asked.entry.ground.instance.now in
+        IsFirstIfAny (λ reason. SomeBehind (FactOf b asked.entry.whole reason)
         (steps_from b ranges.now at (early last.now))) result.seen }
     ensures steps { steps.new ≡ take at steps.old
-        ++ (least_steps (steps_from ground.entry.instance.now ranges.now at (early last.now))
-        ++ drop (length ranges.now) steps.old) }
+        ++ (least_steps (steps_from asked.entry.ground.instance.now ranges.now at
+        (early last.now)) ++ drop (length ranges.now) steps.old) }
 {
-    let _items = ground.instance.items();
+    let instance = asked.ground.instance;
+    let _items = instance.items();
     if at == ranges.len() {
-        return Walked {
+        return WalkedBack {
             first: None,
             seen: None,
         };
     }
     let taken = drawn(&ranges[..at], ranges[at].range(Var::Stack).0);
-    let step = last.next(ground.instance, &ranges[..at], taken, &ranges[at]);
-    let behind = walk(ground, whole, ranges, at + 1, &step, steps);
+    let step = last.next(instance, &ranges[..at], taken, &ranges[at]);
+    let behind = walk(asked, ranges, at + 1, &step, steps);
     let here = settled_before(&step, &behind);
-    steps[at] = least_step(&here);
-    let seen = seen_behind(ground, whole, &here, &ranges[at + 1..], &behind);
-    Walked {
+    steps[at] = here.least_step();
+    let seen = seen_behind(asked, &here, &ranges[at + 1..], &behind);
+    WalkedBack {
         first: Some(here),
         seen,
     }
@@ -119,23 +116,18 @@ fn walk(
 
 /// The first reason that is a fact at some decided step of these ranges, if one is; writes the step that each stands for at its
 /// least values.
-pub fn seen_in(
-    ground: Ground<'_>,
-    whole: bool,
-    ranges: &[Packed],
-    steps: &mut [Step],
-) -> Option<Reason>
+pub fn seen_in(asked: BoxGround<'_>, ranges: &[Packed], steps: &mut [Step]) -> Option<Reason>
     requires few { length ranges.now ≤ MOST_ITEMS }
     requires room { length ranges.now ≤ length steps.old }
     requires ranges { All (λ x. AreRangesWithin (unpacked x)) ranges.now }
-    ensures seen { let b = ground.entry.instance.now in
-        IsFirstIfAny (λ reason. SomeFixed (FactOf b whole reason) NewPlate no_known
+    ensures seen { let b = asked.entry.ground.instance.now in
+        IsFirstIfAny (λ reason. SomeFixed (FactOf b asked.entry.whole reason) NewPlate no_known
         (settle (follow b [] no_known (mapped unpacked ranges.now)))) result }
     ensures steps { take (length ranges.now) steps.new
-        ≡ least_steps (settle (follow ground.entry.instance.now [] no_known
+        ≡ least_steps (settle (follow asked.entry.ground.instance.now [] no_known
         (mapped unpacked ranges.now))) }
 {
-    let before = Kept::before_all(ground.instance);
-    let behind = walk(ground, whole, ranges, 0, &before, steps);
-    seen_behind(ground, whole, &before, ranges, &behind)
+    let before = Kept::before_all(asked.ground.instance);
+    let behind = walk(asked, ranges, 0, &before, steps);
+    seen_behind(asked, &before, ranges, &behind)
 }

@@ -16,19 +16,6 @@ use shared_best::NONE;
 use std::alloc::Global;
 use std::mem;
 
-/// A step that is written over before it is read.
-const BLANK: Step = Step {
-    stack: 0,
-    turn: 0,
-    kind: 0,
-    lift: 0,
-    a: 0,
-    b: 0,
-    c: 0,
-    d: 0,
-    e: 0,
-};
-
 /// What one worker holds: its notes, the boxes that it left open, its best plan, and what it needs to handle a box.
 #[derive(Drop)]
 pub struct Hand {
@@ -52,11 +39,11 @@ pub struct Hand {
     pub(crate) spares: Spares,
 }
 
-/// A trace with a step for each item.
+/// A trace with a step for each item, which is written over before it is read.
 fn blank_trace(alloc: Global, instance: &Instance) -> Result<Trace, Memory>
     ensures { IfOk result (λ t. length t.steps.items ≡ length instance.now.items) }
 {
-    let steps = Vec::from_elem(alloc, BLANK, instance.items().len())?;
+    let steps = Vec::from_elem(alloc, Step::NONE, instance.items().len())?;
     Ok(Trace {
         steps: Run::from(steps),
     })

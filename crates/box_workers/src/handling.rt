@@ -13,6 +13,8 @@ ghost use Rattle.box_workers.specs.inner.Hands.{CanKeep, IsNoted};
 ghost use Rattle.box_workers.specs.inner.Spares.{HasRoomFor};
 ghost use Rattle.box_workers.specs.inner.Deciding.{ClosesBy, Improves, Decides};
 
+use crate::desk::Desk;
+use crate::gate::{Gate, OpenGate};
 use crate::hand::{Hand, keep, prepare};
 use box_bound::{Leasts, bound_at, broken_at, choose_at, refuted_at};
 use cert_log::{Act, Cause, Note, trace_loss};
@@ -153,23 +155,21 @@ fn decide(
     Act::Split { step, var }
 }
 
-/// Notes what is done with a box, and does it.
-fn carry_out(
-    alloc: Global,
-    instance: &Instance,
+/// Notes what is done with a box, for which this ticket was drawn, and does it.
+fn carry_out<G: Gate>(
+    desk: &Desk<'_, G>,
     hand: &mut Hand,
-    starts: u64,
     ticket: u64,
     bx: PlanBox,
     act: Act,
 ) -> Done
-    requires frame { bx.frame ≡ frame_of instance.now }
+    requires frame { bx.frame ≡ frame_of desk.now.ground.instance.now }
     requires free { SplitsFree bx.ranges act }
     requires log { 1 ≤ hand.old.log.spare }
     requires room { HasRoomFor bx hand.old.spares }
-    requires limits { (starts ≤ MOST_CERT_BYTES) × (ticket < MOST_BUDGET) }
+    requires ticket { ticket < MOST_BUDGET }
     ensures noted { IsNoted record { id = bx.id; ticket = ticket; act = act } hand.old hand.new }
-    ensures gives { (seen : ℕ) → (probed : ℕ) → Gives starts record
+    ensures gives { (seen : ℕ) → (probed : ℕ) → Gives desk.now.starts record
         { box = bx; ticket = ticket; seen = seen; probed = probed; act = act } result }
 {
     let id = bx.id();
@@ -180,11 +180,45 @@ fn carry_out(
             Done::Closed
         }
         Act::Split { step, var } => {
-            let ids = (starts + 2 * ticket, starts + 2 * ticket + 1);
-            let (lower, upper) = hand.spares.split(alloc, instance, bx, step, var, ids);
+            let first = desk.starts + 2 * ticket;
+            let ids = (first, first + 1);
+            let (lower, upper) = hand.spares.split(desk, bx, (step, var), ids);
             Done::Split(lower, upper)
         }
     }
+}
+
+/// `handle`, at the desk that all workers share.
+pub(crate) fn handle_at<G: Gate>(
+    desk: &Desk<'_, G>,
+    seat: &mut Seat,
+    hand: &mut Hand,
+    bx: PlanBox,
+) -> Result<Done, (PlanBox, Memory)>
+    requires frame { bx.frame ≡ frame_of desk.now.ground.instance.now }
+    requires leasts { IsOf desk.now.ground.instance.now hand.old.leasts }
+    requires scratch { length hand.old.scratch.steps.items
+        ≡ length desk.now.ground.instance.now.items }
+    requires seat { IsSeatOf desk.now.shared.now seat.old }
+    requires allowance { 1 ≤ seat.old.view.allowance }
+    ensures seat { IsSeatOf desk.now.shared.now seat.new }
+    ensures scratch { length hand.new.scratch.steps.items
+        ≡ length desk.now.ground.instance.now.items }
+    ensures leasts { IsOf desk.now.ground.instance.now hand.new.leasts }
+    ensures done { IfOk result (λ d. Answers desk.now.ground.instance.now desk.now.shared.now
+        desk.now.starts bx seat.old seat.new hand.old hand.new d) }
+    ensures refused { IfErr result (λ e. (e.0 ≡ bx) × (seat.new ≡ seat.old)
+        × IsIdle hand.old hand.new) }
+{
+    if let Err(refused) = prepare(desk.alloc, desk.ground.instance, hand, &bx) {
+        return Err((bx, refused));
+    }
+    let ticket = desk.shared.draw(seat);
+    if ticket >= desk.shared.budget() {
+        return Ok(Done::Spent(bx));
+    }
+    let act = decide(desk.ground, desk.shared, seat, hand, &bx);
+    Ok(carry_out(desk, hand, ticket, bx, act))
 }
 
 /// Handles a box of this instance: draws a ticket for it, looks at the best loss, and closes the box or splits it into its halves, as the
@@ -194,11 +228,11 @@ fn carry_out(
 /// `starts` is the number of start boxes: the halves get the identities `starts + 2 * ticket` and `starts + 2 * ticket + 1`.
 ///
 /// All memory is taken before the ticket is drawn; where it runs out the box comes back, and nothing has changed.
-pub fn handle(
+pub fn handle<'d>(
     alloc: Global,
-    instance: &Instance,
-    map: &DefectMap,
-    shared: &SharedBest,
+    instance: &'d Instance,
+    map: &'d DefectMap,
+    shared: &'d SharedBest,
     seat: &mut Seat,
     hand: &mut Hand,
     starts: u64,
@@ -219,13 +253,12 @@ pub fn handle(
     ensures refused { IfErr result (λ e. (e.0 ≡ bx) × (seat.new ≡ seat.old)
         × IsIdle hand.old hand.new) }
 {
-    if let Err(refused) = prepare(alloc, instance, hand, &bx) {
-        return Err((bx, refused));
-    }
-    let ticket = shared.draw(seat);
-    if ticket >= shared.budget() {
-        return Ok(Done::Spent(bx));
-    }
-    let act = decide(Ground { instance, map }, shared, seat, hand, &bx);
-    Ok(carry_out(alloc, instance, hand, starts, ticket, bx, act))
+    let desk = Desk {
+        alloc,
+        ground: Ground { instance, map },
+        shared,
+        starts,
+        gate: &OpenGate,
+    };
+    handle_at(&desk, seat, hand, bx)
 }

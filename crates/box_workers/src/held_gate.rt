@@ -1,7 +1,7 @@
 //! A gate that shows whether two workers share the work.
 
 use crate::gate::Gate;
-use glass_base::Memory;
+use glass_base::{Listener, Memory};
 use std::hint::spin_loop;
 use std::sync::atomic::{AtomicBool, Ordering};
 
@@ -77,6 +77,8 @@ fn comes_true(flag: &AtomicBool) -> bool {
     }
     false
 }
+
+impl Listener for HeldGate {}
 
 impl Gate for HeldGate {
     fn pass(&self, worker: u32, id: u64) {

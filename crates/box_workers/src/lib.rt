@@ -6,6 +6,7 @@ mod dealing;
 mod desk;
 mod draining;
 mod enlisting;
+mod finishing;
 pub mod gate;
 pub mod hand;
 pub mod handling;
@@ -23,6 +24,7 @@ pub mod starting;
 mod teaming;
 mod turning;
 pub mod watching;
+mod workers;
 pub mod working;
 
 pub use gate::{Gate, OpenGate};

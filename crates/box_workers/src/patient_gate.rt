@@ -1,6 +1,7 @@
 //! A gate that makes a worker without a box wait for those that have one.
 
 use crate::gate::Gate;
+use glass_base::Listener;
 use std::sync::atomic::{AtomicU32, Ordering};
 use std::thread::yield_now;
 
@@ -32,6 +33,8 @@ impl PatientGate {
 fn bit(worker: u32) -> u32 {
     1u32.wrapping_shl(worker)
 }
+
+impl Listener for PatientGate {}
 
 impl Gate for PatientGate {
     fn pass(&self, worker: u32, _id: u64) {

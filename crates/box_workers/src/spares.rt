@@ -1,5 +1,6 @@
 //! Memory for the halves of boxes.
-use glass_base::{Instance, Memory, Run};
+use crate::desk::Desk;
+use glass_base::{Memory, Run};
 use plan_box::{Blank, PlanBox, Var};
 use std::alloc::Global;
 use std::mem;
@@ -54,24 +55,24 @@ impl Spares {
         self.kept.put(bx.into_blank());
     }
 
-    /// The halves of a box at a free variable, with these identities.
-    pub(crate) fn split(
+    /// The halves of a box at a free variable of a step, with these identities.
+    pub(crate) fn split<G>(
         &mut self,
-        alloc: Global,
-        instance: &Instance,
+        desk: &Desk<'_, G>,
         bx: PlanBox,
-        step: u32,
-        var: Var,
+        at: (u32, Var),
         ids: (u64, u64),
     ) -> (PlanBox, PlanBox)
         requires room { HasRoomFor bx self.old }
-        requires instance { bx.frame ≡ frame_of instance.now }
-        requires free { IsTrue (is_free bx.ranges step var) }
-        ensures lower { result.0 ≡ child_of lower_half bx step var ids.0 }
-        ensures upper { result.1 ≡ child_of upper_half bx step var ids.1 }
+        requires instance { bx.frame ≡ frame_of desk.now.ground.instance.now }
+        requires free { IsTrue (is_free bx.ranges at.0 at.1) }
+        ensures lower { result.0 ≡ child_of lower_half bx at.0 at.1 ids.0 }
+        ensures upper { result.1 ≡ child_of upper_half bx at.0 at.1 ids.1 }
     {
-        let below = mem::replace(&mut self.lower, Blank::new(alloc));
-        let next = next_of(&mut self.kept, alloc);
+        let instance = desk.ground.instance;
+        let (step, var) = at;
+        let below = mem::replace(&mut self.lower, Blank::new(desk.alloc));
+        let next = next_of(&mut self.kept, desk.alloc);
         let above = mem::replace(&mut self.upper, next);
         let (lower, upper, left) = bx.split_over(instance, step, var, ids, (below, above));
         self.lower = left;

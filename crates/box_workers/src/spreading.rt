@@ -25,9 +25,9 @@ use crate::hand::Hand;
 use crate::member::Member;
 use crate::poster::Poster;
 use crate::teaming::work_all;
+use crate::workers::Workers;
 use box_ring::{gather, ring};
-use glass_base::limits::MOST_BUDGET;
-use glass_base::{Instance, Memory, Run};
+use glass_base::{Memory, Run};
 use plan_box::{Frame, PlanBox};
 use shared_best::{Seat, SharedBest};
 use std::alloc::Global;
@@ -36,29 +36,29 @@ use std::thread::Threads;
 
 /// The workers, each with a seat that is split off the given one, once the start boxes are dealt out. The worker of the last arm stands
 /// first.
-fn set_up(
-    alloc: Global,
-    instance: &Instance,
+fn set_up<G: Gate>(
+    desk: &Desk<'_, G>,
     start: Run<PlanBox>,
     workers: u32,
-    shared: &SharedBest,
     seat: &mut Seat,
 ) -> Result<Vec<Member>, Memory>
     requires workers { (1 ≤ workers) × (workers ≤ 8) }
-    requires frames { All (λ (x : PlainBox). x.frame ≡ frame_of instance.now) start.items }
-    requires budget { shared.now.budget ≤ MOST_BUDGET }
-    requires seat { IsSeatOf shared.now seat.old }
-    requires newcomer { seat.old.view ≡ newcomer shared.now.first }
-    ensures seat { OnOk result (IsSeatOf shared.now seat.new) }
+    requires frames { All (λ (x : PlainBox). x.frame
+        ≡ frame_of desk.now.ground.instance.now) start.items }
+    requires seat { IsSeatOf desk.now.shared.now seat.old }
+    requires newcomer { seat.old.view ≡ newcomer desk.now.shared.now.first }
+    ensures seat { OnOk result (IsSeatOf desk.now.shared.now seat.new) }
     ensures unused { OnOk result (IsUnused seat.new.view) }
     ensures allowance { OnOk result (10000001 ≤ seat.new.view.allowance) }
     ensures share { IfOk result (λ ms. share seat.new.view + share_of ms.items
         ≡ share seat.old.view) }
     ensures numbers { IfOk result (λ ms. numbers_of ms.items ≡ reverse (range_with_len 0 workers)) }
-    ensures set { IfOk result (λ ms. AreSetUp instance.now shared.now start.items ms.items) }
+    ensures set { IfOk result (λ ms. AreSetUp desk.now.ground.instance.now desk.now.shared.now
+        start.items ms.items) }
 {
-    let arms = ring(alloc, workers, Frame::of(instance))?;
-    let members = enlist(alloc, instance, shared, seat, arms)?;
+    let instance = desk.ground.instance;
+    let arms = ring(desk.alloc, workers, Frame::of(instance))?;
+    let members = enlist(desk.alloc, instance, desk.shared, seat, arms)?;
     deal(members, start)
 }
 
@@ -98,18 +98,16 @@ fn wind_up(
 /// Several workers handle boxes, from the start boxes on, until each of them rests. What they did is put into this seat and this hand,
 /// and the boxes that are left come back.
 fn work_together<R: Threads + Wait + Sync, G: Gate + Sync, Q: Poster + Copy + Drop + Sync>(
-    rt: &R,
+    workers: &Workers<'_, R, Q>,
     desk: &Desk<'_, G>,
     start: Run<PlanBox>,
-    workers: u32,
     seat: &mut Seat,
     hand: &mut Hand,
-    poster: &Q,
 ) -> Result<Run<PlanBox>, Memory>
     requires starts { desk.now.starts ≡ length start.items }
     requires frames { All (λ (x : PlainBox). x.frame
         ≡ frame_of desk.now.ground.instance.now) start.items }
-    requires workers { (2 ≤ workers) × (workers ≤ 8) }
+    requires several { 2 ≤ workers.now.count }
     requires seat { IsSeatOf desk.now.shared.now seat.old }
     requires newcomer { seat.old.view ≡ newcomer desk.now.shared.now.first }
     requires hand { IsFresh desk.now.ground.instance.now hand.old × (hand.old.left.items ≡ []) }
@@ -119,35 +117,26 @@ fn work_together<R: Threads + Wait + Sync, G: Gate + Sync, Q: Poster + Copy + Dr
     ensures frames { IfOk result (λ boxes. All (λ (x : PlainBox). x.frame
         ≡ frame_of desk.now.ground.instance.now) boxes.items) }
     ensures begun { IfOk result (λ boxes. HasBegun desk.now.ground.instance.now desk.now.shared.now
-        (length start.items) start.items workers seat.old seat.new hand.old hand.new boxes.items) }
+        (length start.items) start.items workers.now.count seat.old seat.new hand.old hand.new
+        boxes.items) }
 {
-    let members = set_up(
-        desk.alloc,
-        desk.ground.instance,
-        start,
-        workers,
-        desk.shared,
-        seat,
-    )?;
-    let members = work_all(rt, desk, poster, members);
+    let members = set_up(desk, start, workers.count, seat)?;
+    let members = work_all(workers.rt, desk, workers.poster, members);
     wind_up(desk.alloc, desk.shared, seat, hand, members)
 }
 
 /// The boxes that are left for the caller, who holds this seat and this hand: all start boxes, where there is to be no other worker; else
 /// those that are left once several workers have handled boxes. What they did is then in the seat and the hand.
 pub(crate) fn spread<R: Threads + Wait + Sync, G: Gate + Sync, Q: Poster + Copy + Drop + Sync>(
-    rt: &R,
+    workers: &Workers<'_, R, Q>,
     desk: &Desk<'_, G>,
     start: Run<PlanBox>,
-    workers: u32,
     seat: &mut Seat,
     hand: &mut Hand,
-    poster: &Q,
 ) -> Result<Run<PlanBox>, Memory>
     requires starts { desk.now.starts ≡ length start.items }
     requires frames { All (λ (x : PlainBox). x.frame
         ≡ frame_of desk.now.ground.instance.now) start.items }
-    requires workers { (1 ≤ workers) × (workers ≤ 8) }
     requires seat { IsSeatOf desk.now.shared.now seat.old }
     requires newcomer { seat.old.view ≡ newcomer desk.now.shared.now.first }
     requires hand { IsFresh desk.now.ground.instance.now hand.old × (hand.old.left.items ≡ []) }
@@ -157,13 +146,14 @@ pub(crate) fn spread<R: Threads + Wait + Sync, G: Gate + Sync, Q: Poster + Copy 
     ensures frames { IfOk result (λ boxes. All (λ (x : PlainBox). x.frame
         ≡ frame_of desk.now.ground.instance.now) boxes.items) }
     ensures begun { IfOk result (λ boxes. HasBegun desk.now.ground.instance.now desk.now.shared.now
-        (length start.items) start.items workers seat.old seat.new hand.old hand.new boxes.items) }
+        (length start.items) start.items workers.now.count seat.old seat.new hand.old hand.new
+        boxes.items) }
 {
-    if workers == 1 {
+    if workers.count == 1 {
         // The box that waits last is handled first: so the start boxes are handled in their order.
         let mut waiting = start;
         waiting.reverse();
         return Ok(waiting);
     }
-    work_together(rt, desk, start, workers, seat, hand, poster)
+    work_together(workers, desk, start, seat, hand)
 }

@@ -9,10 +9,10 @@ ghost use Rattle.box_workers.specs.inner.Rounds.{BreaksOff};
 use crate::desk::Desk;
 use crate::gate::Gate;
 use crate::hand::Hand;
-use crate::handling::{Done, handle};
+use crate::handling::{Done, handle_at};
 use crate::poster::Poster;
 use crate::posting::post_better;
-use glass_base::Memory;
+use glass_base::{Memory, News};
 use plan_box::PlanBox;
 use shared_best::Seat;
 
@@ -40,18 +40,9 @@ pub(crate) fn turn<G: Gate, Q: Poster>(
         seat.old seat.new hand.old hand.new) }
 {
     desk.gate.pass(hand.worker, bx.id());
-    desk.gate.sees(hand.loss);
+    desk.gate.hear(News::Loss(hand.loss));
     let before = hand.loss;
-    match handle(
-        desk.alloc,
-        desk.ground.instance,
-        desk.ground.map,
-        desk.shared,
-        seat,
-        hand,
-        desk.starts,
-        bx,
-    ) {
+    match handle_at(desk, seat, hand, bx) {
         Ok(Done::Closed) => {
             post_better(hand, before, poster)?;
             Ok(Done::Closed)

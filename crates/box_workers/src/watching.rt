@@ -15,8 +15,9 @@ ghost use Rattle.box_workers.specs.Watched.{AreOfSearch, steps_of};
 use crate::desk::Desk;
 use crate::gate::Gate;
 use crate::poster::BoardPoster;
-use crate::searching::search_with;
+use crate::searching::search_posting;
 use crate::starting::first_loss;
+use crate::workers::Workers;
 use best_board::{Board, Entries, Entry, copy_trace, settle};
 use cert_log::History;
 use cut_model::Trace;
@@ -157,6 +158,11 @@ pub fn search_watched<'d, R: Threads + Wait + Sync, G: Gate + Sync>(
     let begun = copy_plan(alloc, &first)?;
     let board = Board::new(Entries::new(alloc, instance)?);
     let poster = BoardPoster { board: &board, rt };
-    let history = search_with(rt, &desk, start, first, workers, seat, &poster)?;
+    let workers = Workers {
+        rt,
+        count: workers,
+        poster: &poster,
+    };
+    let history = search_posting(&workers, &desk, start, first, seat)?;
     tell(alloc, ground, &begun, board, history)
 }

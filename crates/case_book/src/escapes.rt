@@ -1,7 +1,7 @@
 //! Escapes, and numbers and words in braces, within a line of a book.
 
 use crate::book::{Block, Insert, Number, Piece};
-use crate::parsing::Fault;
+use crate::fault::Fault;
 use std::alloc::{AllocError, Global};
 use std::mem;
 

@@ -41,6 +41,7 @@ mod book;
 mod comparing;
 mod escapes;
 mod expanding;
+mod fault;
 mod parsing;
 mod report;
 mod running;

@@ -13,7 +13,7 @@ use Rattle.cert_log.specs.Trees.{IsTree}
 use Rattle.cert_log.specs.Visits.{Visit, visits}
 use Rattle.cert_check.specs.declared.verdict.Why.{Why}
 use Rattle.cert_check.specs.declared.verdict.Verdict.{Verdict}
-use Rattle.cert_check.specs.declared.walk.Tally.{Tally}
+use Rattle.cert_check.specs.declared.walk.NodeCounts.{NodeCounts}
 use Rattle.cert_check.specs.declared.walk.Walked.{Walked}
 use Rattle.cert_check.specs.Faults.{FailsToClose, NodeFails, FirstFails, SaysWrong, Answers}
 use Rattle.cert_check.specs.inner.Walks.{visits_from}
@@ -100,7 +100,7 @@ is_good b rs loss c tree same shown all left bound =
     }
 
 -- what is answered behind a whole walk, where a count is wrong
-pub closes_wrong : (b : Problem) (rs : List Ranges) (loss : Option ℕ) (c : Certificate) (tally : Tally) (why : Why) → IsTree c.nodes.items → c.loss ≡ loss
+pub closes_wrong : (b : Problem) (rs : List Ranges) (loss : Option ℕ) (c : Certificate) (tally : NodeCounts) (why : Why) → IsTree c.nodes.items → c.loss ≡ loss
     → Finds b rs loss c (Walked.Whole tally) → Closes c tally (Some why) → Answers b rs loss c (Verdict.Refuse 1 why)
 closes_wrong b rs loss c tally why tree same found (inl h) =
     refuses b rs loss c 1 why tree
@@ -110,14 +110,14 @@ closes_wrong b rs loss c tally why tree same found (inr h) =
     (inr (inr (inr (inl (same, found.0, h.0 ∙ found.2, (λ e. h.1 (e ∙ sym found.1)), refl, h.2 ∙ ap (λ (m : Option ℕ). Why.WrongBound c.bound m) found.1)))))
 
 -- and where they are right, so that the floor is judged
-closes_right : (b : Problem) (rs : List Ranges) (loss : Option ℕ) (c : Certificate) (tally : Tally) (v : Verdict) → IsTree c.nodes.items → c.loss ≡ loss
+closes_right : (b : Problem) (rs : List Ranges) (loss : Option ℕ) (c : Certificate) (tally : NodeCounts) (v : Verdict) → IsTree c.nodes.items → c.loss ≡ loss
     → Finds b rs loss c (Walked.Whole tally) → Closes c tally None → JudgesFloor b c v → Answers b rs loss c v
 closes_right b rs loss c tally (Verdict.Accept bound left) tree same found h f =
     (is_good b rs loss c tree same f.0 found.0 (h.0 ∙ found.2) (h.1 ∙ found.1), f.1, f.2)
 closes_right b rs loss c tally (Verdict.Refuse line why) tree same found h f =
     refuses b rs loss c line why tree (inr (inr (inr (inr (same, found.0, h.0 ∙ found.2, h.1 ∙ found.1, f)))))
 
-pub closes_all : (b : Problem) (rs : List Ranges) (loss : Option ℕ) (c : Certificate) (tally : Tally) (r : Result Verdict Memory) → IsTree c.nodes.items → c.loss ≡ loss
+pub closes_all : (b : Problem) (rs : List Ranges) (loss : Option ℕ) (c : Certificate) (tally : NodeCounts) (r : Result Verdict Memory) → IsTree c.nodes.items → c.loss ≡ loss
     → Finds b rs loss c (Walked.Whole tally) → Closes c tally None → IfOk r (JudgesFloor b c) → IfOk r (Answers b rs loss c)
 closes_all b rs loss c tally (Ok v) tree same found h f = closes_right b rs loss c tally v tree same found h f
 closes_all b rs loss c tally (Err e) tree same found h f = tt

@@ -12,8 +12,8 @@ use Rattle.cert_log.specs.Texts.{lines_of}
 use Rattle.cert_log.specs.Visits.{Visit}
 use Rattle.cert_log.proofs.Walked.{bounds_append}
 use Rattle.cert_check.specs.declared.verdict.Why.{Why}
-use Rattle.cert_check.specs.declared.walk.Tally.{Tally}
-use Rattle.cert_check.specs.declared.walk.Place.{Place}
+use Rattle.cert_check.specs.declared.walk.NodeCounts.{NodeCounts}
+use Rattle.cert_check.specs.declared.walk.TextPlace.{TextPlace}
 use Rattle.cert_check.specs.Faults.{IsNodeFault, NodeFails}
 use Rattle.cert_check.specs.inner.Paths.{top, below}
 use Rattle.cert_check.specs.inner.Walks.{boxes_after, visits_from}
@@ -40,7 +40,7 @@ starts b root loss c boxes e = record {
 }
 
 -- the line of the node that is read
-line_next : (b : Problem) (root : List Ranges) (loss : Option ℕ) (c : Certificate) (k : ℕ) (boxes : List (List Ranges)) (place next : Place) (tally : Tally) (d n : Node)
+line_next : (b : Problem) (root : List Ranges) (loss : Option ℕ) (c : Certificate) (k : ℕ) (boxes : List (List Ranges)) (place next : TextPlace) (tally : NodeCounts) (d n : Node)
     → (w : IsWalking b root loss c k boxes place tally) → k < length c.nodes.items → get_or c.nodes.items k d ≡ n → Reads c.version n place next
     → next.line ≡ 1 + length (lines_of c.version (take (k + 1) c.nodes.items))
 line_next b root loss c k boxes place next tally d n w lt is reads =
@@ -57,7 +57,7 @@ line_next b root loss c k boxes place next tally d n w lt is reads =
     pull false m = omega arith
 
 -- one more node is walked
-pub walks : (b : Problem) (root : List Ranges) (loss : Option ℕ) (c : Certificate) (k : ℕ) (boxes after : List (List Ranges)) (place next : Place) (tally more : Tally) (d n : Node)
+pub walks : (b : Problem) (root : List Ranges) (loss : Option ℕ) (c : Certificate) (k : ℕ) (boxes after : List (List Ranges)) (place next : TextPlace) (tally more : NodeCounts) (d n : Node)
     → IsWalking b root loss c k boxes place tally → k < length c.nodes.items → get_or c.nodes.items k d ≡ n → boxes ≢ []
     → NodePasses b c.floor loss (top boxes) n → Reads c.version n place next → Counts b c.floor n (top boxes) tally more → after ≡ boxes_after n (top boxes) (below boxes)
     → IsWalking b root loss c (k + 1) after next more
@@ -83,7 +83,7 @@ walks b root loss c k boxes after place next tally more d n w lt is some passes 
     }
 
 -- a node may not stand at its box
-pub stops : (b : Problem) (root : List Ranges) (loss : Option ℕ) (c : Certificate) (k : ℕ) (boxes : List (List Ranges)) (place next : Place) (tally : Tally) (d n : Node) (why : Why)
+pub stops : (b : Problem) (root : List Ranges) (loss : Option ℕ) (c : Certificate) (k : ℕ) (boxes : List (List Ranges)) (place next : TextPlace) (tally : NodeCounts) (d n : Node) (why : Why)
     → IsWalking b root loss c k boxes place tally → k < length c.nodes.items → get_or c.nodes.items k d ≡ n → boxes ≢ []
     → NodeFails b c.floor loss (top boxes) n why → Reads c.version n place next → IsNodeFault b loss c (visits_from (root ∷ []) c.nodes.items) next.line why
 stops b root loss c k boxes place next tally d n why w lt is some fails reads = record {

@@ -1,7 +1,6 @@
 //! The bound on the loss of the plans in a box.
 
-ghost use Rattle.std.specs.Prelude.{◌≡◌, ◌+◌, ◌-◌, ◌*◌, ◌<◌, ◌≤◌, ◌^◌, All, List, length, map};
-ghost use Rattle.glass_base.specs.Items.{area_of};
+ghost use Rattle.std.specs.Prelude.{◌≡◌, ◌+◌, ◌<◌, ◌≤◌, ◌^◌, All, List, length, map};
 ghost use Rattle.plan_box.specs.Bounds.{bound as bound_of, ceil_div as ceil_div_of, end_of_items as end_of_items_of, end_of_strip as end_of_strip_of, least_length as least_length_of, reached as reached_of};
 ghost use Rattle.plan_box.specs.Frames.{frame_of};
 ghost use Rattle.plan_box.specs.Leasts.{known};
@@ -15,6 +14,7 @@ use crate::filling::fill;
 use crate::steps::Decided;
 use glass_base::limits::{MOST_ITEMS, MOST_LENGTH};
 use glass_base::{Instance, Run};
+use loss_area::loss_of_length;
 use plan_box::Packed;
 
 /// The quotient, rounded up.
@@ -78,15 +78,6 @@ pub fn least_length(instance: &Instance, steps: &[Decided]) -> u64
     let total = instance.area();
     let glass = ceil_div(total, u64::from(instance.params().height));
     glass.max(reached(instance, total, steps))
-}
-
-/// The loss of a trace of this length, in mm².
-#[tactic(auto, using(plan_box::proofs::LeastLengths::height_times))]
-fn loss_of_length(instance: &Instance, length: u64) -> u64
-    requires { length ≤ 810000000000000 }
-    ensures { result ≡ instance.now.params.height * length - area_of instance.now.items }
-{
-    (u64::from(instance.params().height) * length).saturating_sub(instance.area())
 }
 
 /// The bound on the loss of the traces in the box of these ranges, in mm². The decided steps are written over `steps`, and the

@@ -9,16 +9,15 @@ ghost use Rattle.cert_check.specs.Faults.{Answers};
 ghost use Rattle.cert_check.specs.inner.Walks.{Closes, JudgesFloor};
 
 use crate::verdict::{Verdict, Why};
-use crate::walk::{Tally, Walked, walk};
+use crate::walk::{NodeCounts, Walked, walk};
 use cert_log::Certificate;
 use defect_map::{DefectMap, Ground};
 use front_bound::losses::{FrontSearch, floor_up_to};
-use front_bound::watch::Watch;
-use glass_base::{Instance, Memory};
+use glass_base::{Instance, Listener, Memory};
 use std::alloc::Global;
 
 /// What is wrong where each node may stand at its box: the said number of open nodes is tested, then the said bound.
-fn judge_counts(cert: &Certificate, tally: Tally) -> Option<Why>
+fn judge_counts(cert: &Certificate, tally: NodeCounts) -> Option<Why>
     ensures { Closes cert.now tally result }
 {
     if cert.left != tally.left {
@@ -31,11 +30,11 @@ fn judge_counts(cert: &Certificate, tally: Tally) -> Option<Why>
 }
 
 /// The answer where all else is right: whether fronts show the said floor.
-fn judge_floor<W: Watch>(
+fn judge_floor<L: Listener>(
     alloc: Global,
     instance: &Instance,
     cert: &Certificate,
-    search: &FrontSearch<'_, W>,
+    search: &FrontSearch<'_, L>,
 ) -> Result<Verdict, Memory>
     ensures { IfOk result (JudgesFloor instance.now cert.now) }
 {
@@ -59,13 +58,13 @@ fn judge_floor<W: Watch>(
 /// (`front_bound::losses::floor_up_to`), and else refused, though it may hold. Only want of memory is refused; how much
 /// is taken depends on the instance and the depth of the tree, and not on the number of nodes; for a floor also on the
 /// number of fronts and labels.
-pub fn check_cert<W: Watch>(
+pub fn check_cert<L: Listener>(
     alloc: Global,
     instance: &Instance,
     map: &DefectMap,
     loss: Option<u64>,
     cert: &Certificate,
-    search: &FrontSearch<'_, W>,
+    search: &FrontSearch<'_, L>,
 ) -> Result<Verdict, Memory>
     requires map { map.now ≡ instance.now.defects }
     requires tree { IsTree cert.now.nodes.items }

@@ -15,30 +15,32 @@ use crate::steps::Decided;
 use glass_base::{Instance, Params};
 use plan_trace::level::Level;
 
-/// Whether the gap between two cuts can only be 1 to `waste - 1`; each cut as its least value and its high end.
-fn is_tight(waste: u32, from: (u64, u64), to: (u64, u64)) -> bool
-    requires { from.0 < 2 ^ 40 }
-    ensures { IsTrue result ↔ Tight waste from.0 from.1 to.0 to.1 }
-{
-    from.1 < to.0 && to.1 < from.0 + u64::from(waste)
+/// A gap between two cuts, each of which is given as its least value and its high end.
+#[derive(Clone, Copy)]
+struct Gap {
+    from: (u64, u64),
+    to: (u64, u64),
 }
 
-/// Whether the gap before a piece can only be so narrow: from the end of what stands before it to where the piece begins; or the one
-/// behind it, from where the piece ends to the end of the room, where it is the last one.
-fn is_wedged(
-    waste: u32,
-    before: (u64, u64),
-    begins: (u64, u64),
-    is_last: bool,
-    ends: (u64, u64),
-    room: (u64, u64),
-) -> bool
-    requires before { before.0 < 2 ^ 40 }
-    requires ends { ends.0 < 2 ^ 40 }
-    ensures { IsTrue result ↔ (Tight waste before.0 before.1 begins.0 begins.1
-        ⊎ (IsTrue is_last × Tight waste ends.0 ends.1 room.0 room.1)) }
+/// Whether a gap can only be 1 to `waste - 1`.
+fn is_tight(waste: u32, gap: Gap) -> bool
+    requires { gap.from.0 < 2 ^ 40 }
+    ensures { IsTrue result ↔ Tight waste gap.from.0 gap.from.1 gap.to.0 gap.to.1 }
 {
-    is_tight(waste, before, begins) || (is_last && is_tight(waste, ends, room))
+    gap.from.1 < gap.to.0 && gap.to.1 < gap.from.0 + u64::from(waste)
+}
+
+/// Whether the gap before a piece can only be so narrow; or the one behind it, up to the end of the room, where the piece is
+/// the last one.
+fn is_wedged(waste: u32, before: Gap, is_last: bool, behind: Gap) -> bool
+    requires before { before.from.0 < 2 ^ 40 }
+    requires behind { behind.from.0 < 2 ^ 40 }
+    ensures { IsTrue result
+        ↔ (Tight waste before.from.0 before.from.1 before.to.0 before.to.1
+        ⊎ (IsTrue is_last
+        × Tight waste behind.from.0 behind.from.1 behind.to.0 behind.to.1)) }
+{
+    is_tight(waste, before) || (is_last && is_tight(waste, behind))
 }
 
 /// A cut with this least value and this high end.
@@ -78,13 +80,19 @@ fn strip_behind(
         (Width instance.now k.plate))) }
 {
     let width = instance.width(here.plate());
+    let gap = Gap {
+        from: before,
+        to: cut(here.least_a, here.high_a),
+    };
+    let behind = Gap {
+        from: cut(here.least_b, here.high_b),
+        to: cut(width, width),
+    };
     is_wedged(
         instance.params().waste,
-        before,
-        cut(here.least_a, here.high_a),
+        gap,
         is_last_strip(whole, later),
-        cut(here.least_b, here.high_b),
-        cut(width, width),
+        behind,
     )
 }
 
@@ -122,14 +130,15 @@ fn band_behind(
         × Tight params.now.waste k.least_d k.high_d params.now.height params.now.height)) }
 {
     let height = params.height;
-    is_wedged(
-        params.waste,
-        before,
-        cut(here.least_c, here.high_c),
-        is_last_band(whole, later),
-        cut(here.least_d, here.high_d),
-        cut(height, height),
-    )
+    let gap = Gap {
+        from: before,
+        to: cut(here.least_c, here.high_c),
+    };
+    let behind = Gap {
+        from: cut(here.least_d, here.high_d),
+        to: cut(height, height),
+    };
+    is_wedged(params.waste, gap, is_last_band(whole, later), behind)
 }
 
 /// The gaps beside a band that the step begins.
@@ -159,14 +168,15 @@ fn cell_behind(
         ⊎ (IsTrue (last_cell whole (levels_in later.now))
         × Tight params.now.waste (k.least_e + k.cell_w) (k.high_e + k.cell_w) k.least_b k.high_b)) }
 {
-    is_wedged(
-        params.waste,
-        before,
-        cut(here.least_e, here.high_e),
-        is_last_cell(whole, later),
-        cut_behind(here.least_e, here.high_e, here.cell_w),
-        cut(here.least_b, here.high_b),
-    )
+    let gap = Gap {
+        from: before,
+        to: cut(here.least_e, here.high_e),
+    };
+    let behind = Gap {
+        from: cut_behind(here.least_e, here.high_e, here.cell_w),
+        to: cut(here.least_b, here.high_b),
+    };
+    is_wedged(params.waste, gap, is_last_cell(whole, later), behind)
 }
 
 /// The gaps beside a cell that the step begins.
@@ -195,8 +205,10 @@ fn over_one(params: &Params, whole: bool, here: &Decided, later: &[Decided]) -> 
         && is_last_in_cell(whole, later)
         && is_tight(
             params.waste,
-            cut_behind(here.least_c, here.high_c, here.h),
-            cut(here.least_d, here.high_d),
+            Gap {
+                from: cut_behind(here.least_c, here.high_c, here.h),
+                to: cut(here.least_d, here.high_d),
+            },
         )
 }
 

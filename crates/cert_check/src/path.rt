@@ -63,20 +63,20 @@ fn full(alloc: Global, frame: Frame) -> Result<Run<Packed>, Memory>
     Ok(run)
 }
 
-/// Replaces the range of a variable of a step.
-fn replace(stored: &mut Run<Packed>, frame: Frame, step: u32, var: Var, low: u32, high: u32)
+/// Replaces the range of a variable of a step by this one.
+fn replace(stored: &mut Run<Packed>, frame: Frame, step: u32, var: Var, range: (u32, u32))
     requires stored { AreStored frame stored.old.items }
     requires inside { step < length stored.old.items }
-    requires order { low ≤ high }
-    requires within { high ≤ (span_of var (full_ranges frame)).high }
+    requires order { range.0 ≤ range.1 }
+    requires within { range.1 ≤ (span_of var (full_ranges frame)).high }
     ensures stored { AreStored frame stored.new.items }
     ensures each_step { length stored.new.items ≡ length stored.old.items }
     ensures ranges { map unpacked stored.new.items
-        ≡ half_at (λ _. record { low = low; high = high })
+        ≡ half_at (λ _. record { low = range.0; high = range.1 })
         (map unpacked stored.old.items) step var }
 {
     let old = stored.as_slice()[step as usize];
-    stored.set(step as usize, old.with(var, low, high));
+    stored.set(step as usize, old.with(var, range.0, range.1));
 }
 
 /// Leads from a done box to the next one that waits, if one does.
@@ -89,7 +89,7 @@ fn back(stored: &mut Run<Packed>, turns: &mut Run<Turn>, frame: Frame) -> bool
     while let Some(&turn) = turns.as_slice().last() {
         if !turn.upper {
             let middle = turn.low + (turn.high - turn.low) / 2;
-            replace(stored, frame, turn.step, turn.var, middle + 1, turn.high);
+            replace(stored, frame, turn.step, turn.var, (middle + 1, turn.high));
             let last = turns.len() - 1;
             turns.set(
                 last,
@@ -100,7 +100,7 @@ fn back(stored: &mut Run<Packed>, turns: &mut Run<Turn>, frame: Frame) -> bool
             );
             return true;
         }
-        replace(stored, frame, turn.step, turn.var, turn.low, turn.high);
+        replace(stored, frame, turn.step, turn.var, (turn.low, turn.high));
         turns.pop();
     }
     false
@@ -136,7 +136,7 @@ fn enter(
             upper: false,
         },
     )?;
-    replace(stored, frame, step, var, low, low + (high - low) / 2);
+    replace(stored, frame, step, var, (low, low + (high - low) / 2));
     Ok(())
 }
 

@@ -2,7 +2,7 @@
 
 ghost use Rattle.std.specs.Prelude.{◌≡◌, ◌+◌, ◌*◌, ◌<◌, ◌≤◌, ◌^◌, IfSome, List};
 ghost use Rattle.glass_base.specs.Items.{IsItemInRange};
-ghost use Rattle.glass_base.specs.Problem.{IsProblem, item_at};
+ghost use Rattle.glass_base.specs.Problem.{IsProblem};
 ghost use Rattle.plan_trace.specs.Marks.{Draw, begins, drawn as drawn_of, place_of};
 ghost use Rattle.plan_box.specs.Decisions.{draw_at};
 ghost use Rattle.plan_box.specs.Leasts.{fixed};
@@ -12,24 +12,11 @@ ghost use Rattle.plan_box.specs.Within.{AreRangesWithin};
 ghost use Rattle.cert_check.specs.inner.Knowns.{fixed_of, known_in, place_in, with_place};
 
 use crate::steps::Decided;
+use glass_base::Instance;
 use glass_base::limits::{MOST_LENGTH, MOST_REACH, MOST_SIDE};
-use glass_base::{Instance, Item};
 use plan_box::{Packed, Var};
 use plan_trace::laid::{height_in, plates_behind, width_in};
 use plan_trace::level::Level;
-
-/// The next item of a stack of which so many are drawn.
-fn next_item(instance: &Instance, stack: u32, taken: u32) -> Option<Item>
-    ensures value { result ≡ item_at instance.now stack taken }
-    ensures range { IfSome result IsItemInRange }
-    ensures rules { IsProblem instance.now }
-{
-    if stack >= instance.stacks() {
-        return None;
-    }
-    let place = *instance.stack(stack).get(taken as usize)?;
-    instance.items().get(place as usize).copied()
-}
 
 /// The height that an item takes in its cell.
 #[tactic(auto, using(plan_box::proofs::Sizes::times_bit))]
@@ -115,7 +102,7 @@ pub fn next_place(
     let turn = ranges.range(Var::Turn).0;
     let kind = ranges.range(Var::Kind).0;
     let lift = ranges.range(Var::Lift).0;
-    let item = next_item(instance, stack, taken);
+    let item = instance.item_of(stack, taken as usize);
     let h = height_in(turn, item);
     let begun = Decided {
         level,

@@ -24,26 +24,27 @@ use cut_model::Step;
 use defect_map::Ground;
 use glass_base::limits::{MOST_ITEMS, MOST_LENGTH};
 use glass_base::{Instance, Run};
-use plan_box::{Packed, Reason};
+use plan_box::{BoxGround, Packed, Reason};
 use plan_trace::first_broken;
 
-/// Whether a reason is a fact at a decided step; `last` is the step before it, and `whole` holds where all steps are decided.
+/// Whether a reason is a fact at a decided step; `last` is the step before it.
 fn is_fact_at(
-    ground: Ground<'_>,
-    whole: bool,
+    asked: BoxGround<'_>,
     reason: Reason,
     last: &Decided,
     here: &Decided,
     later: &[Decided],
 ) -> bool
     requires within { AreWithin MOST_LENGTH (known_in here.now) }
-    ensures { IsTrue result ↔ FactOf ground.entry.instance.now whole reason last.now.level
-        (known_in last.now) here.now.level (known_in here.now) (levels_in later.now) }
+    ensures { IsTrue result ↔ FactOf asked.entry.ground.instance.now asked.entry.whole reason
+        last.now.level (known_in last.now) here.now.level (known_in here.now)
+        (levels_in later.now) }
 {
+    let ground = asked.ground;
     let params = ground.instance.params();
     match reason {
         Reason::R1 => has_no_place(here),
-        Reason::R2 => has_narrow_gap(ground.instance, whole, last, here, later),
+        Reason::R2 => has_narrow_gap(ground.instance, asked.whole, last, here, later),
         Reason::R3 => item_met(ground.map, here),
         Reason::R4 => cut_met(ground, here),
         Reason::R5 => is_too_wide(params, here),
@@ -53,14 +54,15 @@ fn is_fact_at(
 }
 
 /// Whether a reason is a fact at one of these decided steps.
-fn is_fact_at_some(ground: Ground<'_>, whole: bool, reason: Reason, steps: &[Decided]) -> bool
+fn is_fact_at_some(asked: BoxGround<'_>, reason: Reason, steps: &[Decided]) -> bool
     requires within { All (λ k. AreWithin MOST_LENGTH (known_in k)) steps.now }
-    ensures { IsTrue result ↔ SomeFixed (FactOf ground.entry.instance.now whole reason) NewPlate
-        no_known (map fixed_of steps.now) }
+    ensures { let b = asked.entry.ground.instance.now in IsTrue result
+        ↔ SomeFixed (FactOf b asked.entry.whole reason) NewPlate no_known
+        (map fixed_of steps.now) }
 {
     let mut last = Decided::none();
     for (i, here) in steps.iter().enumerate() {
-        if is_fact_at(ground, whole, reason, &last, here, &steps[i + 1..]) {
+        if is_fact_at(asked, reason, &last, here, &steps[i + 1..]) {
             return true;
         }
         last = *here;
@@ -74,8 +76,11 @@ fn is_fact(ground: Ground<'_>, ranges: &[Packed], steps: &[Decided], reason: Rea
     ensures { let b = ground.entry.instance.now in let rs = map unpacked ranges.now in IsTrue result
         ↔ AtSome (FactOf b (all_decided rs) reason) b rs }
 {
-    let whole = steps.len() == ranges.len();
-    is_fact_at_some(ground, whole, reason, steps)
+    let asked = BoxGround {
+        ground,
+        whole: steps.len() == ranges.len(),
+    };
+    is_fact_at_some(asked, reason, steps)
 }
 
 /// Whether a cut can lie nowhere, or more glass is needed than there is.

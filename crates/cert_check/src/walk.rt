@@ -28,7 +28,7 @@ use std::alloc::Global;
 
 /// Where a walk is in the text.
 #[derive(Clone, Copy, Debug, PartialEq, Eq)]
-pub struct Place {
+pub struct TextPlace {
     /// The line of the last node.
     pub line: u64,
     /// The last node is open.
@@ -37,7 +37,7 @@ pub struct Place {
 
 /// What a walk counts.
 #[derive(Clone, Copy, Debug, PartialEq, Eq)]
-pub struct Tally {
+pub struct NodeCounts {
     /// The least of the loss and of the bounds of the open nodes.
     pub least: Option<u64>,
     /// The number of open nodes.
@@ -48,12 +48,12 @@ pub struct Tally {
 #[derive(Clone, Copy, Debug, PartialEq, Eq)]
 pub enum Walked {
     /// Each node may stand at its box.
-    Whole(Tally),
+    Whole(NodeCounts),
     /// The first node that may not.
     Fault(u64, Why),
 }
 
-impl Place {
+impl TextPlace {
     ghost use Rattle.std.specs.Prelude.{◌<◌, ◌^◌};
     ghost use Rattle.cert_check.specs.inner.Walks.{Reads};
 
@@ -234,34 +234,42 @@ fn judge(
     }
 }
 
-/// Counts a node at the box at hand; its bound is raised to the floor.
-fn count(
-    instance: &Instance,
-    floor: u64,
-    node: Node,
-    path: &Path,
-    tally: &mut Tally,
-    scratch: &mut Scratch,
-)
-    requires frame { path.now.frame ≡ frame_of instance.now }
-    requires waits { path.now.boxes ≢ [] }
-    requires few { tally.old.left < 2 ^ 64 - 1 }
-    requires room { HasRoom (length instance.now.items) scratch.old }
-    ensures counts { Counts instance.now floor node (top path.now.boxes) tally.old tally.new }
-    ensures room { HasRoom (length instance.now.items) scratch.new }
-{
-    match node {
-        Node::Left => {
-            let bound = bound(
-                instance,
-                path.stored(),
-                &mut scratch.steps,
-                &mut scratch.taken,
-            );
-            tally.least = with_bound(tally.least, floor.max(bound));
-            tally.left += 1;
+impl NodeCounts {
+    ghost use Rattle.std.specs.Prelude.{◌≡◌, ◌≢◌, ◌<◌, ◌-◌, ◌^◌, [], length};
+    ghost use Rattle.plan_box.specs.Frames.{frame_of};
+    ghost use Rattle.cert_check.specs.inner.Knowns.{HasRoom};
+    ghost use Rattle.cert_check.specs.inner.Paths.{top};
+    ghost use Rattle.cert_check.specs.inner.Walks.{Counts};
+
+    /// Counts a node at the box at hand; its bound is raised to the floor.
+    fn count(
+        &mut self,
+        instance: &Instance,
+        floor: u64,
+        node: Node,
+        path: &Path,
+        scratch: &mut Scratch,
+    )
+        requires frame { path.now.frame ≡ frame_of instance.now }
+        requires waits { path.now.boxes ≢ [] }
+        requires few { self.old.left < 2 ^ 64 - 1 }
+        requires room { HasRoom (length instance.now.items) scratch.old }
+        ensures counts { Counts instance.now floor node (top path.now.boxes) self.old self.new }
+        ensures room { HasRoom (length instance.now.items) scratch.new }
+    {
+        match node {
+            Node::Left => {
+                let bound = bound(
+                    instance,
+                    path.stored(),
+                    &mut scratch.steps,
+                    &mut scratch.taken,
+                );
+                self.least = with_bound(self.least, floor.max(bound));
+                self.left += 1;
+            }
+            Node::Split { .. } | Node::Closed(_) => {}
         }
-        Node::Split { .. } | Node::Closed(_) => {}
     }
 }
 
@@ -280,11 +288,11 @@ fn walk_on(
     ensures { let b = ground.entry.instance.now in
         IfOk result (Finds b (root_of (frame_of b) 0).ranges loss cert.now) }
 {
-    let mut place = Place {
+    let mut place = TextPlace {
         line: 1,
         after_open: false,
     };
-    let mut tally = Tally {
+    let mut tally = NodeCounts {
         least: loss,
         left: 0,
     };
@@ -297,14 +305,7 @@ fn walk_on(
         if let Some(why) = judge(ground, aim, *node, path, scratch) {
             return Ok(Walked::Fault(place.line, why));
         }
-        count(
-            ground.instance,
-            cert.floor,
-            *node,
-            path,
-            &mut tally,
-            scratch,
-        );
+        tally.count(ground.instance, cert.floor, *node, path, scratch);
         path.pass(*node)?;
     }
     Ok(Walked::Whole(tally))

@@ -12,7 +12,7 @@ use Rattle.cert_log.specs.declared.history.Note.{Note}
 use Rattle.cert_log.specs.declared.history.Left.{Left}
 use Rattle.cert_log.specs.declared.history.History.{History}
 use Rattle.cert_log.specs.declared.certificate.Node.{Node}
-use Rattle.cert_log.specs.declared.assembling.Growth.{Growth}
+use Rattle.cert_log.specs.declared.assembling.CertGrowth.{CertGrowth}
 use Rattle.cert_log.specs.Good.{lesser, version_for}
 use Rattle.cert_log.specs.Levels.{lower_id, upper_id}
 use Rattle.cert_log.specs.inner.Growth.{Twig, forks, ends, waits, bare, kept_bounds, AreDifferent, IsGrowing, IsMade}
@@ -31,7 +31,7 @@ pub told : (h : History) (root : ℕ) (ws vs : List ℕ) (ns ms : List Node) (k 
 told h root ws vs ns ms k j w n b g =
     subst (λ (xs : List ℕ). IsGrowing h root xs ns k) (sym w) (subst (λ (xs : List Node). IsGrowing h root vs xs k) (sym n) (subst (λ (x : Option ℕ). IsGrowing h root vs ms x) (sym b) g))
 
-module _ (h : History) (once : AreDifferent h) (next : ℕ) (old new : Growth) where
+module _ (h : History) (once : AreDifferent h) (next : ℕ) (old new : CertGrowth) where
   one_more : (n : Node) → new.nodes.items ≡ old.nodes.items ++ n ∷ [] → length new.nodes.items ≡ length old.nodes.items + 1
   one_more n e = ap length e ∙ length_push old.nodes.items n
 

@@ -13,7 +13,7 @@ ghost use Rattle.cert_log.specs.inner.Writing.{IsNext, Writes};
 
 use crate::certificate::{Certificate, Node};
 use crate::history::{Act, History, NO_LOSS};
-use crate::places::{Entry, entry_of, places};
+use crate::places::{Fate, entry_of, places};
 use glass_base::{Instance, Memory, Run, append};
 use std::alloc::Global;
 
@@ -50,7 +50,7 @@ fn count_left(nodes: &[Node]) -> u64
 
 /// A certificate that is being written.
 #[derive(Drop)]
-pub(crate) struct Growth {
+pub(crate) struct CertGrowth {
     /// The identities whose trees are still to come, the next one last.
     waiting: Run<u64>,
     nodes: Run<Node>,
@@ -62,7 +62,7 @@ pub(crate) struct Growth {
 fn write_node(
     history: &History,
     places: &[usize],
-    growth: &mut Growth,
+    growth: &mut CertGrowth,
     next: u64,
 ) -> Result<(), Memory>
     requires index { IsIndexed (ids_of history.now) (length (ids_of history.now)) places.now }
@@ -72,7 +72,7 @@ fn write_node(
     ensures { OnOk result (Writes history.now next growth.old growth.new) }
 {
     match entry_of(history, places, next) {
-        Entry::Noted(note) => match note.act {
+        Fate::Noted(note) => match note.act {
             Act::Split { step, var } => {
                 let lower = history.starts + 2 * note.ticket;
                 append(&mut growth.waiting, lower + 1)?;
@@ -81,7 +81,7 @@ fn write_node(
             }
             Act::Closed { cause, .. } => append(&mut growth.nodes, Node::Closed(cause)),
         },
-        Entry::Open(kept) => {
+        Fate::Open(kept) => {
             growth.bound = with_bound(growth.bound, history.floor.max(kept));
             append(&mut growth.nodes, Node::Left)
         }
@@ -143,7 +143,7 @@ fn certificate_of(
     ensures head { IfOk result (λ c. IsHead (head_of c)) }
 {
     let loss = best_loss(history);
-    let mut growth = Growth {
+    let mut growth = CertGrowth {
         waiting: Run::new(alloc),
         nodes: Run::new(alloc),
         bound: loss,

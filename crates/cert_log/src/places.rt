@@ -10,7 +10,7 @@ use std::alloc::Global;
 
 /// What became of a box.
 #[derive(Clone, Copy)]
-pub(crate) enum Entry {
+pub(crate) enum Fate {
     /// It was handled.
     Noted(Note),
     /// It was left open, and its plans lose at least this, in mm².
@@ -57,7 +57,7 @@ pub(crate) fn places(alloc: Global, history: &History, room: usize) -> Result<Ve
 }
 
 /// What became of the box of this identity.
-pub(crate) fn entry_of(history: &History, places: &[usize], id: u64) -> Entry
+pub(crate) fn entry_of(history: &History, places: &[usize], id: u64) -> Fate
     requires index { IsIndexed (ids_of history.now) (length (ids_of history.now)) places.now }
     requires within { id < length places.now }
     requires known { Contains (ids_of history.now) id }
@@ -65,7 +65,7 @@ pub(crate) fn entry_of(history: &History, places: &[usize], id: u64) -> Entry
 {
     let place = places[id as usize];
     match history.log.get(place) {
-        Some(note) => Entry::Noted(*note),
-        None => Entry::Open(history.left.as_slice()[place - history.log.len()].bound),
+        Some(note) => Fate::Noted(*note),
+        None => Fate::Open(history.left.as_slice()[place - history.log.len()].bound),
     }
 }

@@ -14,50 +14,67 @@ use glass_base::{Instance, Memory, Run, append};
 use plan_box::{PlanBox, Var};
 use std::alloc::Global;
 
-/// The halves of a box at a free variable wait, the lower one as the next. Their identities do not matter.
-fn split(
-    alloc: Global,
-    instance: &Instance,
-    step: u32,
-    var: Var,
-    bx: PlanBox,
-    waiting: &mut Run<PlanBox>,
-) -> Result<(), Memory>
-    requires frame { bx.frame ≡ frame_of instance.now }
-    requires may { MayPass bx.ranges (Node.Split step var) }
-    ensures { OnOk result (waiting.new.items ≡ waiting.old.items
-        ++ boxes_behind (Node.Split step var) bx) }
-{
-    match bx.split(alloc, instance, step, var, (0, 0)) {
-        Ok((lower, upper)) => {
-            append(waiting, upper)?;
-            append(waiting, lower)
-        }
-        Err((_, memory)) => Err(memory),
-    }
+/// The boxes of a walk over the nodes of a certificate.
+#[derive(Drop)]
+struct Boxes {
+    /// Those that wait, the next one at the end.
+    waiting: Run<PlanBox>,
+    /// Those of open nodes, with the identities from 0 on.
+    left: Run<PlanBox>,
 }
 
-/// Goes on behind a node at its box: the halves of a box that is split wait, and one that is open is numbered and kept.
-fn pass(
-    alloc: Global,
-    instance: &Instance,
-    node: Node,
-    bx: PlanBox,
-    waiting: &mut Run<PlanBox>,
-    boxes: &mut Run<PlanBox>,
-) -> Result<(), Memory>
-    requires frame { bx.frame ≡ frame_of instance.now }
-    requires may { MayPass bx.ranges node }
-    ensures waiting { OnOk result (waiting.new.items ≡ waiting.old.items ++ boxes_behind node bx) }
-    ensures boxes { OnOk result (boxes.new.items
-        ≡ boxes.old.items ++ left_at (length boxes.old.items) node bx) }
-{
-    match node {
-        Node::Split { step, var } => split(alloc, instance, step, var, bx, waiting),
-        Node::Closed(_) => Ok(()),
-        Node::Left => {
-            let id = boxes.len() as u64;
-            append(boxes, bx.with_id(id))
+impl Boxes {
+    ghost use Rattle.std.specs.Prelude.{◌≡◌, ◌++◌, OnOk, length};
+    ghost use Rattle.plan_box.specs.Frames.{frame_of};
+    ghost use Rattle.cert_resume.specs.inner.Walks.{MayPass, boxes_behind, left_at};
+
+    /// The halves of a box at a free variable wait, the lower one as the next. Their identities do not matter.
+    fn split(
+        &mut self,
+        alloc: Global,
+        instance: &Instance,
+        step: u32,
+        var: Var,
+        bx: PlanBox,
+    ) -> Result<(), Memory>
+        requires frame { bx.frame ≡ frame_of instance.now }
+        requires may { MayPass bx.ranges (Node.Split step var) }
+        ensures waiting { OnOk result (self.new.waiting.items ≡ self.old.waiting.items
+            ++ boxes_behind (Node.Split step var) bx) }
+        ensures left { self.new.left ≡ self.old.left }
+    {
+        match bx.split(alloc, instance, step, var, (0, 0)) {
+            Ok((lower, upper)) => {
+                append(&mut self.waiting, upper)?;
+                append(&mut self.waiting, lower)
+            }
+            Err((_, memory)) => Err(memory),
+        }
+    }
+
+    /// Goes on behind a node at its box: the halves of a box that is split wait, and one that is open is numbered and
+    /// kept.
+    fn pass(
+        &mut self,
+        alloc: Global,
+        instance: &Instance,
+        node: Node,
+        bx: PlanBox,
+    ) -> Result<(), Memory>
+        requires frame { bx.frame ≡ frame_of instance.now }
+        requires may { MayPass bx.ranges node }
+        ensures waiting { OnOk result (self.new.waiting.items
+            ≡ self.old.waiting.items ++ boxes_behind node bx) }
+        ensures left { OnOk result (self.new.left.items
+            ≡ self.old.left.items ++ left_at (length self.old.left.items) node bx) }
+    {
+        match node {
+            Node::Split { step, var } => self.split(alloc, instance, step, var, bx),
+            Node::Closed(_) => Ok(()),
+            Node::Left => {
+                let id = self.left.len() as u64;
+                append(&mut self.left, bx.with_id(id))
+            }
         }
     }
 }
@@ -80,12 +97,15 @@ pub fn left_boxes(
 {
     let mut waiting = Run::new(alloc);
     append(&mut waiting, PlanBox::root(alloc, instance, 0)?)?;
-    let mut boxes = Run::new(alloc);
+    let mut boxes = Boxes {
+        waiting,
+        left: Run::new(alloc),
+    };
     for node in cert.nodes.as_slice() {
-        let Some(bx) = waiting.pop() else {
+        let Some(bx) = boxes.waiting.pop() else {
             unreachable!();
         };
-        pass(alloc, instance, *node, bx, &mut waiting, &mut boxes)?;
+        boxes.pass(alloc, instance, *node, bx)?;
     }
-    Ok(boxes)
+    Ok(boxes.left)
 }

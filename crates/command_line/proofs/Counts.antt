@@ -8,8 +8,8 @@ use Rattle.std.specs.Str.Parse.{ParsesUnsigned, digits_value}
 use Rattle.std.specs.Str.Pattern.{LacksTextAt}
 use Rattle.std.proofs.lemmas.Bool.{cases_Bool}
 use Rattle.std.proofs.lemmas.Str.Parse.{IsDigitsTest, numerals_by_value, parse_digits}
-use Rattle.command_line.specs.Grammar.{count_value, has_leading_zero, is_number, number_within, setting_of}
-use Rattle.command_line.specs.declared.grammar.Count.{Count}
+use Rattle.command_line.specs.Words.{count_value, has_leading_zero, is_number, number_within, setting_of}
+use Rattle.command_line.specs.declared.kinds.Count.{Count}
 use Rattle.command_line.proofs.Prefixes.{front_differs}
 
 both : (a b : Bool) → (a && b) ≡ true → (a ≡ true) × (b ≡ true)

@@ -6,7 +6,7 @@ use Rattle.std.proofs.lemmas.Bool.{cases_Bool}
 use Rattle.std.proofs.lemmas.List.{take-append-drop}
 use Rattle.std.proofs.lemmas.Slice.Eq.{bytes_eq-Decides}
 use Rattle.glass_base.specs.declared.role.Role.{Role}
-use Rattle.command_line.specs.Grammar.{option_front, option_name}
+use Rattle.command_line.specs.Words.{option_front, option_name}
 
 pub front_differs : (front word : List ℕ) → LacksTextAt front word 0 → bytes_eq (take (length front) word) front ≡ false
 front_differs front word lacks = elim (cases_Bool (bytes_eq (take (length front) word) front)) [

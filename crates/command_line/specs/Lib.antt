@@ -1,3 +1,5 @@
+pub mod Rows
+pub mod Words
 pub mod Grammar
 pub mod Lines
 pub mod Manual

@@ -1,24 +1,25 @@
 -- What the programs tell of themselves: their commands and options, made from the table of commands, and their version.
-use Rattle.std.specs.Prelude.{◌≡◌, ◌||◌, ◌++◌, ℕ, List, [], ◌∷◌, Bool, true, if◌then◌else◌, Option, Some, None, codes}
+use Rattle.std.specs.Prelude.{◌≡◌, ◌||◌, ◌++◌, ℕ, List, [], ◌∷◌, map, Bool, true, if◌then◌else◌, Option, Some, None, codes}
 use Rattle.std.specs.Fmt.{decimal}
 use Rattle.std.specs.List.{flat_map, list_all, list_any}
 use Rattle.std.specs.Str.{bytes_eq}
 use Rattle.glass_base.specs.Roles.{is_role}
 use Rattle.glass_base.specs.declared.role.Role.{Role}
 use Rattle.glass_base.specs.declared.role.Role.TheVariants as role
-use Rattle.command_line.specs.Grammar.{flag_word, limits, option_front, pattern_of, setting_of, sizes, verbs}
-use Rattle.command_line.specs.declared.grammar.Count.{Count}
-use Rattle.command_line.specs.declared.grammar.Count.TheVariants as count
-use Rattle.command_line.specs.declared.grammar.Flag.{Flag}
-use Rattle.command_line.specs.declared.grammar.Flag.TheVariants as flag
-use Rattle.command_line.specs.declared.grammar.Lead.{Lead}
-use Rattle.command_line.specs.declared.grammar.Lead.TheVariants as lead
-use Rattle.command_line.specs.declared.grammar.LineOption.{LineOption}
-use Rattle.command_line.specs.declared.grammar.LineOption.TheVariants as option
-use Rattle.command_line.specs.declared.grammar.Product.{Product}
-use Rattle.command_line.specs.declared.grammar.Product.TheVariants as product
-use Rattle.command_line.specs.declared.grammar.Verb.{Verb}
-use Rattle.command_line.specs.declared.grammar.Verb.TheVariants as verb
+use Rattle.command_line.specs.Rows.{Pattern, limits, pattern_of, picture, sizes, verbs}
+use Rattle.command_line.specs.Words.{flag_word, option_front, setting_of}
+use Rattle.command_line.specs.declared.kinds.Count.{Count}
+use Rattle.command_line.specs.declared.kinds.Count.TheVariants as count
+use Rattle.command_line.specs.declared.kinds.Flag.{Flag}
+use Rattle.command_line.specs.declared.kinds.Flag.TheVariants as flag
+use Rattle.command_line.specs.declared.kinds.Lead.{Lead}
+use Rattle.command_line.specs.declared.kinds.Lead.TheVariants as lead
+use Rattle.command_line.specs.declared.kinds.LineOption.{LineOption}
+use Rattle.command_line.specs.declared.kinds.LineOption.TheVariants as option
+use Rattle.command_line.specs.declared.kinds.Product.{Product}
+use Rattle.command_line.specs.declared.kinds.Product.TheVariants as product
+use Rattle.command_line.specs.declared.kinds.Verb.{Verb}
+use Rattle.command_line.specs.declared.kinds.Verb.TheVariants as verb
 use Rattle.command_line.specs.declared.questions.Program.{Program}
 use Rattle.command_line.specs.declared.questions.Program.TheVariants as program
 use Rattle.command_line.specs.declared.questions.Question.{Question}
@@ -60,11 +61,6 @@ abbrev pub stored_name : List Role → Product → List ℕ
 stored_name reads product.Certificate = cert_name reads
 stored_name reads _ = codes "OUT"
 
--- with what the line of a command begins; the program that draws has one command, whose word is not said
-abbrev pub line_front : Verb → List ℕ
-line_front verb.Picture = codes "glass-picture"
-line_front of = codes "glass " ++ (pattern_of of).word
-
 -- what the line of a command says of a number, of a file and of an option
 abbrev pub lead_piece : Lead → List ℕ
 lead_piece of = codes " " ++ lead_name of
@@ -83,14 +79,23 @@ option_text (option.Word of) = flag_word of
 abbrev pub option_piece : LineOption → List ℕ
 option_piece of = codes " [" ++ option_text of ++ codes "]"
 
--- the line of a command: its numbers and its files, and behind them in brackets its options
-abbrev pub named_line : Verb → List ℕ
-named_line of =
-    let pattern = pattern_of of in
-    line_front of ++ flat_map lead_piece pattern.leads ++ flat_map read_piece pattern.reads ++ flat_map (stored_piece pattern.reads) pattern.stores
+-- the line of a row that begins so: its numbers and its files, and behind them in brackets its options
+abbrev pub named_line : List ℕ → Pattern → List ℕ
+named_line front row = front ++ flat_map lead_piece row.leads ++ flat_map read_piece row.reads ++ flat_map (stored_piece row.reads) row.stores
+
+abbrev pub row_line : List ℕ → Pattern → List ℕ
+row_line front row = named_line front row ++ flat_map option_piece row.options
+
+-- the line of a command
+abbrev pub line_front : Verb → List ℕ
+line_front of = codes "glass " ++ (pattern_of of).word
 
 abbrev pub usage_of : Verb → List ℕ
-usage_of of = named_line of ++ flat_map option_piece (pattern_of of).options
+usage_of of = row_line (line_front of) (pattern_of of)
+
+-- and that of the program that draws, whose one command is not said
+abbrev pub picture_usage : List ℕ
+picture_usage = row_line (codes "glass-picture") picture
 
 -- what the commands do
 abbrev pub verb_about : Verb → List ℕ
@@ -104,7 +109,9 @@ verb_about verb.Resume = codes "checks them as well, and goes on with the search
 verb_about verb.Freeze = codes "plans anew what stands behind the first K plates"
 verb_about verb.Sheet = codes "the instructions by which a table cuts a plan"
 verb_about verb.Replay = codes "follows such instructions"
-verb_about verb.Picture = codes "a picture of a plan, with its loss or the first rule that it breaks"
+
+abbrev pub picture_about : List ℕ
+picture_about = codes "a picture of a plan, with its loss or the first rule that it breaks"
 
 -- what the options do
 abbrev pub file_about : Role → List ℕ
@@ -132,6 +139,9 @@ entry line about = codes "  " ++ line ++ codes "\n      " ++ about ++ codes "\n"
 abbrev pub verb_entry : Verb → List ℕ
 verb_entry of = entry (usage_of of) (verb_about of)
 
+abbrev pub picture_entry : List ℕ
+picture_entry = entry picture_usage picture_about
+
 -- of a number also which ones can be set, and the one that is set where the option is not there
 abbrev pub count_told : Count → List ℕ
 count_told of = count_about of ++ codes ": 1 to " ++ decimal (setting_of of).most ++ codes ", usually " ++ decimal (setting_of of).usual
@@ -144,35 +154,38 @@ option_about (option.Word of) = flag_about of
 abbrev pub option_entry : LineOption → List ℕ
 option_entry of = entry (option_text of) (option_about of)
 
--- a program by its name, its commands, and their options
-pub record Manual : Type 0 where
-  pub name : List ℕ
-  pub verbs : List Verb
-  pub options : List LineOption
+-- the name of a program, the rows of its commands, and their options
+abbrev pub program_name : Program → List ℕ
+program_name program.Glass = codes "glass"
+program_name program.Picture = codes "glass-picture"
 
-abbrev pub manual_of : Program → Manual
-manual_of program.Glass = record {
-  name = codes "glass";
-  verbs = verbs;
-  options =
-      sizes ++ option.File role.Plan ∷ limits ++ option.Number count.Frozen ∷ option.Number count.FrontsLimit ∷ option.Word flag.Watch
-      ∷ option.Word flag.Fronts ∷ [];
-}
-manual_of program.Picture = record { name = codes "glass-picture"; verbs = verb.Picture ∷ []; options = sizes }
+abbrev pub rows_of : Program → List Pattern
+rows_of program.Glass = map pattern_of verbs
+rows_of program.Picture = picture ∷ []
+
+abbrev pub options_of : Program → List LineOption
+options_of program.Glass =
+    sizes ++ option.File role.Plan ∷ limits ++ option.Number count.Frozen ∷ option.Number count.FrontsLimit ∷ option.Word flag.Watch
+    ∷ option.Word flag.Fronts ∷ []
+options_of program.Picture = sizes
 
 -- the commands and the options of a program
-unfoldable pub commands_text : Manual → List ℕ
-commands_text manual = codes "usage:\n" ++ flat_map verb_entry manual.verbs
+abbrev pub entries_of : Program → List ℕ
+entries_of program.Glass = flat_map verb_entry verbs
+entries_of program.Picture = picture_entry
 
-unfoldable pub options_text : Manual → List ℕ
-options_text manual = codes "\noptions, behind the names and in any order:\n" ++ flat_map option_entry manual.options
+unfoldable pub commands_text : Program → List ℕ
+commands_text of = codes "usage:\n" ++ entries_of of
+
+unfoldable pub options_text : Program → List ℕ
+options_text of = codes "\noptions, behind the names and in any order:\n" ++ flat_map option_entry (options_of of)
 
 abbrev pub help_text : Program → List ℕ
-help_text of = commands_text (manual_of of) ++ options_text (manual_of of) ++ codes "\n--help, -h and --version, alone, tell this and the version\n"
+help_text of = commands_text of ++ options_text of ++ codes "\n--help, -h and --version, alone, tell this and the version\n"
 
 -- the version of a program, and the toolchain that it is proved with
 abbrev pub version_line : Program → List ℕ
-version_line of = (manual_of of).name ++ codes " 1.0 rattle-kit-13f\n"
+version_line of = program_name of ++ codes " 1.0 rattle-kit-13f\n"
 
 -- the answer of a program to a question
 abbrev pub answer_of : Program → Question → List ℕ
@@ -182,6 +195,5 @@ answer_of of question.Version = version_line of
 -- each option of each command of a program is told
 abbrev pub AreTold : Program → Type 0
 AreTold of =
-    let manual = manual_of of in
-    let is_told : LineOption → Bool = λ x. list_any (λ y. bytes_eq (option_text x) (option_text y)) manual.options in
-    list_all (λ v. list_all is_told (pattern_of v).options) manual.verbs ≡ true
+    let is_told : LineOption → Bool = λ x. list_any (λ y. bytes_eq (option_text x) (option_text y)) (options_of of) in
+    list_all (λ row. list_all is_told row.options) (rows_of of) ≡ true

@@ -1,3 +1,2 @@
-pub mod Forms
-pub mod Manuals
+pub mod Settings
 pub mod Tellings

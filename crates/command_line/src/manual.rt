@@ -3,14 +3,14 @@
 ghost use Rattle.std.specs.Prelude.{◌≡◌, ◌++◌, ℕ, List, IfOk, OnOk};
 ghost use Rattle.std.specs.List.{flat_map};
 ghost use Rattle.std.specs.String.{string_bytes};
-ghost use Rattle.command_line.specs.Manual.{answer_of, cert_name as cert_name_of, count_about as count_about_of, count_told as count_told_of, commands_text as commands_text_of, options_text as options_text_of, entry as entry_of, flag_about as flag_about_of, help_text as help_text_of, lead_name as lead_name_of, lead_piece as lead_piece_of, line_front as line_front_of, option_about as option_about_of, option_entry as option_entry_of, option_piece as option_piece_of, option_text as option_text_of, file_about as file_about_of, read_name as read_name_of, read_piece as read_piece_of, stored_name as stored_name_of, stored_piece as stored_piece_of, usage_of, named_line as named_line_of, manual_of, verb_about as verb_about_of, verb_entry as verb_entry_of, version_line as version_line_of};
-ghost use Rattle.command_line.specs.inner.Manuals.{manual_in};
+ghost use Rattle.command_line.specs.Lines.{pattern_in};
+ghost use Rattle.command_line.specs.Manual.{answer_of, cert_name as cert_name_of, count_about as count_about_of, count_told as count_told_of, commands_text as commands_text_of, options_text as options_text_of, entries_of, entry as entry_of, flag_about as flag_about_of, help_text as help_text_of, lead_name as lead_name_of, lead_piece as lead_piece_of, line_front as line_front_of, option_about as option_about_of, option_entry as option_entry_of, option_piece as option_piece_of, option_text as option_text_of, options_of as options_of_program, file_about as file_about_of, read_name as read_name_of, read_piece as read_piece_of, stored_name as stored_name_of, stored_piece as stored_piece_of, usage_of, named_line as named_line_of, picture_entry as picture_entry_of, picture_usage, program_name as program_name_of, row_line as row_line_of, verb_about as verb_about_of, verb_entry as verb_entry_of, version_line as version_line_of};
 ghost use Rattle.command_line.specs.inner.Tellings.{Tells};
 
-use crate::grammar::{
-    Count, Flag, Lead, LineOption, Product, VERBS, Verb, flag_word, option_front,
-};
+use crate::kinds::{Count, Flag, Lead, LineOption, Product, Verb};
+use crate::options::{flag_word, option_front};
 use crate::questions::{Program, Question};
+use crate::rows::{Form, PICTURE, VERBS};
 use crate::words::is_among;
 use glass_base::{Memory, Role};
 use std::alloc::Global;
@@ -129,34 +129,11 @@ fn push_each<T: Copy, F: Fn(T) -> Result<String, Memory>>(
     Ok(())
 }
 
-/// With what the line of a command begins.
-fn line_front(alloc: Global, verb: Verb) -> Result<String, Memory>
-    ensures { IfOk result (λ front. string_bytes front ≡ line_front_of verb) }
+/// The line of a row that begins so, with its numbers and its files.
+fn named_line(alloc: Global, front: &str, form: Form) -> Result<String, Memory>
+    ensures { IfOk result (λ line. string_bytes line ≡ named_line_of front.now (pattern_in form)) }
 {
-    match verb {
-        Verb::Picture => Ok(String::from_str(alloc, "glass-picture")?),
-        Verb::Draft
-        | Verb::Plan
-        | Verb::Gen
-        | Verb::Judge
-        | Verb::Verify
-        | Verb::Convert
-        | Verb::Resume
-        | Verb::Freeze
-        | Verb::Sheet
-        | Verb::Replay => {
-            let word = verb.form().word;
-            Ok(format!(in alloc; "glass {word}")?)
-        }
-    }
-}
-
-/// The line of a command, with its numbers and its files.
-fn named_line(alloc: Global, verb: Verb) -> Result<String, Memory>
-    ensures { IfOk result (λ line. string_bytes line ≡ named_line_of verb) }
-{
-    let form = verb.form();
-    let mut line = line_front(alloc, verb)?;
+    let mut line = String::from_str(alloc, front)?;
     push_each(&mut line, form.leads, |lead| lead_piece(alloc, lead))?;
     push_each(&mut line, form.reads, |role| read_piece(alloc, role))?;
     push_each(&mut line, form.stores, |product| {
@@ -165,14 +142,40 @@ fn named_line(alloc: Global, verb: Verb) -> Result<String, Memory>
     Ok(line)
 }
 
+/// The line of a row that begins so: its numbers, its files, and in brackets its options.
+fn row_line(alloc: Global, front: &str, form: Form) -> Result<String, Memory>
+    ensures { IfOk result (λ line. string_bytes line ≡ row_line_of front.now (pattern_in form)) }
+{
+    let mut line = named_line(alloc, front, form)?;
+    push_each(
+        &mut line,
+        form.options,
+        |option| option_piece(alloc, option),
+    )?;
+    Ok(line)
+}
+
+/// With what the line of a command begins.
+fn line_front(alloc: Global, verb: Verb) -> Result<String, Memory>
+    ensures { IfOk result (λ front. string_bytes front ≡ line_front_of verb) }
+{
+    let word = verb.form().word;
+    Ok(format!(in alloc; "glass {word}")?)
+}
+
 /// The line of a command: its numbers, its files, and in brackets its options.
 pub fn usage_line(alloc: Global, verb: Verb) -> Result<String, Memory>
     ensures { IfOk result (λ line. string_bytes line ≡ usage_of verb) }
 {
-    let options = verb.form().options;
-    let mut line = named_line(alloc, verb)?;
-    push_each(&mut line, options, |option| option_piece(alloc, option))?;
-    Ok(line)
+    let front = line_front(alloc, verb)?;
+    row_line(alloc, front.as_str(), verb.form())
+}
+
+/// The line of the program that draws.
+pub fn picture_usage_line(alloc: Global) -> Result<String, Memory>
+    ensures { IfOk result (λ line. string_bytes line ≡ picture_usage) }
+{
+    row_line(alloc, "glass-picture", PICTURE)
 }
 
 /// What a command does.
@@ -190,7 +193,6 @@ fn verb_about(verb: Verb) -> &'static str
         Verb::Freeze => "plans anew what stands behind the first K plates",
         Verb::Sheet => "the instructions by which a table cuts a plan",
         Verb::Replay => "follows such instructions",
-        Verb::Picture => "a picture of a plan, with its loss or the first rule that it breaks",
     }
 }
 
@@ -247,6 +249,15 @@ fn verb_entry(alloc: Global, verb: Verb) -> Result<String, Memory>
     entry(alloc, line.as_str(), verb_about(verb))
 }
 
+/// What is told of the program that draws.
+fn picture_entry(alloc: Global) -> Result<String, Memory>
+    ensures { IfOk result (λ entry. string_bytes entry ≡ picture_entry_of) }
+{
+    let line = picture_usage_line(alloc)?;
+    let about = "a picture of a plan, with its loss or the first rule that it breaks";
+    entry(alloc, line.as_str(), about)
+}
+
 /// What an option does that sets a number, the numbers that can be set, and the one that is set where the option is
 /// not there.
 fn count_told(alloc: Global, count: Count) -> Result<String, Memory>
@@ -278,65 +289,69 @@ fn option_entry(alloc: Global, option: LineOption) -> Result<String, Memory>
     entry(alloc, text.as_str(), about.as_str())
 }
 
-/// A program by its name, its commands, and their options.
-#[derive(Clone, Copy, Debug)]
-struct Manual {
-    name: &'static str,
-    verbs: &'static [Verb],
-    options: &'static [LineOption],
-}
-
-/// What there is to be told of a program.
-fn told_of(program: Program) -> Manual
-    ensures { manual_in result ≡ manual_of program }
+/// The name of a program.
+fn program_name(program: Program) -> &'static str
+    ensures { result.now ≡ program_name_of program }
 {
     match program {
-        Program::Glass => Manual {
-            name: "glass",
-            verbs: &VERBS,
-            options: &[
-                LineOption::File(Role::Params),
-                LineOption::File(Role::Plates),
-                LineOption::File(Role::Plan),
-                LineOption::Number(Count::Workers),
-                LineOption::Number(Count::Budget),
-                LineOption::Number(Count::Effort),
-                LineOption::Number(Count::Seconds),
-                LineOption::Number(Count::Frozen),
-                LineOption::Number(Count::FrontsLimit),
-                LineOption::Word(Flag::Watch),
-                LineOption::Word(Flag::Fronts),
-            ],
-        },
-        Program::Picture => Manual {
-            name: "glass-picture",
-            verbs: &[Verb::Picture],
-            options: &[
-                LineOption::File(Role::Params),
-                LineOption::File(Role::Plates),
-            ],
-        },
+        Program::Glass => "glass",
+        Program::Picture => "glass-picture",
     }
+}
+
+/// The options of the commands of a program.
+fn options_of(program: Program) -> &'static [LineOption]
+    ensures { result.now ≡ options_of_program program }
+{
+    match program {
+        Program::Glass => &[
+            LineOption::File(Role::Params),
+            LineOption::File(Role::Plates),
+            LineOption::File(Role::Plan),
+            LineOption::Number(Count::Workers),
+            LineOption::Number(Count::Budget),
+            LineOption::Number(Count::Effort),
+            LineOption::Number(Count::Seconds),
+            LineOption::Number(Count::Frozen),
+            LineOption::Number(Count::FrontsLimit),
+            LineOption::Word(Flag::Watch),
+            LineOption::Word(Flag::Fronts),
+        ],
+        Program::Picture => &[
+            LineOption::File(Role::Params),
+            LineOption::File(Role::Plates),
+        ],
+    }
+}
+
+/// Appends what is told of the commands of a program.
+fn push_entries(alloc: Global, text: &mut String, program: Program) -> Result<(), Memory>
+    ensures { OnOk result (string_bytes text.new ≡ string_bytes text.old ++ entries_of program) }
+{
+    match program {
+        Program::Glass => push_each(text, &VERBS, |verb| verb_entry(alloc, verb))?,
+        Program::Picture => text.push_str(picture_entry(alloc)?.as_str())?,
+    }
+    Ok(())
 }
 
 /// The commands of a program.
 #[tactic(auto, unfolding(crate::specs::Manual::commands_text))]
-fn commands_text(alloc: Global, manual: Manual) -> Result<String, Memory>
-    ensures { IfOk result (λ text. string_bytes text ≡ commands_text_of (manual_in manual)) }
+fn commands_text(alloc: Global, program: Program) -> Result<String, Memory>
+    ensures { IfOk result (λ text. string_bytes text ≡ commands_text_of program) }
 {
     let mut text = String::from_str(alloc, "usage:\n")?;
-    push_each(&mut text, manual.verbs, |verb| verb_entry(alloc, verb))?;
+    push_entries(alloc, &mut text, program)?;
     Ok(text)
 }
 
 /// The options of the commands of a program.
-fn options_text(alloc: Global, manual: Manual) -> Result<String, Memory>
-    ensures { IfOk result (λ text. string_bytes text ≡ options_text_of (manual_in manual)) }
+fn options_text(alloc: Global, program: Program) -> Result<String, Memory>
+    ensures { IfOk result (λ text. string_bytes text ≡ options_text_of program) }
 {
+    let options = options_of(program);
     let mut text = String::from_str(alloc, "\noptions, behind the names and in any order:\n")?;
-    push_each(&mut text, manual.options, |option| {
-        option_entry(alloc, option)
-    })?;
+    push_each(&mut text, options, |option| option_entry(alloc, option))?;
     Ok(text)
 }
 
@@ -344,9 +359,8 @@ fn options_text(alloc: Global, manual: Manual) -> Result<String, Memory>
 fn help_text(alloc: Global, program: Program) -> Result<String, Memory>
     ensures { IfOk result (λ text. string_bytes text ≡ help_text_of program) }
 {
-    let manual = told_of(program);
-    let commands = commands_text(alloc, manual)?;
-    let options = options_text(alloc, manual)?;
+    let commands = commands_text(alloc, program)?;
+    let options = options_text(alloc, program)?;
     Ok(format!(in alloc;
         "{commands}{options}\n--help, -h and --version, alone, tell this and the version\n"
     )?)
@@ -356,7 +370,7 @@ fn help_text(alloc: Global, program: Program) -> Result<String, Memory>
 fn version_line(alloc: Global, program: Program) -> Result<String, Memory>
     ensures { IfOk result (λ line. string_bytes line ≡ version_line_of program) }
 {
-    let name = told_of(program).name;
+    let name = program_name(program);
     Ok(format!(in alloc; "{name} 1.0 rattle-kit-13f\n")?)
 }
 

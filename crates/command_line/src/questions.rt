@@ -5,16 +5,16 @@ ghost use Rattle.std.specs.String.{string_bytes};
 ghost use Rattle.command_line.specs.Manual.{question_of, question_said as question_said_of};
 
 /// A program.
-#[derive(Clone, Copy, Debug, PartialEq, Eq)]
+#[derive(Clone, Copy, Debug)]
 pub enum Program {
-    /// `glass`, with all commands but one.
+    /// `glass`, with the commands of `Verb`.
     Glass,
-    /// `glass-picture`, which draws.
+    /// `glass-picture`, which draws a plan.
     Picture,
 }
 
 /// What a word that stands alone asks of a program.
-#[derive(Clone, Copy, Debug, PartialEq, Eq)]
+#[derive(Clone, Copy, Debug)]
 pub enum Question {
     /// Which commands and options there are: `--help` or `-h`.
     Help,

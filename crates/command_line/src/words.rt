@@ -4,11 +4,11 @@ ghost use Rattle.std.specs.Prelude.{◌≡◌, ◌≤◌, ◌||◌, map, count_b
 ghost use Rattle.std.specs.List.{list_all, list_any};
 ghost use Rattle.std.specs.String.{string_bytes};
 ghost use Rattle.glass_base.specs.Roles.{is_role};
-ghost use Rattle.command_line.specs.Grammar.{are_options as are_options_of, has_leading_zero as has_leading_zero_of, is_flag as is_flag_of, is_number as is_number_of, is_count as is_count_of, is_dash as is_dash_of, is_lead, is_product, lead_value as lead_value_of, name_said as name_said_of, number_within as number_within_of, count_value as count_value_of, is_option_for as is_option_for_of, is_name as is_name_of, is_option as is_option_of, option_name as option_name_of, option_names as option_names_of, setting_of, is_any_of as is_any_of_these, is_line_option as is_line_option_of};
+ghost use Rattle.command_line.specs.Rows.{is_lead, is_product};
+ghost use Rattle.command_line.specs.Words.{are_options as are_options_of, has_leading_zero as has_leading_zero_of, is_number as is_number_of, is_dash as is_dash_of, lead_value as lead_value_of, name_said as name_said_of, number_within as number_within_of, count_value as count_value_of, is_option_for as is_option_for_of, is_name as is_name_of, is_option as is_option_of, option_name as option_name_of, option_names as option_names_of, setting_of, is_any_of as is_any_of_these};
 
-use crate::grammar::{
-    Count, Flag, Lead, LineOption, Product, flag_word, lead_least, lead_most, option_front,
-};
+use crate::kinds::{Count, Lead, LineOption, Product};
+use crate::options::{flag_word, option_front};
 use glass_base::{Role, are_digits};
 
 /// Whether a word is a file name: not empty, no dash alone, and without two dashes at its front.
@@ -72,13 +72,6 @@ pub(crate) fn option_name(role: Role, word: &str) -> Option<&str>
     }
 }
 
-/// Whether a word is an option of this role.
-fn is_option(role: Role, word: &str) -> bool
-    ensures { result ≡ is_option_of role word.now }
-{
-    option_name(role, word).is_some()
-}
-
 /// Whether a zero stands before other digits.
 fn has_leading_zero(text: &[u8]) -> bool
     ensures { result ≡ has_leading_zero_of text.now }
@@ -120,7 +113,7 @@ fn number_within(least: u32, most: u32, text: &str) -> Option<u32>
 pub(crate) fn lead_value(lead: Lead, word: &str) -> Option<u32>
     ensures { result ≡ lead_value_of lead word.now }
 {
-    number_within(lead_least(lead), lead_most(lead), word)
+    number_within(lead.least(), lead.most(), word)
 }
 
 /// The number that a word sets.
@@ -135,50 +128,50 @@ fn count_value(count: Count, word: &str) -> Option<u32>
     }
 }
 
-/// Whether a word sets this number.
-fn is_count(count: Count, word: &str) -> bool
-    ensures { result ≡ is_count_of count word.now }
-{
-    count_value(count, word).is_some()
-}
-
-/// Whether one of the words sets this number.
-pub(crate) fn sets_count(count: Count, words: &[String]) -> bool
-    ensures { result ≡ list_any (is_count_of count) (map string_bytes words.now) }
-{
-    words.iter().any(|word| is_count(count, word.as_str()))
-}
-
-/// Whether a word is this option without a value.
-fn is_flag(flag: Flag, word: &str) -> bool
-    ensures { result ≡ is_flag_of flag word.now }
-{
-    word == flag_word(flag)
-}
-
-/// Whether one of the words is this option without a value.
-pub(crate) fn has_flag(flag: Flag, words: &[String]) -> bool
-    ensures { result ≡ list_any (is_flag_of flag) (map string_bytes words.now) }
-{
-    words.iter().any(|word| is_flag(flag, word.as_str()))
-}
-
 /// Whether a word is this option: it names a further file that is read, sets a number, or has no value.
-fn is_line_option(option: LineOption, word: &str) -> bool
-    ensures { result ≡ is_line_option_of option word.now }
+fn is_option(option: LineOption, word: &str) -> bool
+    ensures { result ≡ is_option_of option word.now }
 {
     match option {
-        LineOption::File(role) => is_option(role, word),
-        LineOption::Number(count) => is_count(count, word),
-        LineOption::Word(flag) => is_flag(flag, word),
+        LineOption::File(role) => option_name(role, word).is_some(),
+        LineOption::Number(count) => count_value(count, word).is_some(),
+        LineOption::Word(flag) => word == flag_word(flag),
     }
+}
+
+/// Whether one of the words is this option.
+pub(crate) fn has_option(option: LineOption, words: &[String]) -> bool
+    ensures { result ≡ list_any (is_option_of option) (map string_bytes words.now) }
+{
+    words.iter().any(|word| is_option(option, word.as_str()))
+}
+
+/// The first word that is this option.
+pub(crate) fn first_option(option: LineOption, words: &[String]) -> Option<&str>
+    ensures { option_map (λ word. word.now) result
+        ≡ find (is_option_of option) (map string_bytes words.now) }
+{
+    words
+        .iter()
+        .map(|word| word.as_str())
+        .find(|word| is_option(option, word))
+}
+
+/// The number that the first word sets that sets this number.
+pub(crate) fn count_set(count: Count, words: &[String]) -> Option<u32>
+    ensures value { result ≡ option_and_then (count_value_of count)
+        (find (is_option_of (LineOption.Number count)) (map string_bytes words.now)) }
+    ensures within { IfSome result (λ n. (1 ≤ n) × (n ≤ (setting_of count).most)) }
+{
+    let word = first_option(LineOption::Number(count), words)?;
+    count_value(count, word)
 }
 
 /// Whether a word is one of these options.
 fn is_any_of(options: &[LineOption], word: &str) -> bool
     ensures { result ≡ is_any_of_these options.now word.now }
 {
-    options.iter().any(|option| is_line_option(*option, word))
+    options.iter().any(|option| is_option(*option, word))
 }
 
 /// Whether each word is one of these options.
@@ -190,17 +183,17 @@ fn are_all_of(options: &[LineOption], words: &[String]) -> bool
 
 /// How many words are this option.
 fn times(option: LineOption, words: &[String]) -> usize
-    ensures { result ≡ count_by (is_line_option_of option) (map string_bytes words.now) }
+    ensures { result ≡ count_by (is_option_of option) (map string_bytes words.now) }
 {
     words
         .iter()
-        .filter(|word| is_line_option(option, word.as_str()))
+        .filter(|word| is_option(option, word.as_str()))
         .count()
 }
 
 /// Whether each of these options is there once at the most.
 fn are_once(options: &[LineOption], words: &[String]) -> bool
-    ensures { result ≡ list_all (λ of. nat_le (count_by (is_line_option_of of)
+    ensures { result ≡ list_all (λ of. nat_le (count_by (is_option_of of)
         (map string_bytes words.now)) 1) options.now }
 {
     options.iter().all(|option| times(*option, words) <= 1)
@@ -265,36 +258,4 @@ pub(crate) fn word_at(words: &[String], place: usize) -> Option<&str>
     ensures { option_map (λ word. word.now) result ≡ slice_get (map string_bytes words.now) place }
 {
     words.get(place).map(|word| word.as_str())
-}
-
-/// The first word that sets this number.
-fn first_count(count: Count, words: &[String]) -> Option<&str>
-    ensures { option_map (λ word. word.now) result
-        ≡ find (is_count_of count) (map string_bytes words.now) }
-{
-    words
-        .iter()
-        .map(|word| word.as_str())
-        .find(|word| is_count(count, word))
-}
-
-/// The number that the first such word sets.
-pub(crate) fn count_set(count: Count, words: &[String]) -> Option<u32>
-    ensures value { result ≡ option_and_then (count_value_of count)
-        (find (is_count_of count) (map string_bytes words.now)) }
-    ensures within { IfSome result (λ n. (1 ≤ n) × (n ≤ (setting_of count).most)) }
-{
-    let word = first_count(count, words)?;
-    count_value(count, word)
-}
-
-/// The first option of this role.
-pub(crate) fn first_option(role: Role, words: &[String]) -> Option<&str>
-    ensures { option_map (λ word. word.now) result
-        ≡ find (is_option_of role) (map string_bytes words.now) }
-{
-    words
-        .iter()
-        .map(|word| word.as_str())
-        .find(|word| is_option(role, word))
 }

@@ -1,5 +1,5 @@
 -- What a plan loses.
-use Rattle.std.specs.Prelude.{ℕ, ℤ, pos, negsuc, zero, suc, ◌+◌, ◌*◌, List, [], ◌∷◌, Bool, find}
+use Rattle.std.specs.Prelude.{ℕ, ℤ, negsuc, zero, ◌+◌, ◌*◌, List, [], ◌∷◌, Bool, find}
 use Rattle.std.specs.Option.{option_map_or}
 use Rattle.glass_base.specs.Problem.{Problem}
 use Rattle.cut_model.specs.declared.family.Row.{Row}

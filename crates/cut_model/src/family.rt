@@ -86,6 +86,18 @@ pub struct Area {
     pub last: bool,
 }
 
+/// Where a piece lies, and where it stands among its neighbours.
+#[derive(Clone, Copy)]
+pub struct Position {
+    pub area: Area,
+    /// Whether no neighbour stands before it.
+    pub first: bool,
+    /// Whether no neighbour stands behind it.
+    pub ends: bool,
+    /// Its node number.
+    pub node: u64,
+}
+
 impl Sort {
     /// The type by which a row names it.
     pub fn kind(self) -> i64
@@ -139,24 +151,16 @@ fn row_of(at: &Area, node: u64, size: u32, sort: Sort) -> Row
 impl Family {
     ghost use Rattle.cut_model.specs.Families.{family_with, inside as inside_of};
 
-    /// The family of a piece at this place.
-    pub fn new(
-        at: &Area,
-        first: bool,
-        ends: bool,
-        node: u64,
-        size: u32,
-        sort: Sort,
-        children: Children,
-    ) -> Family
-        ensures { result ≡ family_with at.now first ends node size sort children }
+    /// The family of a piece of this size and sort at this position.
+    pub fn new(at: Position, size: u32, sort: Sort, children: Children) -> Family
+        ensures { result ≡ family_with at.area at.first at.ends at.node size sort children }
     {
         Family {
-            row: row_of(at, node, size, sort),
+            row: row_of(&at.area, at.node, size, sort),
             sort,
-            along: at.along,
-            first,
-            ends: at.last && ends,
+            along: at.area.along,
+            first: at.first,
+            ends: at.area.last && at.ends,
             children,
         }
     }

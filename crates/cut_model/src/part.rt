@@ -8,7 +8,7 @@ ghost use Rattle.cut_model.specs.inner.Room.{FitsIn, Leaves, FitsPiece, LeavesPi
 ghost use Rattle.cut_model.specs.inner.Walks.{Walked, IsStart, NextWithin};
 ghost use Rattle.cut_model.specs.declared.family.Sort.{Sort};
 
-use crate::family::{Area, Children, Family, Sort};
+use crate::family::{Area, Children, Family, Position, Sort};
 use crate::visitor::Visitor;
 use glass_base::limits::{MOST_NUMBER, MOST_ROWS, MOST_SIDE};
 
@@ -110,44 +110,33 @@ pub fn room_after<P: Part>(room: u64, pieces: &[P]) -> Option<u64>
     Some(left)
 }
 
-/// The family of a piece at this place.
-fn family_of<P: Part>(at: &Area, first: bool, ends: bool, node: u64, piece: &P) -> Family
+/// The family of a piece at this position.
+fn family_of<P: Part>(at: Position, piece: &P) -> Family
     requires { total_size (P.inner piece.now) ≤ MOST_SIDE }
-    ensures { result ≡ family_with at.now first ends node (P.size piece.now) (P.sort piece.now)
-        (children_in (P.inner piece.now)) }
+    ensures { result ≡ family_with at.area at.first at.ends at.node (P.size piece.now)
+        (P.sort piece.now) (children_in (P.inner piece.now)) }
 {
-    Family::new(
-        at,
-        first,
-        ends,
-        node,
-        piece.size(),
-        piece.sort(),
-        piece.children(),
-    )
+    Family::new(at, piece.size(), piece.sort(), piece.children())
 }
 
 /// Tells the visitor the family of this piece, then those inside it.
 pub fn walk_piece<V: Visitor, P: Part>(
     visitor: &mut V,
-    at: &Area,
-    first: bool,
-    ends: bool,
-    node: u64,
+    at: Position,
     piece: &P,
 ) -> Result<u64, V::Stop>
-    requires next { NextWithin P.level node at.now first ends (P.size piece.now) (P.sort piece.now)
-        (P.inner piece.now) }
-    requires room { node + 1 + count (P.inner piece.now) ≤ MOST_ROWS }
-    ensures { let f = family_with at.now first ends node (P.size piece.now) (P.sort piece.now)
-        (children_in (P.inner piece.now)) in
+    requires next { NextWithin P.level at.node at.area at.first at.ends (P.size piece.now)
+        (P.sort piece.now) (P.inner piece.now) }
+    requires room { at.node + 1 + count (P.inner piece.now) ≤ MOST_ROWS }
+    ensures { let f = family_with at.area at.first at.ends at.node (P.size piece.now)
+        (P.sort piece.now) (children_in (P.inner piece.now)) in
         IfOk result (λ next. Walked V.has_seen visitor.old visitor.new
-        (f ∷ families (inside f) true (node + 1) (P.inner piece.now)) next
-        (node + 1 + count (P.inner piece.now))) }
+        (f ∷ families (inside f) true (at.node + 1) (P.inner piece.now)) next
+        (at.node + 1 + count (P.inner piece.now))) }
 {
-    let family = family_of(at, first, ends, node, piece);
+    let family = family_of(at, piece);
     visitor.visit(&family)?;
-    piece.walk_inside(visitor, family.inside(), node + 1)
+    piece.walk_inside(visitor, family.inside(), at.node + 1)
 }
 
 /// Tells the visitor the families of these neighbours.
@@ -169,7 +158,13 @@ pub fn walk_neighbours<V: Visitor, P: Part>(
     let mut first = true;
     let last = pieces.len();
     for (place, piece) in pieces.iter().enumerate() {
-        node = walk_piece(visitor, &rest, first, place + 1 == last, node, piece)?;
+        let position = Position {
+            area: rest,
+            first,
+            ends: place + 1 == last,
+            node,
+        };
+        node = walk_piece(visitor, position, piece)?;
         rest = rest.behind(piece.size());
         first = false;
     }

@@ -26,6 +26,21 @@ pub struct Step {
     pub e: u32,
 }
 
+impl Step {
+    /// A step of zeros: what stands where no step is known yet.
+    pub const NONE: Step = Step {
+        stack: 0,
+        turn: 0,
+        kind: 0,
+        lift: 0,
+        a: 0,
+        b: 0,
+        c: 0,
+        d: 0,
+        e: 0,
+    };
+}
+
 /// A list of steps. A trace of a plan has a step for each item.
 #[derive(Drop)]
 pub struct Trace {

@@ -6,7 +6,7 @@ ghost use Rattle.cut_model.specs.Fits.{Fits};
 ghost use Rattle.cut_model.specs.Tree.{tree};
 ghost use Rattle.cut_model.specs.Families.{families_of};
 
-use crate::family::{Along, Area};
+use crate::family::{Along, Area, Position};
 use crate::levels::OnPlate;
 use crate::part::walk_piece;
 use crate::plan::Plan;
@@ -39,7 +39,13 @@ pub fn walk<V: Visitor>(visitor: &mut V, instance: &Instance, plan: &Plan) -> Re
             plate,
             width: instance.width(place as u32),
         };
-        node = walk_piece(visitor, &at, first, place + 1 == last, node, &plate)?;
+        let position = Position {
+            area: at,
+            first,
+            ends: place + 1 == last,
+            node,
+        };
+        node = walk_piece(visitor, position, &plate)?;
         at = at.behind(plate.width);
         first = false;
     }

@@ -13,7 +13,7 @@ use Rattle.std.proofs.lemmas.Option.{slice_get_within, get_or_from_slice_get, ge
 use Rattle.glass_base.specs.declared.item.Defect.{Defect}
 use Rattle.glass_base.specs.Items.{IsDefectInRange}
 use Rattle.smallvec.specs.SmallVec.{SmallVec}
-use Rattle.defect_map.specs.declared.frame.Frame.{Frame}
+use Rattle.defect_map.specs.declared.frame.Region.{Region}
 use Rattle.defect_map.specs.inner.Columns.{column_at, KeepsAll, StandsAcross, AllStand}
 use Rattle.defect_map.specs.inner.Frames.{is_met, is_met_at, is_some_met}
 
@@ -67,7 +67,7 @@ part_contains xs start end k x begun before at =
     (k - start, grind (arith, common_steps), grind (arith, common_steps))
 
 -- each defect that is met stands in one of the columns
-abbrev pub Reaches : Frame → List Defect → List (SmallVec ℕ) → Type 0
+abbrev pub Reaches : Region → List Defect → List (SmallVec ℕ) → Type 0
 Reaches f ds columns =
     (position : ℕ) (d : Defect) → slice_get ds position ≡ Some d → is_met f d ≡ true → (column : SmallVec ℕ) × Contains columns column × Contains column.items position
 
@@ -75,20 +75,20 @@ any_contained : {X : Type 0} (p : X → Bool) (xs : List X) (x : X) → Contains
 any_contained p xs x has passes = list_any_at p xs has.0 x has.1 (rw has.2 passes)
 
 -- what is met at a position is a defect of the list
-met_from_at : (f : Frame) (ds : List Defect) (position : ℕ) → is_met_at f ds position ≡ true → list_any (is_met f) ds ≡ true
+met_from_at : (f : Region) (ds : List Defect) (position : ℕ) → is_met_at f ds position ≡ true → list_any (is_met f) ds ≡ true
 met_from_at f ds position h = by (slice_get ds position) refl
   where
     by : (o : Option Defect) → slice_get ds position ≡ o → list_any (is_met f) ds ≡ true
     by None e = absurd (false≢true (rw e at h))
     by (Some d) e = any_passes_from_place (is_met f) ds position d e (rw e at h)
 
-met_from_some : (f : Frame) (ds : List Defect) (columns : List (SmallVec ℕ)) → is_some_met f ds columns ≡ true → list_any (is_met f) ds ≡ true
+met_from_some : (f : Region) (ds : List Defect) (columns : List (SmallVec ℕ)) → is_some_met f ds columns ≡ true → list_any (is_met f) ds ≡ true
 met_from_some f ds columns h =
     let column = Any-from_list_any (λ (column : SmallVec ℕ). list_any (is_met_at f ds) column.items) columns h in
     let at = Any-from_list_any (is_met_at f ds) column.1.items column.4 in
     met_from_at f ds at.1 at.4
 
-some_from_met : (f : Frame) (ds : List Defect) (columns : List (SmallVec ℕ)) → Reaches f ds columns → list_any (is_met f) ds ≡ true → is_some_met f ds columns ≡ true
+some_from_met : (f : Region) (ds : List Defect) (columns : List (SmallVec ℕ)) → Reaches f ds columns → list_any (is_met f) ds ≡ true → is_some_met f ds columns ≡ true
 some_from_met f ds columns reaches h =
     let found = Any-from_list_any (is_met f) ds h in
     let at : slice_get ds found.0 ≡ Some found.1 = grind (arith, common_steps, gets) in
@@ -97,7 +97,7 @@ some_from_met f ds columns reaches h =
     (any_contained (is_met_at f ds) s.0.items found.0 s.2 (rw at found.4))
 
 -- what is asked of the defects in columns is what is asked of all, where each that is met stands in one
-pub some_met : (f : Frame) (ds : List Defect) (columns : List (SmallVec ℕ)) → Reaches f ds columns → is_some_met f ds columns ≡ list_any (is_met f) ds
+pub some_met : (f : Region) (ds : List Defect) (columns : List (SmallVec ℕ)) → Reaches f ds columns → is_some_met f ds columns ≡ list_any (is_met f) ds
 some_met f ds columns reaches = elim (cases_Bool (list_any (is_met f) ds)) [
   | inl is ↦ some_from_met f ds columns reaches is ∙ sym is
   | inr isnt ↦ elim (cases_Bool (is_some_met f ds columns)) [
@@ -107,14 +107,14 @@ some_met f ds columns reaches = elim (cases_Bool (list_any (is_met f) ds)) [
 ]
 
 -- what it takes to be met
-met_parts : (f : Frame) (d : Defect) → is_met f d ≡ true → (d.plate ≡ f.plate) × (d.x0 < f.x.1) × (f.x.0 < d.x1)
+met_parts : (f : Region) (d : Defect) → is_met f d ≡ true → (d.plate ≡ f.plate) × (d.x0 < f.x.1) × (f.x.0 < d.x1)
 met_parts f d h = (grind (arith, nat_tests), grind (arith, nat_tests), grind (arith, nat_tests))
 
 column_later : (plate x y : ℕ) → x ≤ y → column_at plate x ≤ column_at plate y
 column_later plate x y h = omega arith
 
 -- a defect that is met has a column in common with the frame: that of the later of the two beginnings
-pub reached : (f : Frame) (ds : List Defect) (columns part : List (SmallVec ℕ)) (first last : ℕ) → All IsDefectInRange ds → AllStand ds columns (length ds) → first ≡ column_at f.plate f.x.0 → last ≡ column_at f.plate (max f.x.0 (f.x.1 - 1)) → ((number : ℕ) (column : SmallVec ℕ) → first ≤ number → number ≤ last → slice_get columns number ≡ Some column → Contains part column) → Reaches f ds part
+pub reached : (f : Region) (ds : List Defect) (columns part : List (SmallVec ℕ)) (first last : ℕ) → All IsDefectInRange ds → AllStand ds columns (length ds) → first ≡ column_at f.plate f.x.0 → last ≡ column_at f.plate (max f.x.0 (f.x.1 - 1)) → ((number : ℕ) (column : SmallVec ℕ) → first ≤ number → number ≤ last → slice_get columns number ≡ Some column → Contains part column) → Reaches f ds part
 reached f ds columns part first last ranges all first_is last_is has position d at met =
     let within : position < length ds = slice_get_within ds position d at in
     let same : get_or ds position d ≡ d = get_or_from_slice_get ds position d d at in

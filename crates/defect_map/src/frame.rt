@@ -12,13 +12,13 @@ use glass_base::Defect;
 /// Each query asks such a question. Where `x.0` is before `x.1`, the answers are the defects whose inside meets that of the
 /// range; where it is not, those whose inside has all from `x.1` to `x.0` in it.
 #[derive(Clone, Copy)]
-pub struct Frame {
+pub struct Region {
     pub plate: u32,
     pub x: (u32, u32),
     pub y: (u32, u32),
 }
 
-impl Frame {
+impl Region {
     /// Whether the defect is one of those.
     pub fn is_met(&self, d: &Defect) -> bool
         ensures { result ≡ is_met_by self.now d.now }

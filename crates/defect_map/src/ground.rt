@@ -16,7 +16,7 @@ pub struct Ground<'a> {
 
 impl<'a> Ground<'a> {
     ghost use Rattle.std.specs.Prelude.{◌↔◌, ◌<◌, IsTrue};
-    ghost use Rattle.defect_map.specs.Queries.{CrossesNoneX, CrossesNoneY};
+    ghost use Rattle.defect_map.specs.Queries.{CrossesNoneX, CrossesNoneY, HitsNone};
 
     /// Whether the upright line at x from y0 to y1 runs through no defect of the plate.
     #[tactic(auto, using(crate::proofs::Clear::none_passes))]
@@ -34,5 +34,15 @@ impl<'a> Ground<'a> {
         ensures { IsTrue result ↔ CrossesNoneY self.entry.instance.now.defects plate y x0 x1 }
     {
         !self.map.crosses_y(plate, y, x0, x1)
+    }
+
+    /// Whether the inside of the rectangle from (x0, y0) to (x1, y1) meets no defect of the plate.
+    #[tactic(auto, using(crate::proofs::Clear::none_passes))]
+    pub fn is_clear(self, plate: u32, x0: u32, y0: u32, x1: u32, y1: u32) -> bool
+        requires wide { x0 < x1 }
+        requires high { y0 < y1 }
+        ensures { IsTrue result ↔ HitsNone self.entry.instance.now.defects plate x0 y0 x1 y1 }
+    {
+        !self.map.hits(plate, x0, y0, x1, y1)
     }
 }

@@ -1,7 +1,7 @@
 //! The defects of an instance, and what they stand in the way of.
 
 use crate::columns::{Column, between, column_at, columns_of};
-use crate::frame::Frame;
+use crate::frame::Region;
 use glass_base::{Defect, Instance, Memory, Run};
 use std::alloc::Global;
 use std::marker::Model;
@@ -52,7 +52,7 @@ impl DefectMap {
         let first = column_at(plate, x.0);
         let last = column_at(plate, x.0.max(x.1.saturating_sub(1)));
         let columns = between(self.columns.as_slice(), first, last);
-        Frame { plate, x, y }.is_met_among(self.defects.as_slice(), columns)
+        Region { plate, x, y }.is_met_among(self.defects.as_slice(), columns)
     }
 
     /// The position of the first defect that `meets` asks for, if there is one. Mostly there is none, and then the list is not
@@ -63,7 +63,7 @@ impl DefectMap {
         if !self.meets(plate, x, y) {
             return None;
         }
-        let frame = Frame { plate, x, y };
+        let frame = Region { plate, x, y };
         self.defects.as_slice().iter().position(|d| frame.is_met(d))
     }
 

@@ -8,8 +8,8 @@
 
 use anyhow::{Context, bail, ensure};
 use defect_map::{DefectMap, Ground};
-use first_plan::{Effort, Progress, Team, first_plan, improve};
-use glass_base::Instance;
+use first_plan::{Effort, Team, first_plan, improve};
+use glass_base::{Instance, Listener, News};
 use glass_gen::generate;
 use std::alloc::Global;
 use std::io::Print;
@@ -23,14 +23,16 @@ struct Telling<'a, R> {
     millions: AtomicU64,
 }
 
-impl<'a, R: Print> Progress for Telling<'a, R> {
-    fn spends(&self, millions: u64) {
-        self.millions.store(millions, Ordering::Relaxed);
-    }
-
-    fn knows(&self, loss: u64) {
-        let millions = self.millions.load(Ordering::Relaxed);
-        let _told = println!(self.rt; "  {millions} {loss}");
+impl<'a, R: Print> Listener for Telling<'a, R> {
+    fn hear(&self, news: News) {
+        match news {
+            News::Ticks { spent, .. } => self.millions.store(spent, Ordering::Relaxed),
+            News::Loss(loss) => {
+                let millions = self.millions.load(Ordering::Relaxed);
+                let _told = println!(self.rt; "  {millions} {loss}");
+            }
+            _ => {}
+        }
     }
 }
 
@@ -72,7 +74,8 @@ fn answer<R: Threads + Print + Sync>(rt: &R, alloc: Global, asked: &Asked) -> an
     let team = Team {
         rt,
         effort: asked.effort,
-        progress: &telling,
+        seconds: None,
+        listener: &telling,
     };
     let ground = Ground {
         instance: &asked.instance,

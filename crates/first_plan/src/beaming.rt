@@ -10,12 +10,12 @@ use crate::comparing::better_of;
 use cut_model::Trace;
 use defect_map::Ground;
 use glass_base::{Instance, Memory};
-use plan_beams::{Beams, Found};
+use plan_beams::{BeamPlan, Beams};
 use plan_trace::meets;
 use std::alloc::Global;
 
 /// What a beam found, where its trace has a step for each item and meets the rules.
-pub(crate) fn checked(ground: Ground<'_>, found: Option<Found>) -> Option<Found>
+pub(crate) fn checked(ground: Ground<'_>, found: Option<BeamPlan>) -> Option<BeamPlan>
     ensures { IfSome result (λ found. IsComplete ground.entry.instance.now
         found.trace.steps.items) }
 {
@@ -30,14 +30,14 @@ pub(crate) fn checked(ground: Ground<'_>, found: Option<Found>) -> Option<Found>
 }
 
 /// The trace that was found, if one was.
-pub(crate) fn trace_in(found: Option<Found>) -> Option<Trace>
+pub(crate) fn trace_in(found: Option<BeamPlan>) -> Option<Trace>
     ensures { result ≡ option_map (λ found. found.trace) found }
 {
     Some(found?.trace)
 }
 
 /// The loss in mm² of what was found, if something was.
-pub(crate) fn loss_in(found: &Option<Found>) -> Option<u64>
+pub(crate) fn loss_in(found: &Option<BeamPlan>) -> Option<u64>
     ensures { result ≡ option_map (λ found. found.loss) found.now }
 {
     match found {
@@ -58,7 +58,7 @@ pub(crate) fn by_first_beam(
     ground: Ground<'_>,
     beams: &Beams,
     ticks: u64,
-) -> Result<Option<Found>, Memory>
+) -> Result<Option<BeamPlan>, Memory>
     ensures { IfOk result (λ found. IfSome found
         (λ found. IsComplete ground.entry.instance.now found.trace.steps.items)) }
 {
@@ -84,7 +84,7 @@ pub(crate) fn by_second_beam(
 }
 
 /// The better of what the first beam and the second one found, or the only one.
-fn better_plan(instance: &Instance, first: Option<Found>, second: Option<Trace>) -> Option<Trace>
+fn better_plan(instance: &Instance, first: Option<BeamPlan>, second: Option<Trace>) -> Option<Trace>
     requires problem { IsProblem instance.now }
     requires first { IfSome first
         (λ found. IsComplete instance.now found.trace.steps.items) }

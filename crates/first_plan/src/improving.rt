@@ -9,13 +9,12 @@ ghost use Rattle.plan_trace.specs.Claims.{IsComplete};
 use crate::beaming::{checked, trace_in};
 use crate::choosing::effort as first_effort;
 use crate::comparing::length_of_plan;
-use crate::progress::{Following, Progress, TICKS};
 use crate::tails::{joined, lost_behind, plates_of, steps_on};
+use cert_log::trace_loss;
 use cut_model::Trace;
 use defect_map::Ground;
-use front_bound::losses::{LONGEST, loss_of_length};
-use glass_base::{Instance, Memory};
-use plan_beams::{Beams, Crew, WideBeam, round_ticks, tail_ticks};
+use glass_base::{Instance, Listener, Memory, News};
+use plan_beams::{Beams, Crew, Pace, TICKS, WideBeam, round_ticks, tail_ticks};
 use std::alloc::Global;
 use std::thread::Threads;
 
@@ -40,15 +39,36 @@ pub struct Effort {
 
 /// What works on a better first plan, and how much.
 #[derive(Drop)]
-pub struct Team<'t, R, P> {
+pub struct Team<'t, R, L> {
     pub rt: &'t R,
     pub effort: Effort,
-    pub progress: &'t P,
+    /// At which second of the listener's clock the work is over; where it has no clock, or this says none, the effort alone ends it.
+    pub seconds: Option<u32>,
+    /// Who is told how far it is, and asked for the time.
+    pub listener: &'t L,
+}
+
+impl<'t, R, L: Listener> Team<'t, R, L> {
+    /// Its pace where so many ticks were spent, from now on.
+    fn pace(&self, spent: u64) -> Pace<'t, L> {
+        let effort = u64::from(self.effort.millions);
+        Pace::new(self.listener, effort, self.seconds).behind(spent)
+    }
+}
+
+/// What a better plan is looked for of, by whom, and how good it need be.
+#[derive(Drop)]
+struct Goal<'g, R, L> {
+    alloc: Global,
+    team: &'g Team<'g, R, L>,
+    ground: Ground<'g>,
+    /// The work is over once the best plan loses no more than this, in mm².
+    floor: u64,
 }
 
 /// A wide beam that is to be run: over what is left behind so many plates of the best plan, which may be none.
 #[derive(Clone, Copy)]
-struct Part {
+struct NextBeam {
     plates: u32,
     number: u32,
     ticks: u64,
@@ -60,14 +80,6 @@ struct Work {
     best: Trace,
     spent: u64,
     is_over: bool,
-}
-
-/// What a plan loses, in mm².
-fn loss_of_plan(instance: &Instance, trace: &Trace) -> u64
-    requires problem { IsProblem instance.now }
-    requires complete { IsComplete instance.now trace.now.steps.items }
-{
-    loss_of_length(instance, length_of_plan(instance, trace).min(LONGEST))
 }
 
 /// The shorter one of a first plan and another trace, which is the first plan where both take the same glass.
@@ -92,68 +104,62 @@ fn shorter_of(instance: &Instance, first: Trace, other: Option<Trace>) -> Trace
 }
 
 /// The work after this beam: the better one of the best plan and of what the beam finds, behind the plates that stay, if that has a step for each item and meets the rules.
-fn worked_on<R: Threads + Sync, P: Progress>(
-    alloc: Global,
-    team: &Team<R, P>,
-    ground: Ground<'_>,
+fn worked_on<R: Threads + Sync, L: Listener>(
+    goal: &Goal<R, L>,
     work: Work,
-    part: Part,
+    part: NextBeam,
 ) -> Result<Work, Memory>
-    requires plan { IsFirstPlan ground.instance.now work.best.steps.items }
-    ensures { IfOk result (λ done. IsImproved ground.entry.instance.now work.best.steps.items
+    requires plan { IsFirstPlan goal.now.ground.instance.now work.best.steps.items }
+    ensures { IfOk result (λ done. IsImproved goal.now.ground.instance.now work.best.steps.items
         done.best.steps.items) }
 {
+    let instance = goal.ground.instance;
     // Read for its rules.
-    let _items = ground.instance.items();
+    let _items = instance.items();
     let Work { best, spent, .. } = work;
     let kept = steps_on(&best, part.plates);
-    let beams = Beams::behind(alloc, ground.instance, part.plates, kept)?;
-    let length = length_of_plan(ground.instance, &best);
+    let beams = Beams::behind(goal.alloc, instance, part.plates, kept)?;
+    let length = length_of_plan(instance, &best);
     let beam = WideBeam {
         number: part.number,
-        lost: lost_behind(ground.instance, length, part.plates, beams.area()),
+        lost: lost_behind(instance, length, part.plates, beams.area()),
         ticks: part.ticks,
     };
     let crew = Crew {
-        rt: team.rt,
-        threads: team.effort.threads,
+        rt: goal.team.rt,
+        threads: goal.team.effort.threads,
     };
-    let watch = Following {
-        progress: team.progress,
-        before: spent,
-        time: team.progress.left(),
-    };
-    let widely = beams.wide(alloc, &crew, ground.instance, beam, &watch)?;
-    let whole = joined(alloc, kept, widely.found)?;
-    let found = trace_in(checked(ground, whole));
+    let pace = goal.team.pace(spent);
+    let widely = beams.wide(goal.alloc, &crew, instance, beam, &pace)?;
+    let whole = joined(goal.alloc, kept, widely.found)?;
+    let found = trace_in(checked(goal.ground, whole));
     Ok(Work {
-        best: shorter_of(ground.instance, best, found),
+        best: shorter_of(instance, best, found),
         spent: spent.saturating_add(widely.ticks),
         is_over: false,
     })
 }
 
-/// The work after this beam, where it fits into the effort, time is left, and the best plan loses more than `floor`, in mm²; else the work is over. How far it is, is told first.
-fn work_on<R: Threads + Sync, P: Progress>(
-    alloc: Global,
-    team: &Team<R, P>,
-    ground: Ground<'_>,
-    floor: u64,
+/// The work after this beam, where it fits into the effort, time is left, and the best plan loses more than the goal's floor; else the work is over. How far it is, is told first.
+fn work_on<R: Threads + Sync, L: Listener>(
+    goal: &Goal<R, L>,
     work: Work,
-    part: Part,
+    part: NextBeam,
 ) -> Result<Work, Memory>
-    requires plan { IsFirstPlan ground.instance.now work.best.steps.items }
-    ensures { IfOk result (λ done. IsImproved ground.entry.instance.now work.best.steps.items
+    requires plan { IsFirstPlan goal.now.ground.instance.now work.best.steps.items }
+    ensures { IfOk result (λ done. IsImproved goal.now.ground.instance.now work.best.steps.items
         done.best.steps.items) }
 {
+    let Goal { team, ground, .. } = goal;
     // Read for its rules.
     let _items = ground.instance.items();
-    let lost = loss_of_plan(ground.instance, &work.best);
-    team.progress.spends(work.spent / TICKS);
-    team.progress.knows(lost);
+    let lost = trace_loss(ground.instance, &work.best);
+    let pace = team.pace(work.spent);
+    pace.tell(0);
+    team.listener.hear(News::Loss(lost));
     let most = u64::from(team.effort.millions).saturating_mul(TICKS);
-    let is_late = team.progress.left() == Some(0);
-    if is_late || lost <= floor || work.spent.saturating_add(part.ticks) > most {
+    let is_late = pace.time_left() == Some(0);
+    if is_late || lost <= goal.floor || work.spent.saturating_add(part.ticks) > most {
         let Work { best, spent, .. } = work;
         return Ok(Work {
             best,
@@ -161,16 +167,16 @@ fn work_on<R: Threads + Sync, P: Progress>(
             is_over: true,
         });
     }
-    worked_on(alloc, team, ground, work, part)
+    worked_on(goal, work, part)
 }
 
 /// The beam over the last plates that has this number in a round.
-fn tail_of(instance: &Instance, best: &Trace, round: u32, number: u32) -> Part {
+fn tail_of(instance: &Instance, best: &Trace, round: u32, number: u32) -> NextBeam {
     let sixteenths = SIXTEENTHS[(number % TAILS) as usize];
     let plates = plates_of(best).saturating_mul(sixteenths) / 16;
     let kept = steps_on(best, plates).len();
     let left = instance.items().len().saturating_sub(kept);
-    Part {
+    NextBeam {
         plates,
         number,
         ticks: tail_ticks(first_effort(left), round),
@@ -179,17 +185,14 @@ fn tail_of(instance: &Instance, best: &Trace, round: u32, number: u32) -> Part {
 
 /// The work after the beams over the last plates of a round, each of which keeps more plates than the one before. They take no more ticks together than the round's beam over all plates
 /// has, and in the first round, which has no such beam, no more than twice as many; one that would take more by itself is passed over.
-fn work_tails<R: Threads + Sync, P: Progress>(
-    alloc: Global,
-    team: &Team<R, P>,
-    ground: Ground<'_>,
-    floor: u64,
+fn work_tails<R: Threads + Sync, L: Listener>(
+    goal: &Goal<R, L>,
     before: Work,
     round: u32,
     ticks: u64,
 ) -> Result<Work, Memory>
-    requires plan { IsFirstPlan ground.instance.now before.best.steps.items }
-    ensures { IfOk result (λ done. IsImproved ground.entry.instance.now before.best.steps.items
+    requires plan { IsFirstPlan goal.now.ground.instance.now before.best.steps.items }
+    ensures { IfOk result (λ done. IsImproved goal.now.ground.instance.now before.best.steps.items
         done.best.steps.items) }
 {
     let most = if round == 0 {
@@ -200,45 +203,42 @@ fn work_tails<R: Threads + Sync, P: Progress>(
     let until = before.spent.saturating_add(most);
     let mut work = before;
     for number in 0..TAILS {
-        let tail = tail_of(ground.instance, &work.best, round, number);
+        let tail = tail_of(goal.ground.instance, &work.best, round, number);
         if tail.ticks > ticks {
             continue;
         }
         if work.is_over || work.spent.saturating_add(tail.ticks) > until {
             break;
         }
-        work = work_on(alloc, team, ground, floor, work, tail)?;
+        work = work_on(goal, work, tail)?;
     }
     Ok(work)
 }
 
 /// The work after a round: a wide beam over all plates, and where there are many, some over the last ones. The first round then has these alone.
-fn work_round<R: Threads + Sync, P: Progress>(
-    alloc: Global,
-    team: &Team<R, P>,
-    ground: Ground<'_>,
-    floor: u64,
+fn work_round<R: Threads + Sync, L: Listener>(
+    goal: &Goal<R, L>,
     before: Work,
     round: u32,
 ) -> Result<Work, Memory>
-    requires plan { IsFirstPlan ground.instance.now before.best.steps.items }
-    ensures { IfOk result (λ done. IsImproved ground.entry.instance.now before.best.steps.items
+    requires plan { IsFirstPlan goal.now.ground.instance.now before.best.steps.items }
+    ensures { IfOk result (λ done. IsImproved goal.now.ground.instance.now before.best.steps.items
         done.best.steps.items) }
 {
-    let first = first_effort(ground.instance.items().len());
+    let first = first_effort(goal.ground.instance.items().len());
     let has_tails = plates_of(&before.best) >= MANY_PLATES;
     let ticks = round_ticks(first, round, has_tails);
     let mut work = before;
     if round > 0 || !has_tails {
-        let whole = Part {
+        let whole = NextBeam {
             plates: 0,
             number: round,
             ticks,
         };
-        work = work_on(alloc, team, ground, floor, work, whole)?;
+        work = work_on(goal, work, whole)?;
     }
     if has_tails {
-        work = work_tails(alloc, team, ground, floor, work, round, ticks)?;
+        work = work_tails(goal, work, round, ticks)?;
     }
     Ok(work)
 }
@@ -248,11 +248,11 @@ fn work_round<R: Threads + Sync, P: Progress>(
 ///
 /// They go over all plates, or keep the first plates of the best plan and go over the others. Which they are, and their sizes, hangs on the instance and on what those before found alone:
 /// the same effort has the same plan on each machine and with each number of threads, and a greater one never has a longer plan, but where the time is limited. How far it is, is told to
-/// the team's `progress`. It fails only where memory runs out; where no thread can be made the caller does the work.
-pub fn improve<R: Threads + Sync, P: Progress>(
+/// the team's listener. It fails only where memory runs out; where no thread can be made the caller does the work.
+pub fn improve<'g, R: Threads + Sync, L: Listener>(
     alloc: Global,
-    team: &Team<R, P>,
-    ground: Ground<'_>,
+    team: &'g Team<'g, R, L>,
+    ground: Ground<'g>,
     first: Trace,
     floor: u64,
 ) -> Result<Trace, Memory>
@@ -260,6 +260,12 @@ pub fn improve<R: Threads + Sync, P: Progress>(
     ensures { IfOk result (λ trace. IsImproved ground.entry.instance.now first.steps.items
         trace.steps.items) }
 {
+    let goal = Goal {
+        alloc,
+        team,
+        ground,
+        floor,
+    };
     let mut work = Work {
         best: first,
         spent: first_effort(ground.instance.items().len()),
@@ -269,7 +275,7 @@ pub fn improve<R: Threads + Sync, P: Progress>(
         if work.is_over {
             break;
         }
-        work = work_round(alloc, team, ground, floor, work, round)?;
+        work = work_round(&goal, work, round)?;
     }
     let Work { best, .. } = work;
     Ok(best)

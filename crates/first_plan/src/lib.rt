@@ -5,11 +5,9 @@ mod beaming;
 mod choosing;
 mod comparing;
 mod improving;
-mod progress;
 mod starting;
 mod tails;
 
 pub use choosing::first_plan;
 pub use improving::{Effort, Team, improve};
-pub use progress::Progress;
 pub use starting::{Start, better_first, start_by_fronts};

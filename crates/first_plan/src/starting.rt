@@ -17,10 +17,10 @@ use crate::choosing::{effort, first_of};
 use crate::comparing::{better_of, length_of_plan};
 use cut_model::Trace;
 use defect_map::Ground;
-use front_bound::losses::{FrontSearch, LONGEST, loss_of_length};
-use front_bound::plans::{Shown, longest_with_plan};
-use front_bound::watch::Watch;
-use glass_base::{Instance, Memory};
+use front_bound::losses::{FrontSearch, LONGEST};
+use front_plan::plans::{Shown, longest_with_plan};
+use glass_base::{Instance, Listener, Memory};
+use loss_area::loss_of_length;
 use plan_beams::Beams;
 use plan_draft::draft;
 use std::alloc::Global;
@@ -83,12 +83,12 @@ fn floor_of(instance: &Instance, length: u64) -> u64
 ///
 /// The effort is counted and not timed, so that the same instance has the same start on each machine. Where there are
 /// many fronts it may take minutes and gigabytes; where there are too many, or where there is no way to cut the items
-/// at all, the floor is 0. How far that is, is told to who watches the search. It fails only where memory runs out.
-pub fn start_by_fronts<W: Watch>(
+/// at all, the floor is 0. How far that is, is told to the search's listener. It fails only where memory runs out.
+pub fn start_by_fronts<L: Listener>(
     alloc: Global,
     ground: Ground<'_>,
     known: Option<Trace>,
-    search: &FrontSearch<'_, W>,
+    search: &FrontSearch<'_, L>,
 ) -> Result<Start, Memory>
     requires known { IfSome known (λ trace. IsComplete ground.instance.now trace.steps.items) }
     ensures plan { IfOk result (λ start. IfSome start.first
@@ -108,13 +108,7 @@ pub fn start_by_fronts<W: Watch>(
     let first = first_of(ground.instance, trace_in(found), drafted);
     let first = better_first(ground.instance, first, known);
     let most = length_of_first(ground.instance, &first);
-    let Shown { length, plan } = longest_with_plan(
-        alloc,
-        ground,
-        most,
-        search.labels,
-        search.watch,
-    )?;
+    let Shown { length, plan } = longest_with_plan(alloc, ground, most, search)?;
     let floor = floor_of(ground.instance, length);
     let best = better_first(ground.instance, first, plan);
     if length_of_first(ground.instance, &best) <= length {

@@ -3,7 +3,7 @@
 use cut_model::{Step, Trace};
 use glass_base::limits::MOST_PLATES;
 use glass_base::{Instance, Memory, Run};
-use plan_beams::Found;
+use plan_beams::BeamPlan;
 use std::alloc::Global;
 
 /// How many plates a plan takes.
@@ -43,9 +43,9 @@ pub(crate) fn lost_behind(instance: &Instance, length: u64, plates: u32, area: u
 pub(crate) fn joined(
     alloc: Global,
     kept: &[Step],
-    found: Option<Found>,
-) -> Result<Option<Found>, Memory> {
-    let Some(Found { trace, loss }) = found else {
+    found: Option<BeamPlan>,
+) -> Result<Option<BeamPlan>, Memory> {
+    let Some(BeamPlan { trace, loss }) = found else {
         return Ok(None);
     };
     let mut steps = Vec::new(alloc);
@@ -54,5 +54,5 @@ pub(crate) fn joined(
     let trace = Trace {
         steps: Run::from(steps),
     };
-    Ok(Some(Found { trace, loss }))
+    Ok(Some(BeamPlan { trace, loss }))
 }

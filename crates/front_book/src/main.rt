@@ -27,9 +27,9 @@ use anyhow::{bail, ensure};
 use cut_model::Trace;
 use defect_map::{DefectMap, Ground};
 use front_bound::bounds::{is_no_shorter, longest_shown};
-use front_bound::plans::longest_with_plan;
-use front_bound::watch::Nobody;
-use glass_base::Instance;
+use front_bound::losses::FrontSearch;
+use front_plan::plans::longest_with_plan;
+use glass_base::{Instance, Nobody};
 use glass_gen::generate;
 use loss_area::length;
 use plan_trace::laws::traces_keep_their_kinds;
@@ -83,8 +83,10 @@ fn losses_of(alloc: Global, instance: &Instance) -> anyhow::Result<String> {
             map: &map,
         },
         most_of(instance),
-        LIMIT,
-        &Nobody,
+        &FrontSearch {
+            labels: LIMIT,
+            listener: &Nobody,
+        },
     )?;
     let least = loss_at(instance, shown.length);
     let Some(plan) = shown.plan else {

@@ -7,39 +7,39 @@ use Rattle.glass_base.specs.Plates.{Before, Width}
 use Rattle.glass_base.specs.Problem.{Problem}
 use Rattle.front_bound.specs.declared.stretch.Stretch.{Stretch}
 use Rattle.front_bound.specs.declared.stretch.Sought.{Sought}
-use Rattle.front_bound.specs.declared.keyed.Keyed.{Keyed}
-use Rattle.front_bound.specs.declared.labels.Label.{Label}
-use Rattle.front_bound.specs.declared.moves.Move.{Move}
-use Rattle.front_bound.specs.declared.places.Piece.{Piece}
-use Rattle.front_bound.specs.declared.places.Place.{Place}
+use Rattle.front_table.specs.declared.keyed.Keyed.{Keyed}
+use Rattle.front_table.specs.declared.labels.FrontLabel.{FrontLabel}
+use Rattle.front_table.specs.declared.moves.Move.{Move}
+use Rattle.front_bound.specs.declared.places.PieceToPlace.{PieceToPlace}
+use Rattle.front_bound.specs.declared.places.Corner.{Corner}
 use Rattle.front_bound.specs.inner.Clear.{Clear, LineClear, Meets, IsFree, Covered, EndsPlaced}
-use Rattle.front_bound.specs.inner.Lattice.{area_at}
-use Rattle.front_bound.specs.inner.Levels.{bands_at, list_at}
-use Rattle.front_bound.specs.inner.Lists.{Listed, HasBands, waste_of}
+use Rattle.front_table.specs.Lattice.{area_at}
+use Rattle.front_table.specs.Levels.{bands_at, list_at}
+use Rattle.front_table.specs.Lists.{Listed, HasBands, waste_of}
 use Rattle.front_bound.specs.inner.Placed.{CellJoined, CellsGoOn, CanGoOn, RunJoined, RunsJoined, MoveJoined, EntryJoined, IsSlack, NoneGoesOn, MovesExtended, Extended, RowPlaced}
-use Rattle.front_bound.specs.inner.Pools.{row_at, HeldAt, Spreads}
-use Rattle.front_bound.specs.inner.Sets.{Has, Fits, Held, HeldTo, Stands}
-use Rattle.front_bound.proofs.Each.{contained_each}
-use Rattle.front_bound.proofs.HeldLists.{least_first, held_none}
-use Rattle.front_bound.proofs.PoolRows.{kept_at}
-use Rattle.front_bound.proofs.StripTries.{less_glass, least_waste, at_place}
+use Rattle.front_table.specs.Pools.{row_at, HeldAt, Spreads}
+use Rattle.front_table.specs.Sets.{Has, Fits, Held, HeldTo, Stands}
+use Rattle.front_table.proofs.Each.{contained_each}
+use Rattle.front_table.proofs.HeldLists.{least_first, held_none}
+use Rattle.front_table.proofs.PoolRows.{kept_at}
+use Rattle.front_table.proofs.StripTries.{less_glass, least_waste, at_place}
 
 -- a list of places
-pub covered_push_old : (places : List Place) (p : Place) (left low : ℕ) → Covered places left low → Covered (places ++ p ∷ []) left low
+pub covered_push_old : (places : List Corner) (p : Corner) (left low : ℕ) → Covered places left low → Covered (places ++ p ∷ []) left low
 unfolding Covered
 covered_push_old places p left low (q, has, x, y) = (q, Contains-append_left places (p ∷ []) q has, x, y)
 
-pub covered_push_new : (places : List Place) (p : Place) (left low : ℕ) → p.x ≤ left → p.y ≤ low → Covered (places ++ p ∷ []) left low
+pub covered_push_new : (places : List Corner) (p : Corner) (left low : ℕ) → p.x ≤ left → p.y ≤ low → Covered (places ++ p ∷ []) left low
 unfolding Covered
 covered_push_new places p left low x y = (p, Contains-push places p, x, y)
 
-pub covered_each : (places : List Place) (Q : ℕ → ℕ → Type 0) → ((k : ℕ) (d : Place) → k < length places → (left low : ℕ) → (get_or places k d).x ≤ left → (get_or places k d).y ≤ low → Q left low) → (left low : ℕ) → Covered places left low → Q left low
+pub covered_each : (places : List Corner) (Q : ℕ → ℕ → Type 0) → ((k : ℕ) (d : Corner) → k < length places → (left low : ℕ) → (get_or places k d).x ≤ left → (get_or places k d).y ≤ low → Q left low) → (left low : ℕ) → Covered places left low → Q left low
 unfolding Covered
 covered_each places Q each left low (p, (k, lt, is), x, y) =
-    each k p lt left low (subst (λ (p : Place). p.x ≤ left) (sym is) x) (subst (λ (p : Place). p.y ≤ low) (sym is) y)
+    each k p lt left low (subst (λ (p : Corner). p.x ≤ left) (sym is) x) (subst (λ (p : Corner). p.y ≤ low) (sym is) y)
 
 -- a piece that meets no defect lies behind each that is met where it is looked for, or above it
-pub behind_or_above : (holes : List Defect) (piece : Piece) (at : Place) (d : Defect) (left low : ℕ) → Contains holes d → Meets d piece at → at.x ≤ left → at.y ≤ low → IsFree holes piece left low → (d.x1 ≤ left) ⊎ (d.y1 ≤ low)
+pub behind_or_above : (holes : List Defect) (piece : PieceToPlace) (at : Corner) (d : Defect) (left low : ℕ) → Contains holes d → Meets d piece at → at.x ≤ left → at.y ≤ low → IsFree holes piece left low → (d.x1 ≤ left) ⊎ (d.y1 ≤ low)
 unfolding Clear
 behind_or_above holes piece at d left low has meets x y free =
     elim (free.clear d has) [
@@ -57,45 +57,45 @@ behind_or_above holes piece at d left low has meets x y free =
 
 -- cells
 module _ (t : Stretch) (s : Sought) where
-  pub cell_joined_kept : (from : ℕ) (old new : List (List Label)) (l : Label) (m : Move) → Spreads from old new → CellJoined t s old l m → CellJoined t s new l m
+  pub cell_joined_kept : (from : ℕ) (old new : List (List FrontLabel)) (l : FrontLabel) (m : Move) → Spreads from old new → CellJoined t s old l m → CellJoined t s new l m
   unfolding CellJoined
   cell_joined_kept from old new l m spreads joined x w y right up left bottom own next can = spreads.kept m.to (x + w) y (left + m.label.along.least) up (joined x w y right up left bottom own next can)
 
-  pub cells_kept : (from : ℕ) (old new : List (List Label)) (n : ℕ) (moves : List Move) → Spreads from old new → from ≤ n → CellsGoOn t s old n moves → CellsGoOn t s new n moves
+  pub cells_kept : (from : ℕ) (old new : List (List FrontLabel)) (n : ℕ) (moves : List Move) → Spreads from old new → from ≤ n → CellsGoOn t s old n moves → CellsGoOn t s new n moves
   unfolding CellsGoOn
   cells_kept from old new n moves spreads le goes x y right up held m has w left bottom next can =
       spreads.kept m.to (x + w) y (left + m.label.along.least) up (goes x y right up (subst (λ l. HeldTo l x y right up) (spreads.same n le) held) m has w left bottom next can)
 
-  pub cells_go_on : (pool : List (List Label)) (n : ℕ) (moves : List Move) → ((k : ℕ) (d : Label) → k < length (row_at pool n) → All (CellJoined t s pool (get_or (row_at pool n) k d)) moves) → CellsGoOn t s pool n moves
+  pub cells_go_on : (pool : List (List FrontLabel)) (n : ℕ) (moves : List Move) → ((k : ℕ) (d : FrontLabel) → k < length (row_at pool n) → All (CellJoined t s pool (get_or (row_at pool n) k d)) moves) → CellsGoOn t s pool n moves
   unfolding CellsGoOn CellJoined HeldTo
   cells_go_on pool n moves each x y right up (l, (k, lt, is), stands) m has w left bottom next can =
-      let all : All (CellJoined t s pool l) moves = subst (λ (l : Label). All (CellJoined t s pool l) moves) is (each k l lt) in
+      let all : All (CellJoined t s pool l) moves = subst (λ (l : FrontLabel). All (CellJoined t s pool l) moves) is (each k l lt) in
       All-contains (CellJoined t s pool l) moves m all has x w y right up left bottom stands next can
 
   -- where no label leads to the row
-  pub cells_none : (pool : List (List Label)) (n : ℕ) (moves : List Move) → row_at pool n ≡ [] → CellsGoOn t s pool n moves
+  pub cells_none : (pool : List (List FrontLabel)) (n : ℕ) (moves : List Move) → row_at pool n ≡ [] → CellsGoOn t s pool n moves
   unfolding CellsGoOn
   cells_none pool n moves none x y right up held m has w left bottom next can = absurd (held_none (row_at pool n) x y right up none held)
 
 -- bands
-module _ (t : Stretch) (from : ℕ) (old new : List (List Label)) (s : Spreads from old new) where
-  pub run_kept : (n : ℕ) (label : Label) (to : ℕ) (cells : Label) → RunJoined t old n label to cells → RunJoined t new n label to cells
+module _ (t : Stretch) (from : ℕ) (old new : List (List FrontLabel)) (s : Spreads from old new) where
+  pub run_kept : (n : ℕ) (label : FrontLabel) (to : ℕ) (cells : FrontLabel) → RunJoined t old n label to cells → RunJoined t new n label to cells
   unfolding RunJoined
   run_kept n label to cells joined x d w right low up own run can = s.kept to (x + d) w right up (joined x d w right low up own run can)
 
-  pub runs_kept : (n : ℕ) (label : Label) (to : ℕ) (runs : List Label) → RunsJoined t old n label to runs → RunsJoined t new n label to runs
+  pub runs_kept : (n : ℕ) (label : FrontLabel) (to : ℕ) (runs : List FrontLabel) → RunsJoined t old n label to runs → RunsJoined t new n label to runs
   unfolding RunsJoined
   runs_kept n label to runs joined x d w right low up own held can = s.kept to (x + d) w right up (joined x d w right low up own held can)
 
-  pub move_kept : (n : ℕ) (label : Label) (m : Move) → MoveJoined t old n label m → MoveJoined t new n label m
+  pub move_kept : (n : ℕ) (label : FrontLabel) (m : Move) → MoveJoined t old n label m → MoveJoined t new n label m
   unfolding MoveJoined
   move_kept n label m joined x d w right low up own next can = s.kept m.to (x + d) w right up (joined x d w right low up own next can)
 
-  pub entry_kept : (n : ℕ) (label : Label) (place : ℕ) → EntryJoined t old n label place → EntryJoined t new n label place
+  pub entry_kept : (n : ℕ) (label : FrontLabel) (place : ℕ) → EntryJoined t old n label place → EntryJoined t new n label place
   unfolding EntryJoined
   entry_kept n label place joined m is = move_kept n label m (joined m is)
 
-  pub extended_kept : (n : ℕ) (label : Label) → Extended t old n label → Extended t new n label
+  pub extended_kept : (n : ℕ) (label : FrontLabel) → Extended t old n label → Extended t new n label
   unfolding MovesExtended
   extended_kept n label (inl moves) = inl (λ m has. move_kept n label m (moves m has))
   extended_kept n label (inr runs) = inr (record { sought = runs.sought; cells = runs.cells; are = runs.are; low = runs.low; slack = runs.slack; joined = λ to lt. runs_kept n label to (row_at runs.cells to) (runs.joined to lt) })
@@ -103,19 +103,19 @@ module _ (t : Stretch) (from : ℕ) (old new : List (List Label)) (s : Spreads f
   pub placed_kept : (n : ℕ) → from ≤ n → RowPlaced t old n → RowPlaced t new n
   unfolding RowPlaced
   placed_kept n le placed =
-      subst (λ row. (k : ℕ) (d : Label) → k < length row → Extended t new n (get_or row k d)) (sym (s.same n le)) (λ k d lt. extended_kept n (get_or (row_at old n) k d) (placed k d lt))
+      subst (λ row. (k : ℕ) (d : FrontLabel) → k < length row → Extended t new n (get_or row k d)) (sym (s.same n le)) (λ k d lt. extended_kept n (get_or (row_at old n) k d) (placed k d lt))
 
-module _ (t : Stretch) (pool : List (List Label)) (n : ℕ) where
-  pub runs_joined : (label : Label) (to : ℕ) (runs : List Label) → ((k : ℕ) (d : Label) → k < length runs → RunJoined t pool n label to (get_or runs k d)) → RunsJoined t pool n label to runs
+module _ (t : Stretch) (pool : List (List FrontLabel)) (n : ℕ) where
+  pub runs_joined : (label : FrontLabel) (to : ℕ) (runs : List FrontLabel) → ((k : ℕ) (d : FrontLabel) → k < length runs → RunJoined t pool n label to (get_or runs k d)) → RunsJoined t pool n label to runs
   unfolding RunsJoined RunJoined HeldTo
-  runs_joined label to runs each x d w right low up own (cells, has, stands) can = contained_each (λ (cells : Label). RunJoined t pool n label to cells) runs each cells has x d w right low up own stands can
+  runs_joined label to runs each x d w right low up own (cells, has, stands) can = contained_each (λ (cells : FrontLabel). RunJoined t pool n label to cells) runs each cells has x d w right low up own stands can
 
-  pub runs_none : (label : Label) (to : ℕ) (runs : List Label) → runs ≡ [] → RunsJoined t pool n label to runs
+  pub runs_none : (label : FrontLabel) (to : ℕ) (runs : List FrontLabel) → runs ≡ [] → RunsJoined t pool n label to runs
   unfolding RunsJoined
   runs_none label to runs none x d w right low up own held can = absurd (held_none runs w d right up none held)
 
   -- where no band goes on
-  pub none_extended : (label : Label) → NoneGoesOn t n label → Extended t pool n label
+  pub none_extended : (label : FrontLabel) → NoneGoesOn t n label → Extended t pool n label
   unfolding NoneGoesOn MovesExtended MoveJoined
   none_extended label none = inl (λ m has x d w right low up own next can. absurd (none m.to x d w right low up own can))
 
@@ -124,59 +124,59 @@ module _ (t : Stretch) (pool : List (List Label)) (n : ℕ) where
   row_none none k d lt = absurd (omega (arith, lt, ap length none))
 
   -- each band of the list goes on, or leaves more than it may
-  pub all_joined : (label : Label) (slack : ℕ) → t.limits.bound ≤ t.limits.top → HasBands t.rows.now n t.limits.top (bands_at t.levels.now n) (list_at t.levels.now n t.limits.class) → IsSlack t n label slack →
-      ((e : Keyed) → Contains (list_at t.levels.now n t.limits.class) e → e.key ≤ slack → EntryJoined t pool n label e.place) → Extended t pool n label
+  pub all_joined : (label : FrontLabel) (slack : ℕ) → t.limits.bound ≤ t.limits.top → HasBands t.fronts.rows.now n t.limits.top (bands_at t.fronts.levels.now n) (list_at t.fronts.levels.now n t.limits.class) → IsSlack t n label slack →
+      ((e : Keyed) → Contains (list_at t.fronts.levels.now n t.limits.class) e → e.key ≤ slack → EntryJoined t pool n label e.place) → Extended t pool n label
   unfolding MovesExtended EntryJoined MoveJoined HasBands Listed IsSlack
   all_joined label slack bound bands most joined = inl (λ m has x d w right low up own next can.
       let listed = bands has.0 m has.1 (omega (arith, ap (λ (b : Move). b.label.across.least) has.2, least_first m.label.across w next.1, can.end.narrow, bound)) in
       let less : t.limits.top * m.label.along.least ≤ t.limits.top * d = mul-le t.limits.top m.label.along.least t.limits.top d (omega arith) (least_first m.label.along d next.0) in
-      let waste : waste_of t.rows.now n t.limits.top m ≤ slack = omega (arith, less, most m.to x d w right low up own can) in
-      let key : listed.0.key ≤ slack = omega (arith, listed.3, ap (waste_of t.rows.now n t.limits.top) has.2, waste) in
-      joined listed.0 listed.1 key m (ap (slice_get (bands_at t.levels.now n)) listed.2 ∙ at_place (bands_at t.levels.now n) m has) x d w right low up own next can)
+      let waste : waste_of t.fronts.rows.now n t.limits.top m ≤ slack = omega (arith, less, most m.to x d w right low up own can) in
+      let key : listed.0.key ≤ slack = omega (arith, listed.3, ap (waste_of t.fronts.rows.now n t.limits.top) has.2, waste) in
+      joined listed.0 listed.1 key m (ap (slice_get (bands_at t.fronts.levels.now n)) listed.2 ∙ at_place (bands_at t.fronts.levels.now n) m has) x d w right low up own next can)
 
 -- how much a band may leave
-pub slack_more : (t : Stretch) (n : ℕ) (label : Label) (slack more : ℕ) → slack ≤ more → IsSlack t n label slack → IsSlack t n label more
+pub slack_more : (t : Stretch) (n : ℕ) (label : FrontLabel) (slack more : ℕ) → slack ≤ more → IsSlack t n label slack → IsSlack t n label more
 unfolding IsSlack
 slack_more t n label slack more le is to x d w right low up own can = omega (arith, is to x d w right low up own can, le)
 
 pub can_leave : (t : Stretch) (n to x d w right low up area up_to : ℕ) → t.limits.bound ≤ t.limits.top → up_to ≤ low → (can : CanGoOn t n to x d w right low up) → area ≤ can.area →
-    t.limits.top * d - (area_at t.rows.now n - area_at t.rows.now to) ≤ t.limits.top * (t.limits.height - up_to) - area
+    t.limits.top * d - (area_at t.fronts.rows.now n - area_at t.fronts.rows.now to) ≤ t.limits.top * (t.limits.height - up_to) - area
 can_leave t n to x d w right low up area up_to bound below can least =
     let h : ℕ = t.limits.height in
     let rest : can.end.area ≤ w * (h - (low + d)) = omega (arith, can.end.within, mul-le w (h - up) w (h - (low + d)) (omega arith) (omega (arith, can.above))) in
-    least_waste t.limits.top w h low d up_to d area (area_at t.rows.now n - area_at t.rows.now to) can.area can.end.area (omega (arith, can.end.narrow, bound)) below (omega arith) (omega (arith, can.above, can.end.top)) least can.split rest
+    least_waste t.limits.top w h low d up_to d area (area_at t.fronts.rows.now n - area_at t.fronts.rows.now to) can.area can.end.area (omega (arith, can.end.narrow, bound)) below (omega arith) (omega (arith, can.above, can.end.top)) least can.split rest
 
 pub can_hold : (t : Stretch) (n to x d w right low up up_to : ℕ) → t.limits.bound ≤ t.limits.top → up_to ≤ low → (can : CanGoOn t n to x d w right low up) → can.area ≤ t.limits.top * (t.limits.height - up_to)
 can_hold t n to x d w right low up up_to bound below can = omega (arith, can.within, less_glass w t.limits.top t.limits.height low up_to (omega (arith, can.end.narrow, bound)) below)
 
 -- right sides
-pub ends_placed_kept : (b : Problem) (holes : List Defect) (far most g : ℕ) (old new : List (List Label)) (m plate begin : ℕ) (strips : List Label) → Spreads g old new → EndsPlaced b holes far most old m plate begin strips →
+pub ends_placed_kept : (b : Problem) (holes : List Defect) (far most g : ℕ) (old new : List (List FrontLabel)) (m plate begin : ℕ) (strips : List FrontLabel) → Spreads g old new → EndsPlaced b holes far most old m plate begin strips →
     EndsPlaced b holes far most new m plate begin strips
 unfolding EndsPlaced
 ends_placed_kept b holes far most g old new m plate begin strips s placed width right held sum within line near = kept_at g old new s m right plate (placed width right held sum within line near)
 
-pub ends_of_each : (b : Problem) (holes : List Defect) (far most : ℕ) (sides : List (List Label)) (m plate begin : ℕ) (strips : List Label) →
-    ((k : ℕ) (d : Label) → k < length strips → EndsPlaced b holes far most sides m plate begin (get_or strips k d ∷ [])) → EndsPlaced b holes far most sides m plate begin strips
+pub ends_of_each : (b : Problem) (holes : List Defect) (far most : ℕ) (sides : List (List FrontLabel)) (m plate begin : ℕ) (strips : List FrontLabel) →
+    ((k : ℕ) (d : FrontLabel) → k < length strips → EndsPlaced b holes far most sides m plate begin (get_or strips k d ∷ [])) → EndsPlaced b holes far most sides m plate begin strips
 unfolding EndsPlaced HeldTo
 ends_of_each b holes far most sides m plate begin strips each width right (strip, has, stands) sum within line near =
-    contained_each (λ (strip : Label). EndsPlaced b holes far most sides m plate begin (strip ∷ [])) strips each strip has width right (strip, (0, omega arith, refl), stands) sum within line near
+    contained_each (λ (strip : FrontLabel). EndsPlaced b holes far most sides m plate begin (strip ∷ [])) strips each strip has width right (strip, (0, omega arith, refl), stands) sum within line near
 
-pub ends_empty : (b : Problem) (holes : List Defect) (far most : ℕ) (sides : List (List Label)) (m plate begin : ℕ) (strips : List Label) → strips ≡ [] → EndsPlaced b holes far most sides m plate begin strips
+pub ends_empty : (b : Problem) (holes : List Defect) (far most : ℕ) (sides : List (List FrontLabel)) (m plate begin : ℕ) (strips : List FrontLabel) → strips ≡ [] → EndsPlaced b holes far most sides m plate begin strips
 unfolding EndsPlaced
 ends_empty b holes far most sides m plate begin strips none width right held sum within line near = absurd (held_none strips b.params.height width right b.params.height none held)
 
-pub one_stands : (strip : Label) (x y right up : ℕ) → HeldTo (strip ∷ []) x y right up → Stands strip x y right up
+pub one_stands : (strip : FrontLabel) (x y right up : ℕ) → HeldTo (strip ∷ []) x y right up → Stands strip x y right up
 unfolding HeldTo
-one_stands strip x y right up (l, (zero, lt, is), stands) = subst (λ (l : Label). Stands l x y right up) (sym is) stands
+one_stands strip x y right up (l, (zero, lt, is), stands) = subst (λ (l : FrontLabel). Stands l x y right up) (sym is) stands
 one_stands strip x y right up (l, (suc k, lt, is), stands) = absurd (omega (arith, lt))
 
 -- where no strip of a label has such a height, or none ends so far on
-pub ends_unlike : (b : Problem) (holes : List Defect) (far most : ℕ) (sides : List (List Label)) (m plate begin : ℕ) (strip : Label) → (Has strip.along b.params.height → ⊥) → EndsPlaced b holes far most sides m plate begin (strip ∷ [])
+pub ends_unlike : (b : Problem) (holes : List Defect) (far most : ℕ) (sides : List (List FrontLabel)) (m plate begin : ℕ) (strip : FrontLabel) → (Has strip.along b.params.height → ⊥) → EndsPlaced b holes far most sides m plate begin (strip ∷ [])
 unfolding EndsPlaced
 ends_unlike b holes far most sides m plate begin strip none width right held sum within line near =
     absurd (none (one_stands strip b.params.height width right b.params.height held).0.0)
 
-pub ends_from : (b : Problem) (holes : List Defect) (far most : ℕ) (sides : List (List Label)) (m plate begin : ℕ) (strip : Label) →
+pub ends_from : (b : Problem) (holes : List Defect) (far most : ℕ) (sides : List (List FrontLabel)) (m plate begin : ℕ) (strip : FrontLabel) →
     ((right : ℕ) → begin + strip.across.least ≤ right → strip.right ≤ right → right ≤ Width b plate → (right < Width b plate → LineClear holes b.params.height right) → Before b plate + right + far ≤ most → HeldAt sides m right plate) →
     EndsPlaced b holes far most sides m plate begin (strip ∷ [])
 unfolding EndsPlaced
@@ -184,7 +184,7 @@ ends_from b holes far most sides m plate begin strip each width right held sum w
     let stands = one_stands strip b.params.height width right b.params.height held in
     each right (omega (arith, sum, least_first strip.across width stands.0.1)) stands.1 within line near
 
-pub one_held : (label : Label) (x y : ℕ) → Held (label ∷ []) x y → Fits label x y
+pub one_held : (label : FrontLabel) (x y : ℕ) → Held (label ∷ []) x y → Fits label x y
 unfolding Held
-one_held label x y (l, (zero, lt, is), fits) = subst (λ (l : Label). Fits l x y) (sym is) fits
+one_held label x y (l, (zero, lt, is), fits) = subst (λ (l : FrontLabel). Fits l x y) (sym is) fits
 one_held label x y (l, (suc k, lt, is), fits) = absurd (omega (arith, lt))

@@ -18,24 +18,24 @@ use Rattle.front_course.specs.Strips.{Band, IsBand, after_bands, bands_height, A
 use Rattle.front_course.specs.Places.{HasPlaces, CellPlaces, BandPlaces, IsClearLine}
 use Rattle.front_bound.specs.declared.stretch.Stretch.{Stretch}
 use Rattle.front_bound.specs.declared.stretch.Sought.{Sought}
-use Rattle.front_bound.specs.declared.labels.Label.{Label}
-use Rattle.front_bound.specs.declared.moves.Move.{Move}
-use Rattle.front_bound.specs.declared.rows.Row.{Row}
+use Rattle.front_table.specs.declared.labels.FrontLabel.{FrontLabel}
+use Rattle.front_table.specs.declared.moves.Move.{Move}
+use Rattle.front_table.specs.declared.rows.FrontRow.{FrontRow}
 use Rattle.front_bound.specs.inner.Clear.{AreHoles, Avoids, Clear, LineClear, EndsPlaced}
-use Rattle.front_bound.specs.inner.Ends.{Ended, after_items}
-use Rattle.front_bound.specs.inner.Lattice.{At, area_at, moves_at, IsLattice}
-use Rattle.front_bound.specs.inner.Leads.{cell_height, cells_area, Moved}
-use Rattle.front_bound.specs.inner.Levels.{bands_at, ends_at}
+use Rattle.front_table.specs.Ends.{Ended, after_items}
+use Rattle.front_table.specs.Lattice.{At, area_at, moves_at, IsLattice}
+use Rattle.front_table.specs.Leads.{cell_height, cells_area, Moved}
+use Rattle.front_table.specs.Levels.{bands_at, ends_at}
 use Rattle.front_bound.specs.inner.Placed.{CellsGoOn, CanJoin, CanGoOn, RunsJoined, MoveJoined, MovesExtended, IsSlack, Extended, RowPlaced}
-use Rattle.front_bound.specs.inner.Pools.{row_at}
-use Rattle.front_bound.specs.inner.Ready.{Ready, Fitting}
-use Rattle.front_bound.specs.inner.Sets.{HeldTo}
-use Rattle.front_bound.specs.inner.Sides.{StripHeld, ClassGoesOn}
-use Rattle.front_bound.proofs.CellRuns.{gap_within, gap_left}
-use Rattle.front_bound.proofs.Fronts.{one_row, CellMoved, cell_led}
-use Rattle.front_bound.proofs.HeldLists.{least_first}
+use Rattle.front_table.specs.Pools.{row_at}
+use Rattle.front_table.specs.Ready.{Ready, Fitting}
+use Rattle.front_table.specs.Sets.{HeldTo}
+use Rattle.front_bound.specs.Sides.{StripHeld, ClassGoesOn}
+use Rattle.front_table.proofs.CellRuns.{gap_within, gap_left}
+use Rattle.front_table.proofs.FrontRows.{one_row, CellMoved, cell_led}
+use Rattle.front_table.proofs.HeldLists.{least_first}
 use Rattle.front_bound.proofs.PlacedRows.{one_held}
-use Rattle.front_bound.proofs.StripRuns.{bands_area, bands_within, cells_within, bands_left, bands_take, behind_at, stacks_in, stacks_more, after_in, strip_down}
+use Rattle.front_table.proofs.StripRuns.{bands_area, bands_within, cells_within, bands_left, bands_take, behind_at, stacks_in, stacks_more, after_in, strip_down}
 
 pub contains_pushed : (xs : List Defect) (x y : Defect) → Contains (xs ++ x ∷ []) y → Contains xs y ⊎ (x ≡ y)
 contains_pushed [] x y (zero, lt, is) = inr is
@@ -153,7 +153,7 @@ clear_both b plate holes are x0 y0 x1 mid y1 under over d has =
     ]
 
 -- what is held is held further right and up
-pub held_further : (labels : List Label) (x y right up right' up' : ℕ) → right ≤ right' → up ≤ up' → HeldTo labels x y right up → HeldTo labels x y right' up'
+pub held_further : (labels : List FrontLabel) (x y right up right' up' : ℕ) → right ≤ right' → up ≤ up' → HeldTo labels x y right up → HeldTo labels x y right' up'
 unfolding HeldTo
 held_further labels x y right up right' up' beside above (l, has, stands) = (l, has, (stands.0, omega (arith, stands.1, beside), omega (arith, stands.2, above)))
 
@@ -199,7 +199,7 @@ cell_place b plate holes are left low high f (pair p q) can ((bottom, above, wit
     }
 
 -- cells are held where they end, no further right than they lie
-record CellsRan (b : Problem) (rows : List Row) (cells : List (List Label)) (to : Front) (wide high right up : ℕ) : Type 0 where
+record CellsRan (b : Problem) (rows : List FrontRow) (cells : List (List FrontLabel)) (to : Front) (wide high right up : ℕ) : Type 0 where
   row : ℕ
   at : At b rows row to
   held : HeldTo (row_at cells row) wide high right up
@@ -208,10 +208,10 @@ record CellsRan (b : Problem) (rows : List Row) (cells : List (List Label)) (to 
 lean_left : (x r whole high after slack start more : ℕ) → x + r ≡ whole → more ≤ high * r → whole * high + after ≤ slack + start + more → x * high + after ≤ slack + start
 lean_left x r whole high after slack start more sum within lean = omega (arith, mul-add high x r, ap (λ k. high * k) sum, mul_comm whole high, mul_comm x high, within, lean)
 
-cells_ran : (b : Problem) (t : Stretch) → IsLattice b t.rows.now → (plate : ℕ) → AreHoles b plate t.holes.now → t.site.height ≡ b.params.height → (s : Sought) (low high : ℕ) → s.low ≤ low → low + high ≤ b.params.height →
-    (pool : List (List Label)) → ((n : ℕ) → n ≤ s.start → CellsGoOn t s pool n (moves_at t.rows.now n)) → (right : ℕ) → right ≤ t.site.room → (whole : ℕ) → whole ≤ t.site.widest → (cells : List Cell) (n : ℕ) (f : Front) (x from : ℕ) → n ≤ s.start →
-    At b t.rows.now n f → AllStand b high f cells → CellPlaces b plate low (low + high) f from right cells → x + cells_width b f cells ≡ whole → whole * high + area_at t.rows.now n ≤ s.slack + area_at t.rows.now s.start + cells_area b f cells →
-    HeldTo (row_at pool n) x high from (low + high) → CellsRan b t.rows.now pool (after_cells f cells) whole high right (low + high)
+cells_ran : (b : Problem) (t : Stretch) → IsLattice b t.fronts.rows.now → (plate : ℕ) → AreHoles b plate t.holes.now → t.site.height ≡ b.params.height → (s : Sought) (low high : ℕ) → s.low ≤ low → low + high ≤ b.params.height →
+    (pool : List (List FrontLabel)) → ((n : ℕ) → n ≤ s.start → CellsGoOn t s pool n (moves_at t.fronts.rows.now n)) → (right : ℕ) → right ≤ t.site.room → (whole : ℕ) → whole ≤ t.site.widest → (cells : List Cell) (n : ℕ) (f : Front) (x from : ℕ) → n ≤ s.start →
+    At b t.fronts.rows.now n f → AllStand b high f cells → CellPlaces b plate low (low + high) f from right cells → x + cells_width b f cells ≡ whole → whole * high + area_at t.fronts.rows.now n ≤ s.slack + area_at t.fronts.rows.now s.start + cells_area b f cells →
+    HeldTo (row_at pool n) x high from (low + high) → CellsRan b t.fronts.rows.now pool (after_cells f cells) whole high right (low + high)
 unfolding CellsGoOn
 cells_ran b t h plate are tall s low high above top pool goes right room whole widest [] n f x from le at stand gap sum lean held = record {
   row = n;
@@ -221,12 +221,12 @@ cells_ran b t h plate are tall s low high above top pool goes right room whole w
 cells_ran b t h plate are tall s low high above top pool goes right room whole widest (c ∷ cells) n f x from le at stand (left, gap, own, rest) sum lean held =
     let w : ℕ = cell_width b f c in
     let e : Front = after_cell f c in
-    let m : CellMoved b t.rows.now n f high c = cell_led b t.rows.now h n f at high c stand.0 in
+    let m : CellMoved b t.fronts.rows.now n f high c = cell_led b t.fronts.rows.now h n f at high c stand.0 in
     let p : CellPlace b t.holes.now left low (low + high) f c = cell_place b plate t.holes.now are left low high f c stand.0 own in
     let mv : Move = m.moved.move in
     let thin : mv.label.along.least ≤ w = least_first mv.label.along w m.moved.fits.0 in
     let end : left + w ≤ right = cells_end b plate low (low + high) e (left + w) right cells rest in
-    let leaner : whole * high + area_at t.rows.now mv.to ≤ s.slack + area_at t.rows.now s.start + cells_area b e cells = omega (arith, lean, m.moved.left) in
+    let leaner : whole * high + area_at t.fronts.rows.now mv.to ≤ s.slack + area_at t.fronts.rows.now s.start + cells_area b e cells = omega (arith, lean, m.moved.left) in
     let can : CanJoin t s mv x w high from (low + high) left p.bottom = record {
       wide = omega (arith, sum, widest);
       high = omega (arith, top, tall);
@@ -237,14 +237,14 @@ cells_ran b t h plate are tall s low high above top pool goes right room whole w
       below = omega (arith, m.low, p.within);
       room = omega (arith, thin, end, room);
       clear = clear_within t.holes.now left p.bottom (left + w) (p.bottom + cell_height b f c) (left + mv.label.along.least) (p.bottom + mv.label.across.least) (omega (arith, thin)) (omega (arith, m.low)) p.clear;
-      lean = lean_left (x + w) (cells_width b e cells) whole high (area_at t.rows.now mv.to) s.slack (area_at t.rows.now s.start) (cells_area b e cells) (omega (arith, sum)) (cells_within b high e cells stand.1) leaner;
+      lean = lean_left (x + w) (cells_width b e cells) whole high (area_at t.fronts.rows.now mv.to) s.slack (area_at t.fronts.rows.now s.start) (cells_area b e cells) (omega (arith, sum)) (cells_within b high e cells stand.1) leaner;
     } in
     let beside : HeldTo (row_at pool mv.to) (x + w) high (left + mv.label.along.least) (low + high) = goes n le x high from (low + high) held mv m.moved.has w left p.bottom m.moved.fits can in
     cells_ran b t h plate are tall s low high above top pool goes right room whole widest cells mv.to e (x + w) (left + w) (omega (arith, m.moved.down, le)) m.moved.at stand.1 rest (omega (arith, sum)) leaner
     (held_further (row_at pool mv.to) (x + w) high (left + mv.label.along.least) (low + high) (left + w) (low + high) (omega (arith, thin)) (omega arith) beside)
 
 -- what a search around defects knows
-pub record Searched (b : Problem) (t : Stretch) (plate : ℕ) (pool : List (List Label)) (start : ℕ) : Type 0 where
+pub record Searched (b : Problem) (t : Stretch) (plate : ℕ) (pool : List (List FrontLabel)) (start : ℕ) : Type 0 where
   pub are : AreHoles b plate t.holes.now
   pub height : t.site.height ≡ b.params.height
   pub least : t.site.least ≡ b.params.min2
@@ -254,12 +254,12 @@ pub record Searched (b : Problem) (t : Stretch) (plate : ℕ) (pool : List (List
   pub placed : (n : ℕ) → n ≤ start → RowPlaced t pool n
 
 -- one band more
-band_step : (b : Problem) (t : Stretch) → IsLattice b t.rows.now → (plate : ℕ) (pool : List (List Label)) (start : ℕ) → Searched b t plate pool start → (n : ℕ) (f : Front) → n ≤ start → At b t.rows.now n f → (w : ℕ) (band : Band) → IsBand b w f band →
-    (mv : Moved b t.rows.now n (bands_at t.levels.now n) (after_cells f band.cells) band.high w (cells_area b f band.cells)) → w ≤ t.limits.bound → (left right from low x : ℕ) → t.site.left ≤ left → right ≤ t.site.room → from ≤ low → low + band.high ≤ b.params.height →
+band_step : (b : Problem) (t : Stretch) → IsLattice b t.fronts.rows.now → (plate : ℕ) (pool : List (List FrontLabel)) (start : ℕ) → Searched b t plate pool start → (n : ℕ) (f : Front) → n ≤ start → At b t.fronts.rows.now n f → (w : ℕ) (band : Band) → IsBand b w f band →
+    (mv : Moved b t.fronts.rows.now n (bands_at t.fronts.levels.now n) (after_cells f band.cells) band.high w (cells_area b f band.cells)) → w ≤ t.limits.bound → (left right from low x : ℕ) → t.site.left ≤ left → right ≤ t.site.room → from ≤ low → low + band.high ≤ b.params.height →
     CellPlaces b plate low (low + band.high) f left right band.cells → CanGoOn t n mv.move.to x band.high w right from (low + band.high) → HeldTo (row_at pool n) x w right from → HeldTo (row_at pool mv.move.to) (x + band.high) w right (low + band.high)
 unfolding RowPlaced HeldTo MovesExtended MoveJoined RunsJoined IsSlack
 band_step b t h plate pool start s n f le at w band is mv narrow left right from low x begin room above top cells can (label, (k, lt, same), stands) =
-    elim (subst (λ (a : Label). Extended t pool n a) same (s.placed n le k label lt)) [
+    elim (subst (λ (a : FrontLabel). Extended t pool n a) same (s.placed n le k label lt)) [
       | inl moves ↦ moves mv.move mv.has x band.high w right from (low + band.high) stands mv.fits can
       | inr runs ↦
           let size : ℕ = cells_width b f band.cells in
@@ -268,28 +268,28 @@ band_step b t h plate pool start s n f le at w band is mv narrow left right from
           let begun : HeldTo (row_at runs.cells n) (w - size) band.high left (low + band.high) =
           subst (λ k. HeldTo (row_at runs.cells k) (w - size) band.high left (low + band.high)) runs.are.0 (runs.are.1.begun (w - size) band.high left (low + band.high) none (omega (arith, s.least, is.tall)) begin) in
           let leaves : w * band.high ≤ t.limits.top * band.high = mul-le w band.high t.limits.top band.high (omega (arith, narrow, s.bound)) (omega arith) in
-          let lean : w * band.high + area_at t.rows.now n ≤ runs.sought.slack + area_at t.rows.now runs.sought.start + cells_area b f band.cells =
-          omega (arith, leaves, runs.slack mv.move.to x band.high w right from (low + band.high) stands can, mv.left, ap (area_at t.rows.now) runs.are.0) in
-          let r : CellsRan b t.rows.now runs.cells (after_cells f band.cells) w band.high right (low + band.high) =
+          let lean : w * band.high + area_at t.fronts.rows.now n ≤ runs.sought.slack + area_at t.fronts.rows.now runs.sought.start + cells_area b f band.cells =
+          omega (arith, leaves, runs.slack mv.move.to x band.high w right from (low + band.high) stands can, mv.left, ap (area_at t.fronts.rows.now) runs.are.0) in
+          let r : CellsRan b t.fronts.rows.now runs.cells (after_cells f band.cells) w band.high right (low + band.high) =
           cells_ran b t h plate s.are s.height runs.sought low band.high (omega (arith, runs.low, stands.2, above)) top runs.cells runs.are.1.goes_on right room w (omega (arith, narrow, s.widest)) band.cells n f (w - size) left (omega (arith, runs.are.0)) at is.stand
           cells (omega (arith, within)) lean begun in
-          let to : r.row ≡ mv.move.to = one_row b t.rows.now h r.row mv.move.to (after_cells f band.cells) r.at mv.at in
+          let to : r.row ≡ mv.move.to = one_row b t.fronts.rows.now h r.row mv.move.to (after_cells f band.cells) r.at mv.at in
           runs.joined mv.move.to mv.down x band.high w right from (low + band.high) stands (subst (λ k. HeldTo (row_at runs.cells k) w band.high right (low + band.high)) to r.held) can
     ]
 
-bands_placed : (b : Problem) (t : Stretch) → IsLattice b t.rows.now → (cover : ℕ) → Fitting b t.limits cover → (to_go : ℕ → ℕ) (start : ℕ) → Ready b t.rows.now t.levels.now cover to_go start → (plate : ℕ) (pool : List (List Label)) → Searched b t plate pool start →
-    (w : ℕ) → w ≤ t.limits.bound → (left right : ℕ) → t.site.left ≤ left → right ≤ t.site.room → (bands : List Band) (n : ℕ) (f : Front) (x from : ℕ) → n ≤ start → At b t.rows.now n f → AreBands b w f bands → BandPlaces b plate left right f from bands →
-    x + bands_height bands ≡ t.limits.height → (m : ℕ) → At b t.rows.now m (after_bands f bands) → w + to_go m ≤ t.limits.most → right + to_go m ≤ t.reach → HeldTo (row_at pool n) x w right from → HeldTo (row_at pool m) t.limits.height w right b.params.height
+bands_placed : (b : Problem) (t : Stretch) → IsLattice b t.fronts.rows.now → (cover : ℕ) → Fitting b t.limits cover → (to_go : ℕ → ℕ) (start : ℕ) → Ready b t.fronts.rows.now t.fronts.levels.now cover to_go start → (plate : ℕ) (pool : List (List FrontLabel)) → Searched b t plate pool start →
+    (w : ℕ) → w ≤ t.limits.bound → (left right : ℕ) → t.site.left ≤ left → right ≤ t.site.room → (bands : List Band) (n : ℕ) (f : Front) (x from : ℕ) → n ≤ start → At b t.fronts.rows.now n f → AreBands b w f bands → BandPlaces b plate left right f from bands →
+    x + bands_height bands ≡ t.limits.height → (m : ℕ) → At b t.fronts.rows.now m (after_bands f bands) → w + to_go m ≤ t.limits.most → right + to_go m ≤ t.reach → HeldTo (row_at pool n) x w right from → HeldTo (row_at pool m) t.limits.height w right b.params.height
 bands_placed b t h cover fit to_go start r plate pool s w narrow left right begin room [] n f x from le at are gap whole m to near reaches held =
-    let same : n ≡ m = one_row b t.rows.now h n m f at to in
+    let same : n ≡ m = one_row b t.fronts.rows.now h n m f at to in
     subst (λ k. HeldTo (row_at pool k) t.limits.height w right b.params.height) same
     (subst (λ k. HeldTo (row_at pool n) k w right b.params.height) (omega (arith, whole)) (held_further (row_at pool n) x w right from right b.params.height (omega arith) (gap_within b.params.waste from b.params.height gap) held))
 bands_placed b t h cover fit to_go start r plate pool s w narrow left right begin room (band ∷ bands) n f x from le at are (low, gap, cells, rest) whole m to near reaches held =
-    let rows : List Row = t.rows.now in
+    let rows : List FrontRow = t.fronts.rows.now in
     let e : Front = after_cells f band.cells in
     let d : ℕ = band.high in
     let tall : ℕ = t.limits.height in
-    let mv : Moved b rows n (bands_at t.levels.now n) e d w (cells_area b f band.cells) = r.bands n le f at w band (omega (arith, narrow, fit.bound)) (omega (arith, whole, fit.height)) are.0 in
+    let mv : Moved b rows n (bands_at t.fronts.levels.now n) e d w (cells_area b f band.cells) = r.bands n le f at w band (omega (arith, narrow, fit.bound)) (omega (arith, whole, fit.height)) are.0 in
     let all : ℕ = bands_area b f (band ∷ bands) in
     let more : ℕ = bands_area b e bands in
     let left_all : area_at rows n ≡ area_at rows m + all = bands_left b rows h w (band ∷ bands) n f at are m to in
@@ -301,8 +301,8 @@ bands_placed b t h cover fit to_go start r plate pool s w narrow left right begi
     let few : all ≤ cover = omega (arith, here, mul-le w (tall - from) t.limits.bound tall narrow (omega arith), fit.covered) in
     let to_all : At b rows m (after_items f (stacks_in (band ∷ bands))) = subst (λ k. At b rows m k) (sym (after_in f (band ∷ bands))) to in
     let to_more : At b rows m (after_items e (stacks_in bands)) = subst (λ k. At b rows m k) (sym (after_in e bands)) to in
-    let before : Ended (ends_at t.levels.now n) all (to_go m) = behind_at b rows t.levels.now cover to_go start r n le f at (stacks_in (band ∷ bands)) (stacks_more band bands are.0.some) (bands_take b w f (band ∷ bands) are) m to_all all left_all few in
-    let behind : Ended (ends_at t.levels.now mv.move.to) more (to_go m) = r.ends mv.move.to (omega (arith, mv.down, le)) e mv.at (stacks_in bands) (bands_take b w e bands are.1) m to_more more left_more (omega (arith, few)) in
+    let before : Ended (ends_at t.fronts.levels.now n) all (to_go m) = behind_at b rows t.fronts.levels.now cover to_go start r n le f at (stacks_in (band ∷ bands)) (stacks_more band bands are.0.some) (bands_take b w f (band ∷ bands) are) m to_all all left_all few in
+    let behind : Ended (ends_at t.fronts.levels.now mv.move.to) more (to_go m) = r.ends mv.move.to (omega (arith, mv.down, le)) e mv.at (stacks_in bands) (bands_take b w e bands are.1) m to_more more left_more (omega (arith, few)) in
     let can : CanGoOn t n mv.move.to x d w right from (low + d) = record {
       end = record {
         area = more;
@@ -326,10 +326,10 @@ bands_placed b t h cover fit to_go start r plate pool s w narrow left right begi
     (band_step b t h plate pool start s n f le at w band are.0 mv narrow left right from low x begin room above (omega (arith, top)) cells can held)
 
 -- strips that begin behind one of a plate are held where they end
-pub placed_goes_on : (b : Problem) (t : Stretch) → IsLattice b t.rows.now → (cover : ℕ) → Fitting b t.limits cover → (to_go : ℕ → ℕ) (start : ℕ) → Ready b t.rows.now t.levels.now cover to_go start → (plate : ℕ) (pool : List (List Label)) → Searched b t plate pool start →
-    (low : ℕ) → ((x w right up : ℕ) → (x ≡ 0) ⊎ (0 + t.site.waste ≤ x) → low ≤ w → t.site.left ≤ right → HeldTo (row_at pool start) x w right up) → (holes : List Defect) → AreHoles b plate holes → (most : ℕ) (sides : List (List Label)) (begin : Label) (top room most_left : ℕ) →
+pub placed_goes_on : (b : Problem) (t : Stretch) → IsLattice b t.fronts.rows.now → (cover : ℕ) → Fitting b t.limits cover → (to_go : ℕ → ℕ) (start : ℕ) → Ready b t.fronts.rows.now t.fronts.levels.now cover to_go start → (plate : ℕ) (pool : List (List FrontLabel)) → Searched b t plate pool start →
+    (low : ℕ) → ((x w right up : ℕ) → (x ≡ 0) ⊎ (0 + t.site.waste ≤ x) → low ≤ w → t.site.left ≤ right → HeldTo (row_at pool start) x w right up) → (holes : List Defect) → AreHoles b plate holes → (most : ℕ) (sides : List (List FrontLabel)) (begin : FrontLabel) (top room most_left : ℕ) →
     t.site.left ≡ begin.along.least → t.site.room ≡ Width b plate → most ≤ Before b plate + t.reach → t.reach ≤ t.site.left + t.limits.most → ((w : ℕ) → w ≤ top → w ≤ b.params.max1 → w ≤ room → t.site.left + w ≤ Width b plate → w ≤ t.limits.bound) →
-    ((m : ℕ) → m < start → EndsPlaced b holes (to_go m) most sides m plate t.site.left (row_at pool m)) → ClassGoesOn b t.rows.now to_go most sides start (begin ∷ []) plate low top room most_left
+    ((m : ℕ) → m < start → EndsPlaced b holes (to_go m) most sides m plate t.site.left (row_at pool m)) → ClassGoesOn b t.fronts.rows.now to_go most sides start (begin ∷ []) plate low top room most_left
 unfolding ClassGoesOn StripHeld EndsPlaced
 placed_goes_on b t h cover fit to_go start r plate pool s low begun holes are most sides begin top room most_left begins width reaches tight bound ends f at from held w bands is wide narrow fits m to near right placed gap within close =
     let here : begin.along.least ≤ from = least_first begin.along from (one_held begin from plate held).0 in
@@ -343,5 +343,5 @@ placed_goes_on b t h cover fit to_go start r plate pool s low begun holes are mo
     let strip : HeldTo (row_at pool m) tall w right b.params.height =
     bands_placed b t h cover fit to_go start r plate pool s w (bound w narrow is.narrow fits (omega (arith, begins, here, sum, within))) (right - w) right left (omega (arith, width, within)) bands start f (tall - high) 0 (omega arith) at is.each placed.places
     (omega (arith, some, fit.height)) m to (omega (arith, close, reaches, tight, begins, here, sum)) (omega (arith, close, reaches)) (begun (tall - high) w right 0 none wide (omega (arith, left))) in
-    ends m (strip_down b t.rows.now h f start at w bands is m to) w right (subst (λ k. HeldTo (row_at pool m) k w right b.params.height) fit.height strip) (omega (arith, begins, here, sum)) within
+    ends m (strip_down b t.fronts.rows.now h f start at w bands is m to) w right (subst (λ k. HeldTo (row_at pool m) k w right b.params.height) fit.height strip) (omega (arith, begins, here, sum)) within
     (λ inside. line_clear b plate holes are right placed.end inside) close

@@ -8,14 +8,14 @@ use Rattle.front_course.specs.Fronts.{Front, no_item, IsFull}
 use Rattle.front_course.specs.Strips.{after_bands}
 use Rattle.front_course.specs.Courses.{Strip, Behind, AreStrips, after_strips, last_plate, last_right, course_length}
 use Rattle.front_course.specs.Claims.{NoCourseShorter}
-use Rattle.front_bound.specs.declared.labels.Label.{Label}
-use Rattle.front_bound.specs.declared.rows.Row.{Row}
-use Rattle.front_bound.specs.inner.Lattice.{At, IsLattice}
-use Rattle.front_bound.specs.inner.Levels.{IsToGo}
-use Rattle.front_bound.specs.inner.Pools.{HeldAt}
-use Rattle.front_bound.specs.inner.Sides.{SidesGoOn}
-use Rattle.front_bound.proofs.Fronts.{first_row, last_row}
-use Rattle.front_bound.proofs.StripRuns.{Path, bands_path, strip_down}
+use Rattle.front_table.specs.declared.labels.FrontLabel.{FrontLabel}
+use Rattle.front_table.specs.declared.rows.FrontRow.{FrontRow}
+use Rattle.front_table.specs.Lattice.{At, IsLattice}
+use Rattle.front_table.specs.Levels.{IsToGo}
+use Rattle.front_table.specs.Pools.{HeldAt}
+use Rattle.front_bound.specs.Sides.{SidesGoOn}
+use Rattle.front_table.proofs.FrontRows.{first_row, last_row}
+use Rattle.front_table.proofs.StripRuns.{Path, bands_path, strip_down}
 use Rattle.front_bound.proofs.SideLemmas.{gap_behind}
 
 -- a strip ends no earlier than where it begins and its width later
@@ -25,7 +25,7 @@ strip_on b plate from strip within (inl here) = omega (arith, ap (Before b) here
 strip_on b plate from strip within (inr there) = omega (arith, ap (Before b) there.0, within, gap_behind b.params.waste strip.width strip.right there.2)
 
 -- what is to go from a row is no more than what strips from there take
-rest_far : (b : Problem) (rows : List Row) → IsLattice b rows → (to_go : ℕ → ℕ) → to_go 0 ≡ 0 → ((n : ℕ) → n < length rows → IsToGo b rows to_go n) → (strips : List Strip) (n : ℕ) (f : Front) (plate from : ℕ) → At b rows n f → from ≤ Width b plate →
+rest_far : (b : Problem) (rows : List FrontRow) → IsLattice b rows → (to_go : ℕ → ℕ) → to_go 0 ≡ 0 → ((n : ℕ) → n < length rows → IsToGo b rows to_go n) → (strips : List Strip) (n : ℕ) (f : Front) (plate from : ℕ) → At b rows n f → from ≤ Width b plate →
     AreStrips b f plate from strips → IsFull b (after_strips f strips) → Before b plate + from + to_go n ≤ Before b (last_plate plate strips) + last_right from strips
 rest_far b rows h to_go zero_is far [] n f plate from at within are full = omega (arith, ap to_go (last_row b rows h n f at full), zero_is)
 rest_far b rows h to_go zero_is far (strip ∷ strips) n f plate from at within are full =
@@ -38,7 +38,7 @@ rest_far b rows h to_go zero_is far (strip ∷ strips) n f plate from at within 
     )
 
 -- a course that is short enough is held where it ends
-course_held : (b : Problem) (rows : List Row) → IsLattice b rows → (to_go : ℕ → ℕ) → to_go 0 ≡ 0 → ((n : ℕ) → n < length rows → IsToGo b rows to_go n) → (most : ℕ) (sides : List (List Label)) → ((n : ℕ) → 1 ≤ n → n < length rows → SidesGoOn b rows to_go most sides n) →
+course_held : (b : Problem) (rows : List FrontRow) → IsLattice b rows → (to_go : ℕ → ℕ) → to_go 0 ≡ 0 → ((n : ℕ) → n < length rows → IsToGo b rows to_go n) → (most : ℕ) (sides : List (List FrontLabel)) → ((n : ℕ) → 1 ≤ n → n < length rows → SidesGoOn b rows to_go most sides n) →
     (strips : List Strip) (n : ℕ) (f : Front) (plate from : ℕ) → At b rows n f → AreStrips b f plate from strips → IsFull b (after_strips f strips) → Before b (last_plate plate strips) + last_right from strips ≤ most → HeldAt sides n from plate →
     HeldAt sides 0 (last_right from strips) (last_plate plate strips)
 unfolding SidesGoOn
@@ -56,7 +56,7 @@ last_few b f plate from strip [] are = are.0.few
 last_few b f plate from strip (next ∷ strips) are = last_few b (after_bands f strip.bands) strip.plate strip.right next strips are.1
 
 -- where no last plate can end before a length that is no more than that, no course is so short
-pub none_shorter : (b : Problem) (rows : List Row) → IsLattice b rows → (to_go : ℕ → ℕ) → to_go 0 ≡ 0 → ((n : ℕ) → n < length rows → IsToGo b rows to_go n) → (most : ℕ) (sides : List (List Label)) → ((n : ℕ) → 1 ≤ n → n < length rows → SidesGoOn b rows to_go most sides n) →
+pub none_shorter : (b : Problem) (rows : List FrontRow) → IsLattice b rows → (to_go : ℕ → ℕ) → to_go 0 ≡ 0 → ((n : ℕ) → n < length rows → IsToGo b rows to_go n) → (most : ℕ) (sides : List (List FrontLabel)) → ((n : ℕ) → 1 ≤ n → n < length rows → SidesGoOn b rows to_go most sides n) →
     1 ≤ length rows - 1 → HeldAt sides (length rows - 1) 0 0 → (least : ℕ) → least ≤ most + 1 →
     ((right plate : ℕ) → HeldAt sides 0 right plate → plate < b.params.plates → Gap b.params.waste right (Width b plate) → least ≤ Before b plate + right) → NoCourseShorter b least
 none_shorter b rows h to_go zero_is far most sides goes some held least le none [] is =

@@ -7,52 +7,52 @@ use Rattle.glass_base.specs.Problem.{Problem}
 use Rattle.plan_trace.specs.TraceRules.{Gap}
 use Rattle.front_course.specs.Fronts.{Front}
 use Rattle.front_course.specs.Strips.{Band}
-use Rattle.front_bound.specs.declared.labels.Label.{Label}
-use Rattle.front_bound.specs.declared.sets.SizeSet.{SizeSet}
-use Rattle.front_bound.specs.declared.levels.Level.{Level}
-use Rattle.front_bound.specs.declared.rows.Row.{Row}
-use Rattle.front_bound.specs.declared.strips.Limits.{Limits}
-use Rattle.front_bound.specs.inner.Sets.{Has, Held}
-use Rattle.front_bound.specs.inner.Lattice.{IsLattice}
-use Rattle.front_bound.specs.inner.Levels.{bands_at, list_at, to_go_at, IsToGo}
-use Rattle.front_bound.specs.inner.Pools.{row_at, HeldAt, Spreads}
-use Rattle.front_bound.specs.inner.Ready.{Ready, Fitting, Built}
-use Rattle.front_bound.specs.inner.Lists.{HasBands}
-use Rattle.front_bound.specs.inner.Tries.{RowExtended, Searchable}
-use Rattle.front_bound.specs.inner.Sides.{EndsHeld, StripHeld, Placed, NextHeld, PlateGoesOn, ClassGoesOn, BeginGoesOn, SidesGoOn}
-use Rattle.front_bound.proofs.PoolRows.{kept_at}
+use Rattle.front_table.specs.declared.labels.FrontLabel.{FrontLabel}
+use Rattle.front_table.specs.declared.sets.SizeSet.{SizeSet}
+use Rattle.front_table.specs.declared.levels.RowFacts.{RowFacts}
+use Rattle.front_table.specs.declared.rows.FrontRow.{FrontRow}
+use Rattle.front_table.specs.declared.strips.Limits.{Limits}
+use Rattle.front_table.specs.Sets.{Has, Held}
+use Rattle.front_table.specs.Lattice.{IsLattice}
+use Rattle.front_table.specs.Levels.{bands_at, list_at, to_go_at, IsToGo}
+use Rattle.front_table.specs.Pools.{row_at, HeldAt, Spreads}
+use Rattle.front_table.specs.Ready.{Ready, Fitting, Built}
+use Rattle.front_table.specs.Lists.{HasBands}
+use Rattle.front_table.specs.Tries.{RowExtended, Searchable}
+use Rattle.front_bound.specs.Sides.{EndsHeld, StripHeld, Placed, NextHeld, PlateGoesOn, ClassGoesOn, BeginGoesOn, SidesGoOn}
+use Rattle.front_table.proofs.PoolRows.{kept_at}
 use Rattle.front_bound.proofs.PlacedRows.{one_held}
-use Rattle.front_bound.proofs.StripRuns.{strip_down, strips_held}
+use Rattle.front_table.proofs.StripRuns.{strip_down, strips_held}
 use Rattle.glass_base.specs.declared.limits.TheConstants.{MOST_PLATES}
 
 pub gap_behind : (waste from to : ℕ) → Gap waste from to → from ≤ to
 gap_behind waste from to (inl same) = omega (arith, same)
 gap_behind waste from to (inr least) = omega (arith, least)
 
-pub ends_kept : (b : Problem) (far most g : ℕ) (old new : List (List Label)) (m plate from width : ℕ) → Spreads g old new → EndsHeld b far most old m plate from width → EndsHeld b far most new m plate from width
+pub ends_kept : (b : Problem) (far most g : ℕ) (old new : List (List FrontLabel)) (m plate from width : ℕ) → Spreads g old new → EndsHeld b far most old m plate from width → EndsHeld b far most new m plate from width
 unfolding EndsHeld
 ends_kept b far most g old new m plate from width s held right gap within near = kept_at g old new s m right plate (held right gap within near)
 
 -- no right side is on the plate, or near enough
-pub ends_wide : (b : Problem) (far most : ℕ) (sides : List (List Label)) (m plate from width : ℕ) → Width b plate < from + width → EndsHeld b far most sides m plate from width
+pub ends_wide : (b : Problem) (far most : ℕ) (sides : List (List FrontLabel)) (m plate from width : ℕ) → Width b plate < from + width → EndsHeld b far most sides m plate from width
 unfolding EndsHeld
 ends_wide b far most sides m plate from width wide right gap within near = absurd (omega (arith, wide, gap_behind b.params.waste (from + width) right gap, within))
 
-pub ends_far : (b : Problem) (far most : ℕ) (sides : List (List Label)) (m plate from width : ℕ) → most < Before b plate + (from + width) + far → EndsHeld b far most sides m plate from width
+pub ends_far : (b : Problem) (far most : ℕ) (sides : List (List FrontLabel)) (m plate from width : ℕ) → most < Before b plate + (from + width) + far → EndsHeld b far most sides m plate from width
 unfolding EndsHeld
 ends_far b far most sides m plate from width past right gap within near = absurd (omega (arith, past, gap_behind b.params.waste (from + width) right gap, near))
 
 -- of strips whose items have places
-pub strip_held : (b : Problem) (far most : ℕ) (sides : List (List Label)) (m plate from width : ℕ) (f : Front) (bands : List Band) → EndsHeld b far most sides m plate from width → StripHeld b far most sides m plate from width f bands
+pub strip_held : (b : Problem) (far most : ℕ) (sides : List (List FrontLabel)) (m plate from width : ℕ) (f : Front) (bands : List Band) → EndsHeld b far most sides m plate from width → StripHeld b far most sides m plate from width f bands
 unfolding EndsHeld StripHeld
 strip_held b far most sides m plate from width f bands held right placed gap within near = held right gap within near
 
-strip_kept : (b : Problem) (far most g : ℕ) (old new : List (List Label)) (m plate from width : ℕ) (f : Front) (bands : List Band) → Spreads g old new → StripHeld b far most old m plate from width f bands → StripHeld b far most new m plate from width f bands
+strip_kept : (b : Problem) (far most g : ℕ) (old new : List (List FrontLabel)) (m plate from width : ℕ) (f : Front) (bands : List Band) → Spreads g old new → StripHeld b far most old m plate from width f bands → StripHeld b far most new m plate from width f bands
 unfolding StripHeld
 strip_kept b far most g old new m plate from width f bands s held right placed gap within near = kept_at g old new s m right plate (held right placed gap within near)
 
 -- right sides that a set has are held where it is offered
-pub ends_offered : (b : Problem) (far most : ℕ) (sides : List (List Label)) (m plate from width : ℕ) → ((right : ℕ) → Gap b.params.waste (from + width) right → HeldAt sides m right plate) → EndsHeld b far most sides m plate from width
+pub ends_offered : (b : Problem) (far most : ℕ) (sides : List (List FrontLabel)) (m plate from width : ℕ) → ((right : ℕ) → Gap b.params.waste (from + width) right → HeldAt sides m right plate) → EndsHeld b far most sides m plate from width
 unfolding EndsHeld
 ends_offered b far most sides m plate from width each right gap within near = each right gap
 
@@ -65,21 +65,21 @@ pub true_false : (t : Bool) → IsTrue t → t ≡ false → ⊥
 true_false t is not = let wrong : true ≡ false = sym is ∙ not in cc
 
 -- the same labels lead to a row
-abbrev pub HeldSame : List (List Label) → List (List Label) → ℕ → Type 0
+abbrev pub HeldSame : List (List FrontLabel) → List (List FrontLabel) → ℕ → Type 0
 HeldSame sides old n = row_at sides n ≡ row_at old n
 
 -- strips of the widths below one, where no strip is so narrow
-pub plate_none : (b : Problem) (rows : List Row) (to_go : ℕ → ℕ) (most : ℕ) (sides : List (List Label)) (n : ℕ) (begins : List Label) (plate low : ℕ) → low ≤ b.params.min1 → PlateGoesOn b rows to_go most sides n begins plate low
+pub plate_none : (b : Problem) (rows : List FrontRow) (to_go : ℕ → ℕ) (most : ℕ) (sides : List (List FrontLabel)) (n : ℕ) (begins : List FrontLabel) (plate low : ℕ) → low ≤ b.params.min1 → PlateGoesOn b rows to_go most sides n begins plate low
 unfolding PlateGoesOn
 plate_none b rows to_go most sides n begins plate low le f at from held w bands is below m to = absurd (omega (arith, is.wide, below, le))
 
-pub plate_kept : (b : Problem) (rows : List Row) (to_go : ℕ → ℕ) (most g : ℕ) (old new : List (List Label)) (n : ℕ) (begins : List Label) (plate low : ℕ) → Spreads g old new → PlateGoesOn b rows to_go most old n begins plate low →
+pub plate_kept : (b : Problem) (rows : List FrontRow) (to_go : ℕ → ℕ) (most g : ℕ) (old new : List (List FrontLabel)) (n : ℕ) (begins : List FrontLabel) (plate low : ℕ) → Spreads g old new → PlateGoesOn b rows to_go most old n begins plate low →
     PlateGoesOn b rows to_go most new n begins plate low
 unfolding PlateGoesOn
 plate_kept b rows to_go most g old new n begins plate low s goes f at from held w bands is below m to = strip_kept b (to_go m) most g old new m plate from w f bands s (goes f at from held w bands is below m to)
 
 -- one class more; `first` is where strips begin at the earliest
-pub plate_next : (b : Problem) (rows : List Row) (to_go : ℕ → ℕ) (most : ℕ) (sides : List (List Label)) (n : ℕ) (begins : List Label) (plate low top room left first next : ℕ) → PlateGoesOn b rows to_go most sides n begins plate low →
+pub plate_next : (b : Problem) (rows : List FrontRow) (to_go : ℕ → ℕ) (most : ℕ) (sides : List (List FrontLabel)) (n : ℕ) (begins : List FrontLabel) (plate low top room left first next : ℕ) → PlateGoesOn b rows to_go most sides n begins plate low →
     ClassGoesOn b rows to_go most sides n begins plate low top room left → ((from : ℕ) → Held begins from plate → first ≤ from) → Width b plate ≤ first + room → most ≤ Before b plate + first + left → next ≤ top + 1 →
     PlateGoesOn b rows to_go most sides n begins plate next
 unfolding PlateGoesOn ClassGoesOn
@@ -98,19 +98,19 @@ plate_next b rows to_go most sides n begins plate low top room left first next b
     ]
 
 -- no strip is wider than the greatest width
-pub plate_all : (b : Problem) (rows : List Row) (to_go : ℕ → ℕ) (most : ℕ) (sides : List (List Label)) (n : ℕ) (begins : List Label) (plate low other : ℕ) → b.params.max1 < low → PlateGoesOn b rows to_go most sides n begins plate low → PlateGoesOn b rows to_go most sides n begins plate other
+pub plate_all : (b : Problem) (rows : List FrontRow) (to_go : ℕ → ℕ) (most : ℕ) (sides : List (List FrontLabel)) (n : ℕ) (begins : List FrontLabel) (plate low other : ℕ) → b.params.max1 < low → PlateGoesOn b rows to_go most sides n begins plate low → PlateGoesOn b rows to_go most sides n begins plate other
 unfolding PlateGoesOn
 plate_all b rows to_go most sides n begins plate low other past goes f at from held w bands is below m to = goes f at from held w bands is (omega (arith, is.narrow, past)) m to
 
 -- where strips begin too far on
-pub plate_far : (b : Problem) (rows : List Row) (to_go : ℕ → ℕ) (most : ℕ) (sides : List (List Label)) (n : ℕ) (begins : List Label) (plate first low : ℕ) → ((from : ℕ) → Held begins from plate → first ≤ from) → most < Before b plate + first →
+pub plate_far : (b : Problem) (rows : List FrontRow) (to_go : ℕ → ℕ) (most : ℕ) (sides : List (List FrontLabel)) (n : ℕ) (begins : List FrontLabel) (plate first low : ℕ) → ((from : ℕ) → Held begins from plate → first ≤ from) → most < Before b plate + first →
     PlateGoesOn b rows to_go most sides n begins plate low
 unfolding PlateGoesOn
 plate_far b rows to_go most sides n begins plate first low least past f at from held w bands is below m to = strip_held b (to_go m) most sides m plate from w f bands (ends_far b (to_go m) most sides m plate from w (omega (arith, past, least from held)))
 
 -- a class of strips that are held where they end
-pub class_goes_on : (b : Problem) (rows : List Row) → IsLattice b rows → (levels : List Level) (l : Limits) (cover : ℕ) → Fitting b l cover → (start : ℕ) → Ready b rows levels cover (to_go_at levels) start → (pool : List (List Label)) →
-    ((n : ℕ) → n ≤ start → RowExtended rows levels l pool n) → (low : ℕ) → ((x w : ℕ) → (x ≡ 0) ⊎ (0 + b.params.waste ≤ x) → low ≤ w → HeldAt pool start x w) → (most : ℕ) (sides : List (List Label)) (begins : List Label) (plate top room : ℕ) →
+pub class_goes_on : (b : Problem) (rows : List FrontRow) → IsLattice b rows → (levels : List RowFacts) (l : Limits) (cover : ℕ) → Fitting b l cover → (start : ℕ) → Ready b rows levels cover (to_go_at levels) start → (pool : List (List FrontLabel)) →
+    ((n : ℕ) → n ≤ start → RowExtended rows levels l pool n) → (low : ℕ) → ((x w : ℕ) → (x ≡ 0) ⊎ (0 + b.params.waste ≤ x) → low ≤ w → HeldAt pool start x w) → (most : ℕ) (sides : List (List FrontLabel)) (begins : List FrontLabel) (plate top room : ℕ) →
     ((w : ℕ) → w ≤ top → w ≤ b.params.max1 → w ≤ room → w ≤ l.bound) → ((m from width : ℕ) → m < start → Held begins from plate → HeldAt pool m b.params.height width → EndsHeld b (to_go_at levels m) most sides m plate from width) →
     ClassGoesOn b rows (to_go_at levels) most sides start begins plate low top room l.most
 unfolding ClassGoesOn
@@ -119,7 +119,7 @@ class_goes_on b rows h levels l cover fit start r pool extended low begun most s
     (subst (λ k. HeldAt pool m k w) fit.height (strips_held b rows h levels l cover fit (to_go_at levels) start r pool extended low begun f at w bands is wide (bound w narrow is.narrow fits) m to near)))
 
 -- strips on all plates are held where they end, so those from the row are
-pub sides_go_on : (b : Problem) (rows : List Row) (levels : List Level) (most : ℕ) (sides old : List (List Label)) (n : ℕ) (begins : List Label) → IsToGo b rows (to_go_at levels) n → HeldSame sides old n →
+pub sides_go_on : (b : Problem) (rows : List FrontRow) (levels : List RowFacts) (most : ℕ) (sides old : List (List FrontLabel)) (n : ℕ) (begins : List FrontLabel) → IsToGo b rows (to_go_at levels) n → HeldSame sides old n →
     ((from plate : ℕ) → HeldAt old n from plate → Held begins from plate) → ((from plate : ℕ) → HeldAt old n from plate → NextHeld b (to_go_at levels n) most begins from plate) →
     ((plate : ℕ) → plate < b.params.plates → PlateGoesOn b rows (to_go_at levels) most sides n begins plate (b.params.max1 + 1)) → SidesGoOn b rows (to_go_at levels) most sides n
 unfolding SidesGoOn PlateGoesOn StripHeld
@@ -141,7 +141,7 @@ sides_go_on b rows levels most sides old n begins far same own next each f at pl
     ]
 
 -- what a table of all rows says to a search
-pub built_searchable : (b : Problem) (rows : List Row) (tops : List ℕ) (cover : ℕ) (levels : List Level) → Built b rows tops cover levels → (start : ℕ) → start < length levels → (l : Limits) → l.class < length tops → l.top ≡ get_or tops l.class l.top →
+pub built_searchable : (b : Problem) (rows : List FrontRow) (tops : List ℕ) (cover : ℕ) (levels : List RowFacts) → Built b rows tops cover levels → (start : ℕ) → start < length levels → (l : Limits) → l.class < length tops → l.top ≡ get_or tops l.class l.top →
     l.bound ≤ l.top → Searchable rows levels l start
 built_searchable b rows tops cover levels o start within l lt top bound = record {
   len = within;
@@ -151,20 +151,20 @@ built_searchable b rows tops cover levels o start within l lt top bound = record
   bands = λ n le. subst (λ k. HasBands rows n k (bands_at levels n) (list_at levels n l.class)) (sym top) ((o.each n (omega (arith, le, within))).lists l.class l.top lt);
 }
 
-pub built_ready : (b : Problem) (rows : List Row) (tops : List ℕ) (cover : ℕ) (levels : List Level) → Built b rows tops cover levels → (start : ℕ) → start < length levels → Ready b rows levels cover (to_go_at levels) start
+pub built_ready : (b : Problem) (rows : List FrontRow) (tops : List ℕ) (cover : ℕ) (levels : List RowFacts) → Built b rows tops cover levels → (start : ℕ) → start < length levels → Ready b rows levels cover (to_go_at levels) start
 built_ready b rows tops cover levels o start within = record {
   bands = λ n le. (o.each n (omega (arith, le, within))).bands;
   ends = λ n lt. o.ends n (omega (arith, lt, within));
   behind = λ f at stacks some takes m to area left few. o.ends start within f at stacks takes m to area left few;
 }
 
-pub sides_kept : (b : Problem) (rows : List Row) (to_go : ℕ → ℕ) (most g : ℕ) (old new : List (List Label)) (n : ℕ) → Spreads g old new → g ≤ n → SidesGoOn b rows to_go most old n → SidesGoOn b rows to_go most new n
+pub sides_kept : (b : Problem) (rows : List FrontRow) (to_go : ℕ → ℕ) (most g : ℕ) (old new : List (List FrontLabel)) (n : ℕ) → Spreads g old new → g ≤ n → SidesGoOn b rows to_go most old n → SidesGoOn b rows to_go most new n
 unfolding SidesGoOn
 sides_kept b rows to_go most g old new n s le goes f at plate from held strip follows m to near =
     kept_at g old new s m strip.right strip.plate (goes f at plate from (subst (λ l. Held l from plate) (s.same n le) held) strip follows m to near)
 
 -- one row more
-pub sides_next : (b : Problem) (rows : List Row) (to_go : ℕ → ℕ) (most first done row : ℕ) (old new : List (List Label)) → row ≡ first - done → done < first → Spreads row old new → SidesGoOn b rows to_go most new row →
+pub sides_next : (b : Problem) (rows : List FrontRow) (to_go : ℕ → ℕ) (most first done row : ℕ) (old new : List (List FrontLabel)) → row ≡ first - done → done < first → Spreads row old new → SidesGoOn b rows to_go most new row →
     ((n : ℕ) → first < n + done → n ≤ first → SidesGoOn b rows to_go most old n) → (n : ℕ) → first < n + (done + 1) → n ≤ first → SidesGoOn b rows to_go most new n
 sides_next b rows to_go most first done row old new is lt s goes before n after le =
     elim (cases_lt row n) [
@@ -175,8 +175,8 @@ sides_next b rows to_go most first done row old new is lt s goes before n after 
     ]
 
 -- a class behind each begin: those that are clear of defects, and each of the others
-pub class_joined : (b : Problem) (rows : List Row) (to_go : ℕ → ℕ) (most : ℕ) (sides : List (List Label)) (n : ℕ) (begins clear : List Label) (plate low top room left : ℕ) →
-    ((k : ℕ) (d : Label) → k < length begins → Contains clear (get_or begins k d) ⊎ ClassGoesOn b rows to_go most sides n (get_or begins k d ∷ []) plate low top room left) → ClassGoesOn b rows to_go most sides n clear plate low top room left →
+pub class_joined : (b : Problem) (rows : List FrontRow) (to_go : ℕ → ℕ) (most : ℕ) (sides : List (List FrontLabel)) (n : ℕ) (begins clear : List FrontLabel) (plate low top room left : ℕ) →
+    ((k : ℕ) (d : FrontLabel) → k < length begins → Contains clear (get_or begins k d) ⊎ ClassGoesOn b rows to_go most sides n (get_or begins k d ∷ []) plate low top room left) → ClassGoesOn b rows to_go most sides n clear plate low top room left →
     ClassGoesOn b rows to_go most sides n begins plate low top room left
 unfolding ClassGoesOn Held
 class_joined b rows to_go most sides n begins clear plate low top room left each goes f at from (l, (k, lt, is), fits) w bands is_strip wide narrow roomy m to near =
@@ -185,18 +185,18 @@ class_joined b rows to_go most sides n begins clear plate low top room left each
       | inr own ↦ own f at from (l, (0, omega arith, is), fits) w bands is_strip wide narrow roomy m to near
     ]
 
-pub class_kept : (b : Problem) (rows : List Row) (to_go : ℕ → ℕ) (most g : ℕ) (old new : List (List Label)) (n : ℕ) (begins : List Label) (plate low top room left : ℕ) → Spreads g old new → ClassGoesOn b rows to_go most old n begins plate low top room left →
+pub class_kept : (b : Problem) (rows : List FrontRow) (to_go : ℕ → ℕ) (most g : ℕ) (old new : List (List FrontLabel)) (n : ℕ) (begins : List FrontLabel) (plate low top room left : ℕ) → Spreads g old new → ClassGoesOn b rows to_go most old n begins plate low top room left →
     ClassGoesOn b rows to_go most new n begins plate low top room left
 unfolding ClassGoesOn
 class_kept b rows to_go most g old new n begins plate low top room left s goes f at from held w bands is wide narrow roomy m to near = strip_kept b (to_go m) most g old new m plate from w f bands s (goes f at from held w bands is wide narrow roomy m to near)
 
 -- no strip begins there
-pub class_none : (b : Problem) (rows : List Row) (to_go : ℕ → ℕ) (most : ℕ) (sides : List (List Label)) (n : ℕ) (begin : Label) (plate low top room left : ℕ) → (Has begin.across plate → ⊥) → ClassGoesOn b rows to_go most sides n (begin ∷ []) plate low top room left
+pub class_none : (b : Problem) (rows : List FrontRow) (to_go : ℕ → ℕ) (most : ℕ) (sides : List (List FrontLabel)) (n : ℕ) (begin : FrontLabel) (plate low top room left : ℕ) → (Has begin.across plate → ⊥) → ClassGoesOn b rows to_go most sides n (begin ∷ []) plate low top room left
 unfolding ClassGoesOn
 class_none b rows to_go most sides n begin plate low top room left none f at from held w bands is wide narrow roomy m to near = absurd (none (one_held begin from plate held).1)
 
 -- no strip of the class is so narrow
-pub class_narrow : (b : Problem) (rows : List Row) (to_go : ℕ → ℕ) (most : ℕ) (sides : List (List Label)) (n : ℕ) (begins : List Label) (plate low top room left bound : ℕ) → bound < low → ((w : ℕ) → w ≤ top → w ≤ b.params.max1 → w ≤ room → w ≤ bound) →
+pub class_narrow : (b : Problem) (rows : List FrontRow) (to_go : ℕ → ℕ) (most : ℕ) (sides : List (List FrontLabel)) (n : ℕ) (begins : List FrontLabel) (plate low top room left bound : ℕ) → bound < low → ((w : ℕ) → w ≤ top → w ≤ b.params.max1 → w ≤ room → w ≤ bound) →
     ClassGoesOn b rows to_go most sides n begins plate low top room left
 unfolding ClassGoesOn
 class_narrow b rows to_go most sides n begins plate low top room left bound below fits f at from held w bands is wide narrow roomy m to near = absurd (omega (arith, fits w narrow is.narrow roomy, wide, below))
@@ -204,7 +204,7 @@ class_narrow b rows to_go most sides n begins plate low top room left bound belo
 pub none_left : (n : ℕ) → true ≡ (n == 0) → n ≡ 0
 none_left n e = grind (arith, nat_tests)
 
-pub class_empty : (b : Problem) (rows : List Row) (to_go : ℕ → ℕ) (most : ℕ) (sides : List (List Label)) (n : ℕ) (begins : List Label) (plate low top room left : ℕ) → length begins ≡ 0 → ClassGoesOn b rows to_go most sides n begins plate low top room left
+pub class_empty : (b : Problem) (rows : List FrontRow) (to_go : ℕ → ℕ) (most : ℕ) (sides : List (List FrontLabel)) (n : ℕ) (begins : List FrontLabel) (plate low top room left : ℕ) → length begins ≡ 0 → ClassGoesOn b rows to_go most sides n begins plate low top room left
 unfolding ClassGoesOn Held
 class_empty b rows to_go most sides n begins plate low top room left none f at from (l, (k, lt, is), fits) w bands is_strip wide narrow roomy m to near = absurd (omega (arith, lt, none))
 
@@ -213,13 +213,13 @@ pub begin_case : {A B : Type 0} (done : Bool) → (done ≡ false → A) → (do
 begin_case true clear own = inr (own refl)
 begin_case false clear own = inl (clear refl)
 
-pub begin_kept : (b : Problem) (rows : List Row) (to_go : ℕ → ℕ) (most g : ℕ) (old new : List (List Label)) (n : ℕ) (clear more : List Label) (begin : Label) (plate low top room left : ℕ) → Spreads g old new → ((l : Label) → Contains clear l → Contains more l) →
+pub begin_kept : (b : Problem) (rows : List FrontRow) (to_go : ℕ → ℕ) (most g : ℕ) (old new : List (List FrontLabel)) (n : ℕ) (clear more : List FrontLabel) (begin : FrontLabel) (plate low top room left : ℕ) → Spreads g old new → ((l : FrontLabel) → Contains clear l → Contains more l) →
     BeginGoesOn b rows to_go most old n clear begin plate low top room left → BeginGoesOn b rows to_go most new n more begin plate low top room left
 begin_kept b rows to_go most g old new n clear more begin plate low top room left s kept (inl has) = inl (kept begin has)
 begin_kept b rows to_go most g old new n clear more begin plate low top room left s kept (inr own) = inr (class_kept b rows to_go most g old new n (begin ∷ []) plate low top room left s own)
 
 -- a class behind each of the begins
-pub class_whole : (b : Problem) (rows : List Row) (to_go : ℕ → ℕ) (most g : ℕ) (old new : List (List Label)) (n : ℕ) (begins clear : List Label) (plate low top room left : ℕ) → Spreads g old new →
-    ((k : ℕ) (d : Label) → k < length begins → BeginGoesOn b rows to_go most old n clear (get_or begins k d) plate low top room left) → ClassGoesOn b rows to_go most new n clear plate low top room left → ClassGoesOn b rows to_go most new n begins plate low top room left
+pub class_whole : (b : Problem) (rows : List FrontRow) (to_go : ℕ → ℕ) (most g : ℕ) (old new : List (List FrontLabel)) (n : ℕ) (begins clear : List FrontLabel) (plate low top room left : ℕ) → Spreads g old new →
+    ((k : ℕ) (d : FrontLabel) → k < length begins → BeginGoesOn b rows to_go most old n clear (get_or begins k d) plate low top room left) → ClassGoesOn b rows to_go most new n clear plate low top room left → ClassGoesOn b rows to_go most new n begins plate low top room left
 class_whole b rows to_go most g old new n begins clear plate low top room left s each goes =
     class_joined b rows to_go most new n begins clear plate low top room left (λ k d lt. begin_kept b rows to_go most g old new n clear clear (get_or begins k d) plate low top room left s (λ l has. has) (each k d lt)) goes

@@ -1,13 +1,3 @@
-pub mod Sets
-pub mod Pools
-pub mod Lattice
-pub mod Leads
-pub mod Ends
-pub mod Levels
-pub mod Lists
-pub mod Tries
-pub mod Ready
-pub mod Sides
 pub mod Clear
 pub mod Placed
 pub mod Around

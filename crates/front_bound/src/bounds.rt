@@ -2,23 +2,17 @@
 
 ghost use Rattle.std.specs.Prelude.{◌≡◌, ◌≤◌, IfOk, true};
 ghost use Rattle.front_course.specs.Claims.{LosesAtLeast, NoCourseShorter};
-ghost use Rattle.front_bound.specs.inner.Ready.{IsTable};
+ghost use Rattle.front_table.specs.Ready.{AreFronts};
 
-use crate::building::{rows_of, shape_of, tops_of};
-use crate::grid::Grid;
-use crate::halt::Halt;
-use crate::lattice::is_lattice;
-use crate::levels::to_go;
-use crate::pools::Pool;
 use crate::runs::least_reached;
-use crate::table::{Table, levels_of};
-use crate::watch::{Nobody, Watch};
 use front_course::laws::courses_bound_losses;
-use glass_base::{Instance, Memory};
+use front_table::fronts::Fronts;
+use front_table::halt::Halt;
+use front_table::levels::to_go;
+use front_table::probe::Probe;
+use front_table::table::table_of;
+use glass_base::{Instance, Listener, Memory, Nobody};
 use std::alloc::Global;
-
-/// For how many labels a front counts: by the memory and the time that its row takes.
-const LABELS_A_FRONT: u64 = 25_000;
 
 /// By how much a length is first raised, in mm.
 const FIRST_STEP: u64 = 8;
@@ -27,83 +21,40 @@ const FIRST_STEP: u64 = 8;
 const ROUNDS: u32 = 64;
 
 /// What is to go from the first front.
-fn base_of(table: &Table) -> u64 {
-    let levels = table.levels.as_slice();
-    if levels.is_empty() {
+fn base_of(fronts: &Fronts<'_>) -> u64 {
+    if fronts.levels.is_empty() {
         return 0;
     }
-    to_go(levels, levels.len() - 1)
-}
-
-/// All fronts of an instance, with what is known of them, where they count for no more than `limit` labels.
-pub fn table_of<W: Watch>(
-    alloc: Global,
-    instance: &Instance,
-    limit: u64,
-    watch: &W,
-) -> Result<Table, Halt>
-    ensures { IfOk result (IsTable instance.now) }
-{
-    let shape = shape_of(alloc, instance, limit / LABELS_A_FRONT)?;
-    let rows = rows_of(alloc, instance, &shape)?;
-    if !is_lattice(instance, shape.weights.as_slice(), rows.as_slice()) {
-        return Err(Halt::Limit);
-    }
-    let params = instance.params();
-    let tops = tops_of(alloc, params)?;
-    let cover = u64::from(params.max1) * u64::from(params.height);
-    let mut pool = Pool::new(alloc, rows.len(), limit)?;
-    let grid = Grid {
-        instance,
-        rows: rows.as_slice(),
-        tops: tops.as_slice(),
-        cover,
-    };
-    let levels = levels_of(alloc, &grid, &mut pool, watch)?;
-    if levels.is_empty() || to_go(levels.as_slice(), 0) != 0 {
-        return Err(Halt::Limit);
-    }
-    Ok(Table {
-        rows,
-        tops,
-        levels,
-        cover,
-    })
+    to_go(fronts.levels, fronts.levels.len() - 1)
 }
 
 /// Whether it is shown that no course is shorter than a length.
-fn is_shown(
-    alloc: Global,
-    instance: &Instance,
-    table: &Table,
+fn is_shown<L: Listener>(
+    probe: &Probe<'_, L>,
+    fronts: &Fronts<'_>,
     length: u64,
-    limit: u64,
 ) -> Result<bool, Halt>
-    requires { IsTable instance.now table.now }
-    ensures { IfOk result (λ shown. shown ≡ true → NoCourseShorter instance.now length) }
+    requires { AreFronts fronts.now }
+    ensures { IfOk result (λ shown. shown ≡ true
+        → NoCourseShorter fronts.now.instance.now length) }
 {
     if length == 0 {
         return Ok(true);
     }
-    let least = least_reached(alloc, instance, &table.lend(), length - 1, limit, &Nobody)?;
+    let least = least_reached(probe, fronts, length - 1)?;
     if least < length {
         return Ok(false);
     }
     Ok(true)
 }
 
-/// The same, with the table of fronts made for it.
-fn is_shown_at_all(
-    alloc: Global,
-    instance: &Instance,
-    length: u64,
-    limit: u64,
-) -> Result<bool, Halt>
-    ensures { IfOk result (λ shown. shown ≡ true → NoCourseShorter instance.now length) }
+/// Whether it is shown that no course is shorter than a length, with the table of fronts made for it.
+fn is_shown_at_all<L: Listener>(probe: &Probe<'_, L>, length: u64) -> Result<bool, Halt>
+    ensures { IfOk result (λ shown. shown ≡ true
+        → NoCourseShorter probe.now.instance.now length) }
 {
-    let table = table_of(alloc, instance, limit, &Nobody)?;
-    let shown = is_shown(alloc, instance, &table, length, limit)?;
-    Ok(shown)
+    let table = table_of(probe)?;
+    is_shown(probe, &table.lend(probe.instance), length)
 }
 
 /// Whether it is shown that no lawful plan is shorter than a length, in mm: a plan's length is where its last plate's residual begins, with all plates before
@@ -119,34 +70,35 @@ pub fn is_no_shorter(
 {
     let _rules = instance.items();
     courses_bound_losses();
-    match is_shown_at_all(alloc, instance, length, limit) {
+    let probe = Probe {
+        alloc,
+        instance,
+        limit,
+        listener: &Nobody,
+    };
+    match is_shown_at_all(&probe, length) {
         Ok(shown) => Ok(shown),
-        Err(Halt::Limit) => Ok(false),
-        Err(Halt::Memory) => Err(Memory),
+        Err(halt) => halt.or(false),
     }
 }
 
 /// A length up to `most` of which it is shown that no course is shorter: the greatest that the searches come to.
-pub fn longest<W: Watch>(
-    alloc: Global,
-    instance: &Instance,
-    table: &Table,
+pub fn longest<L: Listener>(
+    probe: &Probe<'_, L>,
+    fronts: &Fronts<'_>,
     most: u64,
-    limit: u64,
-    watch: &W,
 ) -> Result<u64, Halt>
-    requires { IsTable instance.now table.now }
-    ensures shown { IfOk result (NoCourseShorter instance.now) }
+    requires { AreFronts fronts.now }
+    ensures shown { IfOk result (NoCourseShorter fronts.now.instance.now) }
     ensures most { IfOk result (λ least. least ≤ most) }
 {
     let mut shown = 0;
-    let mut next = base_of(table).min(most);
+    let mut next = base_of(fronts).min(most);
     let mut step = FIRST_STEP;
     for _ in 0..ROUNDS {
-        let least = match least_reached(alloc, instance, &table.lend(), next, limit, watch) {
+        let least = match least_reached(probe, fronts, next) {
             Ok(least) => least,
-            Err(Halt::Limit) => return Ok(shown),
-            Err(Halt::Memory) => return Err(Halt::Memory),
+            Err(halt) => return Ok(halt.or(shown)?),
         };
         shown = least.min(most);
         if least <= next || next == most {
@@ -158,40 +110,38 @@ pub fn longest<W: Watch>(
     Ok(shown)
 }
 
-/// The same, with the table of fronts made for it.
-fn longest_of_all<W: Watch>(
-    alloc: Global,
-    instance: &Instance,
-    most: u64,
-    limit: u64,
-    watch: &W,
-) -> Result<u64, Halt>
-    ensures shown { IfOk result (NoCourseShorter instance.now) }
+/// Such a length, with the table of fronts made for it.
+fn longest_of_all<L: Listener>(probe: &Probe<'_, L>, most: u64) -> Result<u64, Halt>
+    ensures shown { IfOk result (NoCourseShorter probe.now.instance.now) }
     ensures most { IfOk result (λ least. least ≤ most) }
 {
-    let table = table_of(alloc, instance, limit, watch)?;
-    let shown = longest(alloc, instance, &table, most, limit, watch)?;
-    Ok(shown)
+    let table = table_of(probe)?;
+    longest(probe, &table.lend(probe.instance), most)
 }
 
 /// A length up to `most`, in mm, of which it is shown that no lawful plan is shorter, by searches within a growing length, the last of which comes to
 /// an end; that no greater one can be shown is not promised. Where more than `limit` labels would be looked at in one of them, it is what those before have
-/// shown; where there are more fronts than one for each 25,000 of them, it is 0, which says nothing. How far that is, is told to `watch`.
-pub fn longest_shown<W: Watch>(
+/// shown; where there are more fronts than one for each 25,000 of them, it is 0, which says nothing. How far that is, is told to `listener`.
+pub fn longest_shown<L: Listener>(
     alloc: Global,
     instance: &Instance,
     most: u64,
     limit: u64,
-    watch: &W,
+    listener: &L,
 ) -> Result<u64, Memory>
     ensures shown { IfOk result (LosesAtLeast instance.now) }
     ensures most { IfOk result (λ least. least ≤ most) }
 {
     let _rules = instance.items();
     courses_bound_losses();
-    match longest_of_all(alloc, instance, most, limit, watch) {
+    let probe = Probe {
+        alloc,
+        instance,
+        limit,
+        listener,
+    };
+    match longest_of_all(&probe, most) {
         Ok(shown) => Ok(shown),
-        Err(Halt::Limit) => Ok(0),
-        Err(Halt::Memory) => Err(Memory),
+        Err(halt) => halt.or(0),
     }
 }

@@ -4,7 +4,7 @@ ghost use Rattle.std.specs.Prelude.{◌≡◌, ℕ, ◌<◌, ◌≤◌, ◌⊎�
 ghost use Rattle.glass_base.specs.declared.item.Defect.{Defect as DefectOf};
 ghost use Rattle.front_bound.specs.inner.Clear.{AreHoles, LineClear};
 
-use crate::halt::Halt;
+use front_table::halt::Halt;
 use glass_base::{Defect, Instance};
 
 /// Adds a defect, where it is one of the plate that reaches beyond `left` and does not begin behind `end`.
@@ -24,10 +24,8 @@ fn add_hole(
     if defect.x1 <= left || u64::from(defect.x0) >= end {
         return Ok(());
     }
-    match holes.push(*defect) {
-        Ok(()) => Ok(()),
-        Err(_) => Err(Halt::Memory),
-    }
+    holes.push(*defect)?;
+    Ok(())
 }
 
 /// The defects that strips of a plate meet which begin at `left` and are no wider than `top`, or lie near them.
@@ -62,7 +60,7 @@ fn past_one(hole: &Defect, side: u32, height: u32, width: u32) -> u32
     side
 }
 
-/// The same of each of the defects once.
+/// A side moved to the right, out of each of the defects in turn, all of which are gone through once.
 fn past_once(holes: &[Defect], side: u32, height: u32, width: u32) -> u32
     requires { side ≤ width }
     ensures least { (right : ℕ) → side ≤ right → right ≤ width

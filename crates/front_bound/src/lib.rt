@@ -1,45 +1,19 @@
 //! A lower bound on the length of every lawful plan, by a search over fronts.
 #![tactic(auto)]
 
-mod bands;
-mod behind;
 pub mod bounds;
-mod building;
-mod course;
-mod cutting;
 mod ending;
-mod ends;
-mod far;
-mod grid;
-mod halt;
 mod holes;
-mod keyed;
-mod labels;
-mod lattice;
-mod levels;
 pub mod losses;
-mod moves;
 mod nearby;
 mod onward;
 mod outset;
-mod parts;
 mod placed_bands;
 mod placed_cells;
 mod placed_sides;
 mod placed_strips;
 mod places;
-mod planning;
-pub mod plans;
-mod pools;
-mod rows;
-mod runs;
-mod search;
-mod sets;
+pub mod runs;
 mod sides;
 mod slack;
-mod stairs;
 mod stretch;
-mod strips;
-mod table;
-mod task;
-pub mod watch;

@@ -1,36 +1,26 @@
 //! Losses that no lawful plan is below.
 
-ghost use Rattle.std.specs.Prelude.{◌≡◌, ◌*◌, ◌-◌, ◌≤◌, IfOk};
-ghost use Rattle.glass_base.specs.Items.{area_of};
+ghost use Rattle.std.specs.Prelude.{◌≤◌, IfOk};
 ghost use Rattle.cut_model.specs.Lawful.{IsLawful};
 ghost use Rattle.cut_model.specs.Loss.{loss_of};
 ghost use Rattle.cut_model.specs.Tree.{Forest};
 
 use crate::bounds::longest_shown;
-use crate::watch::Watch;
-use glass_base::{Instance, Memory};
+use glass_base::{Instance, Listener, Memory};
+use loss_area::loss_of_length;
 use std::alloc::Global;
 
 /// How fronts are searched.
 #[derive(Drop)]
-pub struct FrontSearch<'a, W> {
+pub struct FrontSearch<'a, L> {
     /// How many labels are looked at in one search at the most; there may be a front for each 25,000 of them. It bounds time and memory.
     pub labels: u64,
     /// Who is told how far it is.
-    pub watch: &'a W,
+    pub listener: &'a L,
 }
 
 /// Longer than every plan, in mm.
 pub const LONGEST: u64 = 5_000_000_000;
-
-/// The loss in mm² of a plan of this length, which is at most `LONGEST`, in mm.
-#[tactic(auto, using(plan_box::proofs::LeastLengths::height_times))]
-pub fn loss_of_length(instance: &Instance, length: u64) -> u64
-    requires { length ≤ 5000000000 }
-    ensures { result ≡ instance.now.params.height * length - area_of instance.now.items }
-{
-    (u64::from(instance.params().height) * length).saturating_sub(instance.area())
-}
 
 /// The least length of which a plan loses at least this, or `LONGEST` where that is less: a guess.
 fn length_of_loss(instance: &Instance, loss: u64) -> u64
@@ -45,11 +35,11 @@ fn length_of_loss(instance: &Instance, loss: u64) -> u64
 /// than the search may, or there are too many fronts for that, it is what was shown before, or 0, which says nothing.
 ///
 /// Only want of memory is refused.
-pub fn floor_up_to<W: Watch>(
+pub fn floor_up_to<L: Listener>(
     alloc: Global,
     instance: &Instance,
     loss: u64,
-    search: &FrontSearch<'_, W>,
+    search: &FrontSearch<'_, L>,
 ) -> Result<u64, Memory>
     ensures shown { IfOk result (λ floor. (plan : Forest) → IsLawful instance.now plan
         → floor ≤ loss_of instance.now plan) }
@@ -59,6 +49,6 @@ pub fn floor_up_to<W: Watch>(
         return Ok(0);
     }
     let most = length_of_loss(instance, loss);
-    let length = longest_shown(alloc, instance, most, search.labels, search.watch)?;
+    let length = longest_shown(alloc, instance, most, search.labels, search.listener)?;
     Ok(loss_of_length(instance, length).min(loss))
 }

@@ -1,23 +1,24 @@
 //! Strips that begin near defects.
 
 ghost use Rattle.std.specs.Prelude.{◌≡◌, ℕ, ◌+◌, ◌*◌, ◌<◌, ◌≤◌, false, true, [], ◌∷◌, Contains, length, slice_index_or, IfOk, OnOk};
-ghost use Rattle.front_bound.specs.declared.labels.Label.{Label as LabelOf};
+ghost use Rattle.front_table.specs.declared.labels.FrontLabel.{FrontLabel as LabelOf};
 ghost use Rattle.front_bound.specs.inner.Around.{IsClass, IsRoomy};
-ghost use Rattle.front_bound.specs.inner.Levels.{to_go_at};
-ghost use Rattle.front_bound.specs.inner.Pools.{Spreads};
-ghost use Rattle.front_bound.specs.inner.Sides.{BeginGoesOn, ClassGoesOn};
+ghost use Rattle.front_table.specs.Levels.{to_go_at};
+ghost use Rattle.front_table.specs.Pools.{Spreads};
+ghost use Rattle.front_bound.specs.Sides.{BeginGoesOn, ClassGoesOn};
 
-use crate::halt::Halt;
 use crate::holes::holes_of;
-use crate::labels::Label;
 use crate::outset::Outset;
-use crate::placed_cells::Lists;
+use crate::placed_cells::CellSpace;
 use crate::placed_sides::offer_placed_ends;
 use crate::placed_strips::placed_from;
-use crate::pools::Pool;
-use crate::rows::Row;
-use crate::stretch::{Site, Stretch};
-use crate::strips::Limits;
+use crate::places::CornerLists;
+use crate::stretch::{Stretch, StripBegin};
+use front_table::halt::Halt;
+use front_table::labels::FrontLabel;
+use front_table::pools::LabelPool;
+use front_table::rows::FrontRow;
+use front_table::strips::Limits;
 use glass_base::Defect;
 use std::alloc::Global;
 
@@ -25,15 +26,14 @@ use std::alloc::Global;
 #[derive(Drop)]
 pub struct Space {
     /// Labels of strips that begin clear of defects, of those that begin near them, and of the cells of these.
-    pub strips: Pool,
-    pub near: Pool,
-    pub cells: Pool,
+    pub strips: LabelPool,
+    pub near: LabelPool,
+    pub cells: CellSpace,
     /// The defects behind the place where strips begin, and those of them that lie within their widest.
     pub holes: Vec<Defect>,
     pub near_holes: Vec<Defect>,
-    pub lists: Lists,
     /// The begins that are clear of defects.
-    pub clear: Vec<Label>,
+    pub clear: Vec<FrontLabel>,
 }
 
 /// Strips of a class that begin on a plate.
@@ -48,19 +48,21 @@ pub struct Class {
 }
 
 /// Room for all rows.
-pub fn new_space(alloc: Global, rows: &[Row], limit: u64) -> Result<Space, Halt>
+pub fn new_space(alloc: Global, rows: &[FrontRow], limit: u64) -> Result<Space, Halt>
     ensures { IfOk result (IsRoomy rows.now) }
 {
     Ok(Space {
-        strips: Pool::new(alloc, rows.len(), limit)?,
-        near: Pool::new(alloc, rows.len(), limit)?,
-        cells: Pool::new(alloc, rows.len(), limit)?,
+        strips: LabelPool::new(alloc, rows.len(), limit)?,
+        near: LabelPool::new(alloc, rows.len(), limit)?,
+        cells: CellSpace {
+            pool: LabelPool::new(alloc, rows.len(), limit)?,
+            lists: CornerLists {
+                found: Vec::new(alloc),
+                next: Vec::new(alloc),
+            },
+        },
         holes: Vec::new(alloc),
         near_holes: Vec::new(alloc),
-        lists: Lists {
-            found: Vec::new(alloc),
-            next: Vec::new(alloc),
-        },
         clear: Vec::new(alloc),
     })
 }
@@ -69,18 +71,18 @@ pub fn new_space(alloc: Global, rows: &[Row], limit: u64) -> Result<Space, Halt>
 fn place_begin(
     outset: &Outset<'_>,
     space: &mut Space,
-    sides: &mut Pool,
-    begin: &Label,
+    sides: &mut LabelPool,
+    begin: &FrontLabel,
     class: &Class,
 ) -> Result<bool, Halt>
     requires space { IsRoomy outset.now.fronts.rows.now space.old }
     requires sides { length sides.old ≡ length outset.now.fronts.rows.now }
-    requires class { IsClass outset.now.instance.now outset.now.fronts class.now }
+    requires class { IsClass outset.now.fronts class.now }
     ensures space { OnOk result (IsRoomy outset.now.fronts.rows.now space.new) }
     ensures clear { OnOk result (space.new.clear ≡ space.old.clear) }
     ensures spreads { OnOk result (Spreads outset.now.row sides.old sides.new) }
     ensures goes_on { IfOk result (λ done. done ≡ true
-        → ClassGoesOn outset.now.instance.now outset.now.fronts.rows.now
+        → ClassGoesOn outset.now.fronts.instance.now outset.now.fronts.rows.now
         (to_go_at outset.now.fronts.levels.now) outset.now.most sides.new outset.now.row
         (begin.now ∷ []) class.now.plate class.now.low class.now.limits.top class.now.room
         class.now.limits.most) }
@@ -88,7 +90,7 @@ fn place_begin(
     if !begin.across.has(class.plate) {
         return Ok(true);
     }
-    let instance = outset.instance;
+    let instance = outset.fronts.instance;
     let left = begin.along.least;
     holes_of(
         instance,
@@ -107,8 +109,7 @@ fn place_begin(
     let reach = outset.most.saturating_sub(instance.before(class.plate));
     let bound = class.limits.bound.min(width.saturating_sub(left));
     let stretch = Stretch {
-        rows: outset.fronts.rows,
-        levels: outset.fronts.levels,
+        fronts: outset.fronts,
         limits: Limits {
             class: class.limits.class,
             top: class.limits.top,
@@ -117,7 +118,7 @@ fn place_begin(
             most: reach.saturating_sub(u64::from(left)),
             shift: class.limits.shift,
         },
-        site: Site {
+        site: StripBegin {
             left,
             room: width,
             height: params.height,
@@ -132,24 +133,16 @@ fn place_begin(
     placed_from(
         &mut space.near,
         &mut space.cells,
-        &mut space.lists,
         &stretch,
         outset.row,
         class.low,
     )?;
-    offer_placed_ends(
-        outset,
-        space.holes.as_slice(),
-        sides,
-        &space.near,
-        left,
-        class.plate,
-    )?;
+    offer_placed_ends(outset, &stretch, sides, &space.near, class.plate)?;
     Ok(true)
 }
 
 /// Keeps a begin that is clear of defects.
-fn keep_clear(clear: &mut Vec<Label>, begin: &Label, done: bool) -> Result<(), Halt>
+fn keep_clear(clear: &mut Vec<FrontLabel>, begin: &FrontLabel, done: bool) -> Result<(), Halt>
     ensures kept { OnOk result ((l : LabelOf) → Contains clear.old.items l
         → Contains clear.new.items l) }
     ensures new { OnOk result (done ≡ false → Contains clear.new.items begin.now) }
@@ -157,27 +150,25 @@ fn keep_clear(clear: &mut Vec<Label>, begin: &Label, done: bool) -> Result<(), H
     if done {
         return Ok(());
     }
-    match clear.push(*begin) {
-        Ok(()) => Ok(()),
-        Err(_) => Err(Halt::Memory),
-    }
+    clear.push(*begin)?;
+    Ok(())
 }
 
 /// Offers where the strips of a class end that begin near defects, and keeps the begins that are clear of them.
 pub fn place_begins(
     outset: &Outset<'_>,
     space: &mut Space,
-    sides: &mut Pool,
-    begins: &[Label],
+    sides: &mut LabelPool,
+    begins: &[FrontLabel],
     class: &Class,
 ) -> Result<(), Halt>
     requires space { IsRoomy outset.now.fronts.rows.now space.old }
     requires sides { length sides.old ≡ length outset.now.fronts.rows.now }
-    requires class { IsClass outset.now.instance.now outset.now.fronts class.now }
+    requires class { IsClass outset.now.fronts class.now }
     ensures space { OnOk result (IsRoomy outset.now.fronts.rows.now space.new) }
     ensures spreads { OnOk result (Spreads outset.now.row sides.old sides.new) }
     ensures goes_on { OnOk result ((k : ℕ) (d : LabelOf) → k < length begins.now
-        → BeginGoesOn outset.now.instance.now outset.now.fronts.rows.now
+        → BeginGoesOn outset.now.fronts.instance.now outset.now.fronts.rows.now
         (to_go_at outset.now.fronts.levels.now) outset.now.most sides.new outset.now.row
         space.new.clear.items (slice_index_or begins.now k d) class.now.plate class.now.low
         class.now.limits.top class.now.room class.now.limits.most) }

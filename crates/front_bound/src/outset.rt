@@ -1,15 +1,13 @@
 //! From where strips set out.
 
 ghost use Rattle.std.specs.Prelude.{◌≡◌, ◌<◌, length};
-ghost use Rattle.front_bound.specs.inner.Ready.{AreFronts};
+ghost use Rattle.front_table.specs.Ready.{AreFronts};
 
-use crate::table::Fronts;
-use glass_base::Instance;
+use front_table::fronts::Fronts;
 
-/// A row from which strips set out. That it is one of the fronts, and that these are the instance's and all is known of them, goes with it.
+/// A row from which strips set out. That it is one of the fronts, and that all is known of these, goes with it.
 #[derive(Clone, Copy)]
 pub struct Outset<'a> {
-    pub instance: &'a Instance,
     pub fronts: Fronts<'a>,
     /// The row.
     pub row: usize,
@@ -17,5 +15,5 @@ pub struct Outset<'a> {
     pub most: u64,
     ghost inside: { row < length fronts.rows.now },
     ghost even: { length fronts.levels.now ≡ length fronts.rows.now },
-    ghost built: { ∥ AreFronts instance.now fronts ∥₁ },
+    ghost built: { ∥ AreFronts fronts ∥₁ },
 }

@@ -1,37 +1,37 @@
 //! Strips around defects, by one band more.
 
 ghost use Rattle.std.specs.Prelude.{ℕ, ◌+◌, ◌<◌, ◌≤◌, Contains, OnOk, length};
-ghost use Rattle.front_bound.specs.declared.keyed.Keyed.{Keyed as KeyedOf};
-ghost use Rattle.front_bound.specs.inner.Ends.{Falls};
-ghost use Rattle.front_bound.specs.inner.Levels.{ends_at};
-ghost use Rattle.front_bound.specs.inner.Lists.{Rises};
+ghost use Rattle.front_table.specs.declared.keyed.Keyed.{Keyed as KeyedOf};
+ghost use Rattle.front_table.specs.Ends.{Falls};
+ghost use Rattle.front_table.specs.Levels.{ends_at};
+ghost use Rattle.front_table.specs.Lists.{Rises};
 ghost use Rattle.front_bound.specs.inner.Placed.{BandJoined, EntryJoined, MoveJoined, RunJoined, RunsJoined};
-ghost use Rattle.front_bound.specs.inner.Pools.{Spreads, row_at};
+ghost use Rattle.front_table.specs.Pools.{Spreads, row_at};
 
-use crate::bands::band_of;
-use crate::ends::{is_beyond, near};
-use crate::halt::Halt;
-use crate::keyed::{Keyed, entry_at, key_at};
-use crate::labels::Label;
-use crate::levels::{band_at, ends_of};
-use crate::moves::Move;
 use crate::onward::Onward;
-use crate::pools::Pool;
-use crate::rows::waste_left;
 use crate::stretch::Stretch;
-use crate::strips::glass_above;
+use front_table::bands::band_of;
+use front_table::ends::{is_beyond, near};
+use front_table::halt::Halt;
+use front_table::keyed::{Keyed, entry_at, key_at};
+use front_table::labels::FrontLabel;
+use front_table::levels::{band_at, ends_of};
+use front_table::moves::Move;
+use front_table::pools::LabelPool;
+use front_table::rows::waste_left;
+use front_table::strips::glass_above;
 
 /// Goes on from a label by a band, where the strip can still end near enough.
 fn join_band(
-    pool: &mut Pool,
+    pool: &mut LabelPool,
     stretch: &Stretch<'_>,
-    label: &Label,
+    label: &FrontLabel,
     to: usize,
-    band: &Label,
+    band: &FrontLabel,
 ) -> Result<(), Halt>
     requires pool { to < length pool.old }
-    requires levels { to < length stretch.now.levels.now }
-    requires falls { Falls (ends_at stretch.now.levels.now to) }
+    requires levels { to < length stretch.now.fronts.levels.now }
+    requires falls { Falls (ends_at stretch.now.fronts.levels.now to) }
     ensures spreads { OnOk result (Spreads (to + 1) pool.old pool.new) }
     ensures joined { OnOk result (BandJoined stretch.now pool.new label.now to band.now) }
 {
@@ -58,14 +58,14 @@ fn join_band(
     let free = glass_above(limits.bound, limits.height, band.up);
     let within = (limits.most - wide).min(stretch.reach - end);
     if is_beyond(
-        ends_of(stretch.levels, to),
+        ends_of(stretch.fronts.levels, to),
         stretch.limits.shift,
         free,
         within,
     ) {
         return Ok(());
     }
-    let joined = Label {
+    let joined = FrontLabel {
         along: sum,
         across: shared,
         right,
@@ -76,10 +76,15 @@ fn join_band(
 }
 
 /// Goes on from a label of a row by the band that a run of cells makes, where it leaves no more than it may.
-fn join_run(pool: &mut Pool, onward: &Onward<'_>, to: usize, cells: &Label) -> Result<(), Halt>
+fn join_run(
+    pool: &mut LabelPool,
+    onward: &Onward<'_>,
+    to: usize,
+    cells: &FrontLabel,
+) -> Result<(), Halt>
     requires pool { to < length pool.old }
-    requires levels { to < length onward.now.stretch.now.levels.now }
-    requires falls { Falls (ends_at onward.now.stretch.now.levels.now to) }
+    requires levels { to < length onward.now.stretch.now.fronts.levels.now }
+    requires falls { Falls (ends_at onward.now.stretch.now.fronts.levels.now to) }
     ensures spreads { OnOk result (Spreads (to + 1) pool.old pool.new) }
     ensures joined { OnOk result (RunJoined onward.now.stretch.now pool.new onward.now.row
         onward.now.label.now to cells.now) }
@@ -88,7 +93,7 @@ fn join_run(pool: &mut Pool, onward: &Onward<'_>, to: usize, cells: &Label) -> R
     let label = onward.label;
     let mut band = band_of(cells, stretch.site.waste);
     let top = stretch.limits.top;
-    let waste = waste_left(stretch.rows, onward.row, to, top, band.along.least);
+    let waste = waste_left(stretch.fronts.rows, onward.row, to, top, band.along.least);
     if waste > onward.slack {
         return Ok(());
     }
@@ -97,11 +102,16 @@ fn join_run(pool: &mut Pool, onward: &Onward<'_>, to: usize, cells: &Label) -> R
     Ok(())
 }
 
-/// The same of each run of cells to a row.
-fn join_runs(pool: &mut Pool, onward: &Onward<'_>, to: usize, runs: &[Label]) -> Result<(), Halt>
+/// Goes on from a label of a row by the bands that runs of cells to another row make.
+fn join_runs(
+    pool: &mut LabelPool,
+    onward: &Onward<'_>,
+    to: usize,
+    runs: &[FrontLabel],
+) -> Result<(), Halt>
     requires pool { to < length pool.old }
-    requires levels { to < length onward.now.stretch.now.levels.now }
-    requires falls { Falls (ends_at onward.now.stretch.now.levels.now to) }
+    requires levels { to < length onward.now.stretch.now.fronts.levels.now }
+    requires falls { Falls (ends_at onward.now.stretch.now.fronts.levels.now to) }
     ensures spreads { OnOk result (Spreads (to + 1) pool.old pool.new) }
     ensures joined { OnOk result (RunsJoined onward.now.stretch.now pool.new onward.now.row
         onward.now.label.now to runs.now) }
@@ -112,13 +122,13 @@ fn join_runs(pool: &mut Pool, onward: &Onward<'_>, to: usize, runs: &[Label]) ->
     Ok(())
 }
 
-/// The same of each row that cells lead to.
-pub fn join_rows(pool: &mut Pool, onward: &Onward<'_>, cells: &Pool) -> Result<(), Halt>
+/// Goes on from a label of a row by the bands that all runs of cells make.
+pub fn join_rows(pool: &mut LabelPool, onward: &Onward<'_>, cells: &LabelPool) -> Result<(), Halt>
     requires pool { onward.now.row < length pool.old }
     requires cells { onward.now.row < length cells.now }
-    requires levels { onward.now.row < length onward.now.stretch.now.levels.now }
+    requires levels { onward.now.row < length onward.now.stretch.now.fronts.levels.now }
     requires falls { (n : ℕ) → n ≤ onward.now.row
-        → Falls (ends_at onward.now.stretch.now.levels.now n) }
+        → Falls (ends_at onward.now.stretch.now.fronts.levels.now n) }
     ensures spreads { OnOk result (Spreads onward.now.row pool.old pool.new) }
     ensures joined { OnOk result ((to : ℕ) → to < onward.now.row
         → RunsJoined onward.now.stretch.now pool.new onward.now.row onward.now.label.now to
@@ -133,15 +143,15 @@ pub fn join_rows(pool: &mut Pool, onward: &Onward<'_>, cells: &Pool) -> Result<(
 
 /// Goes on from a label of a row by a band that no defect is in the way of.
 fn join_move(
-    pool: &mut Pool,
+    pool: &mut LabelPool,
     stretch: &Stretch<'_>,
     row: usize,
-    label: &Label,
+    label: &FrontLabel,
     band: &Move,
 ) -> Result<(), Halt>
     requires pool { row < length pool.old }
-    requires levels { row < length stretch.now.levels.now }
-    requires falls { (n : ℕ) → n ≤ row → Falls (ends_at stretch.now.levels.now n) }
+    requires levels { row < length stretch.now.fronts.levels.now }
+    requires falls { (n : ℕ) → n ≤ row → Falls (ends_at stretch.now.fronts.levels.now n) }
     ensures spreads { OnOk result (Spreads row pool.old pool.new) }
     ensures joined { OnOk result (MoveJoined stretch.now pool.new row label.now band.now) }
 {
@@ -149,7 +159,7 @@ fn join_move(
     if to >= row {
         return Ok(());
     }
-    let raised = Label {
+    let raised = FrontLabel {
         along: band.label.along,
         across: band.label.across,
         right: 0,
@@ -159,33 +169,33 @@ fn join_move(
     Ok(())
 }
 
-/// The same of the band at a place.
+/// Goes on from a label of a row by the band at a place, which no defect is in the way of.
 fn join_entry(
-    pool: &mut Pool,
+    pool: &mut LabelPool,
     stretch: &Stretch<'_>,
     row: usize,
-    label: &Label,
+    label: &FrontLabel,
     place: u32,
 ) -> Result<(), Halt>
     requires pool { row < length pool.old }
-    requires levels { row < length stretch.now.levels.now }
-    requires falls { (n : ℕ) → n ≤ row → Falls (ends_at stretch.now.levels.now n) }
+    requires levels { row < length stretch.now.fronts.levels.now }
+    requires falls { (n : ℕ) → n ≤ row → Falls (ends_at stretch.now.fronts.levels.now n) }
     ensures spreads { OnOk result (Spreads row pool.old pool.new) }
     ensures joined { OnOk result (EntryJoined stretch.now pool.new row label.now place) }
 {
-    let Some(band) = band_at(stretch.levels, row, place) else {
+    let Some(band) = band_at(stretch.fronts.levels, row, place) else {
         return Ok(());
     };
     join_move(pool, stretch, row, label, &band)?;
     Ok(())
 }
 
-/// The same of each band of a list that leaves no more than it may.
-pub fn join_list(pool: &mut Pool, onward: &Onward<'_>, list: &[Keyed]) -> Result<(), Halt>
+/// Goes on from a label of a row by each band of a list that leaves no more than it may, where no defect is in the way.
+pub fn join_list(pool: &mut LabelPool, onward: &Onward<'_>, list: &[Keyed]) -> Result<(), Halt>
     requires pool { onward.now.row < length pool.old }
-    requires levels { onward.now.row < length onward.now.stretch.now.levels.now }
+    requires levels { onward.now.row < length onward.now.stretch.now.fronts.levels.now }
     requires falls { (n : ℕ) → n ≤ onward.now.row
-        → Falls (ends_at onward.now.stretch.now.levels.now n) }
+        → Falls (ends_at onward.now.stretch.now.fronts.levels.now n) }
     requires rises { Rises list.now }
     ensures spreads { OnOk result (Spreads onward.now.row pool.old pool.new) }
     ensures joined { OnOk result ((e : KeyedOf) → Contains list.now e → e.key ≤ onward.now.slack

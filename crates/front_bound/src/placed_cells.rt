@@ -2,34 +2,35 @@
 
 ghost use Rattle.std.specs.Prelude.{◌≡◌, ℕ, ◌+◌, ◌<◌, ◌≤◌, All, IsTrue, length, OnOk};
 ghost use Rattle.front_bound.specs.inner.Clear.{Covered};
-ghost use Rattle.front_bound.specs.inner.Lattice.{LeadDown, moves_at};
+ghost use Rattle.front_table.specs.Lattice.{LeadDown, moves_at};
 ghost use Rattle.front_bound.specs.inner.Placed.{CellJoined, CellsGoOn, CellsPlaced, IsLean};
-ghost use Rattle.front_bound.specs.inner.Pools.{Spreads, row_at};
-ghost use Rattle.front_bound.specs.inner.Sets.{Fits, HeldTo};
+ghost use Rattle.front_table.specs.Pools.{Spreads, row_at};
+ghost use Rattle.front_table.specs.Sets.{Fits, HeldTo};
 
-use crate::halt::Halt;
-use crate::labels::Label;
-use crate::moves::Move;
-use crate::places::{Piece, Place, least_places};
-use crate::pools::Pool;
-use crate::rows::{area_left, glass_of, moves_of};
-use crate::sets::SizeSet;
+use crate::places::{Corner, CornerLists, PieceToPlace, least_places};
 use crate::stretch::{Sought, Stretch};
+use front_table::halt::Halt;
+use front_table::labels::FrontLabel;
+use front_table::moves::Move;
+use front_table::pools::LabelPool;
+use front_table::rows::{area_left, glass_of, moves_of};
+use front_table::sets::SizeSet;
 
-/// Lists of places that are used again.
+/// What a search for cells uses again.
 #[derive(Drop)]
-pub struct Lists {
-    pub found: Vec<Place>,
-    pub next: Vec<Place>,
+pub struct CellSpace {
+    /// For each row the labels of the cells that lead there.
+    pub pool: LabelPool,
+    pub lists: CornerLists,
 }
 
 /// Offers a label whose last piece lies at a place.
 fn join_place(
-    pool: &mut Pool,
+    pool: &mut LabelPool,
     to: usize,
-    joined: &Label,
-    piece: &Piece,
-    place: &Place,
+    joined: &FrontLabel,
+    piece: &PieceToPlace,
+    place: &Corner,
 ) -> Result<(), Halt>
     requires { to < length pool.old }
     ensures spreads { OnOk result (Spreads (to + 1) pool.old pool.new) }
@@ -37,23 +38,22 @@ fn join_place(
         → place.now.x ≤ left → place.now.y ≤ low → low + piece.now.high ≤ up
         → HeldTo (row_at pool.new to) x y (left + piece.now.wide) up) }
 {
-    let label = Label {
+    let label = FrontLabel {
         along: joined.along,
         across: joined.across,
         right: place.x.saturating_add(piece.wide),
         up: joined.up.max(place.y.saturating_add(piece.high)),
     };
-    pool.offer(to, &label)?;
-    Ok(())
+    pool.offer(to, &label)
 }
 
-/// The same at each of the places.
+/// Offers a label whose last piece lies at one of the places, for each of them.
 fn join_places(
-    pool: &mut Pool,
+    pool: &mut LabelPool,
     to: usize,
-    joined: &Label,
-    piece: &Piece,
-    places: &[Place],
+    joined: &FrontLabel,
+    piece: &PieceToPlace,
+    places: &[Corner],
 ) -> Result<(), Halt>
     requires { to < length pool.old }
     ensures spreads { OnOk result (Spreads (to + 1) pool.old pool.new) }
@@ -72,10 +72,10 @@ fn is_wasteful(stretch: &Stretch<'_>, sought: &Sought, to: usize, wide: u32, hig
     ensures { IsTrue result → (x y : ℕ) → wide ≤ x → high ≤ y
         → IsLean stretch.now sought.now to x y → ⊥ }
 {
-    let used = glass_of(wide, high).saturating_add(area_left(stretch.rows, to));
+    let used = glass_of(wide, high).saturating_add(area_left(stretch.fronts.rows, to));
     let most = sought
         .slack
-        .saturating_add(area_left(stretch.rows, sought.start));
+        .saturating_add(area_left(stretch.fronts.rows, sought.start));
     if used > most {
         return true;
     }
@@ -84,16 +84,16 @@ fn is_wasteful(stretch: &Stretch<'_>, sought: &Sought, to: usize, wide: u32, hig
 
 /// Goes on from a label by a cell.
 fn join_cell(
-    pool: &mut Pool,
-    lists: &mut Lists,
+    space: &mut CellSpace,
     stretch: &Stretch<'_>,
     sought: &Sought,
-    label: &Label,
+    label: &FrontLabel,
     cell: &Move,
 ) -> Result<(), Halt>
-    requires { cell.now.to < length pool.old }
-    ensures spreads { OnOk result (Spreads (cell.now.to + 1) pool.old pool.new) }
-    ensures joined { OnOk result (CellJoined stretch.now sought.now pool.new label.now cell.now) }
+    requires { cell.now.to < length space.old.pool }
+    ensures spreads { OnOk result (Spreads (cell.now.to + 1) space.old.pool space.new.pool) }
+    ensures joined { OnOk result
+        (CellJoined stretch.now sought.now space.new.pool label.now cell.now) }
 {
     let site = stretch.site;
     let Some(sum) = label.along.plus(&cell.label.along, site.widest) else {
@@ -110,127 +110,114 @@ fn join_cell(
     if is_wasteful(stretch, sought, cell.to as usize, sum.least, shared.least) {
         return Ok(());
     }
-    let piece = Piece {
+    let piece = PieceToPlace {
         wide: cell.label.along.least,
         high: cell.label.across.least,
         room: site.room,
         height: site.height,
     };
     least_places(
-        &mut lists.found,
-        &mut lists.next,
+        &mut space.lists,
         stretch.holes,
         &piece,
         label.right,
         sought.low,
     )?;
-    let joined = Label {
+    let joined = FrontLabel {
         along: sum,
         across: shared,
         right: 0,
         up: label.up,
     };
     join_places(
-        pool,
+        &mut space.pool,
         cell.to as usize,
         &joined,
         &piece,
-        lists.found.as_slice(),
+        space.lists.found.as_slice(),
     )?;
     Ok(())
 }
 
 /// Goes on from a label of a row by each of the cells.
 fn join_cells(
-    pool: &mut Pool,
-    lists: &mut Lists,
+    space: &mut CellSpace,
     stretch: &Stretch<'_>,
     sought: &Sought,
     row: usize,
-    label: &Label,
+    label: &FrontLabel,
     cells: &[Move],
 ) -> Result<(), Halt>
-    requires row { row ≤ length pool.old }
+    requires row { row ≤ length space.old.pool }
     requires down { All (λ m. m.to < row) cells.now }
-    ensures spreads { OnOk result (Spreads row pool.old pool.new) }
-    ensures joined { OnOk result (All (CellJoined stretch.now sought.now pool.new
+    ensures spreads { OnOk result (Spreads row space.old.pool space.new.pool) }
+    ensures joined { OnOk result (All (CellJoined stretch.now sought.now space.new.pool
         label.now) cells.now) }
 {
     for cell in cells {
-        join_cell(pool, lists, stretch, sought, label, cell)?;
+        join_cell(space, stretch, sought, label, cell)?;
     }
     Ok(())
 }
 
 /// Goes on from each label of a row by each of the cells.
 fn grow_cells(
-    pool: &mut Pool,
-    lists: &mut Lists,
+    space: &mut CellSpace,
     stretch: &Stretch<'_>,
     sought: &Sought,
     row: usize,
     cells: &[Move],
 ) -> Result<(), Halt>
-    requires row { row < length pool.old }
+    requires row { row < length space.old.pool }
     requires down { All (λ m. m.to < row) cells.now }
-    ensures spreads { OnOk result (Spreads row pool.old pool.new) }
-    ensures goes_on { OnOk result (CellsGoOn stretch.now sought.now pool.new row cells.now) }
+    ensures spreads { OnOk result (Spreads row space.old.pool space.new.pool) }
+    ensures goes_on { OnOk result (CellsGoOn stretch.now sought.now space.new.pool row cells.now) }
 {
-    for at in 0..pool.labels(row).len() {
-        let label = pool.label(row, at);
-        join_cells(pool, lists, stretch, sought, row, &label, cells)?;
+    for at in 0..space.pool.labels(row).len() {
+        let label = space.pool.label(row, at);
+        join_cells(space, stretch, sought, row, &label, cells)?;
     }
     Ok(())
 }
 
 /// Goes on from the row at which the bands begin, and from each row that comes to have labels.
-fn spread_cells(
-    pool: &mut Pool,
-    lists: &mut Lists,
-    stretch: &Stretch<'_>,
-    sought: &Sought,
-) -> Result<(), Halt>
-    requires start { sought.now.start < length stretch.now.rows.now }
-    requires pool { length pool.old ≡ length stretch.now.rows.now }
-    requires down { LeadDown stretch.now.rows.now }
-    ensures spreads { OnOk result (Spreads sought.now.start pool.old pool.new) }
+fn spread_cells(space: &mut CellSpace, stretch: &Stretch<'_>, sought: &Sought) -> Result<(), Halt>
+    requires start { sought.now.start < length stretch.now.fronts.rows.now }
+    requires pool { length space.old.pool ≡ length stretch.now.fronts.rows.now }
+    requires down { LeadDown stretch.now.fronts.rows.now }
+    ensures spreads { OnOk result (Spreads sought.now.start space.old.pool space.new.pool) }
     ensures goes_on { OnOk result ((n : ℕ) → n ≤ sought.now.start
-        → CellsGoOn stretch.now sought.now pool.new n (moves_at stretch.now.rows.now n)) }
+        → CellsGoOn stretch.now sought.now space.new.pool n
+        (moves_at stretch.now.fronts.rows.now n)) }
 {
     let start = sought.start;
     for done in 0..start + 1 {
         let row = start - done;
-        let low = pool.low();
+        let low = space.pool.low();
         if row < low {
             return Ok(());
         }
         grow_cells(
-            pool,
-            lists,
+            space,
             stretch,
             sought,
             row,
-            moves_of(stretch.rows, row),
+            moves_of(stretch.fronts.rows, row),
         )?;
     }
     Ok(())
 }
 
 /// All cells of bands that lie right of where the strip begins.
-pub fn cells_from(
-    pool: &mut Pool,
-    lists: &mut Lists,
-    stretch: &Stretch<'_>,
-    sought: &Sought,
-) -> Result<(), Halt>
-    requires start { sought.now.start < length stretch.now.rows.now }
-    requires pool { length pool.old ≡ length stretch.now.rows.now }
-    requires down { LeadDown stretch.now.rows.now }
-    ensures len { OnOk result (length pool.new ≡ length pool.old) }
-    ensures placed { OnOk result (CellsPlaced stretch.now sought.now pool.new) }
+pub fn cells_from(space: &mut CellSpace, stretch: &Stretch<'_>, sought: &Sought) -> Result<(), Halt>
+    requires start { sought.now.start < length stretch.now.fronts.rows.now }
+    requires pool { length space.old.pool ≡ length stretch.now.fronts.rows.now }
+    requires down { LeadDown stretch.now.fronts.rows.now }
+    ensures len { OnOk result (length space.new.pool ≡ length space.old.pool) }
+    ensures placed { OnOk result (CellsPlaced stretch.now sought.now space.new.pool) }
 {
-    pool.clear();
-    let none = Label {
+    space.pool.clear();
+    let none = FrontLabel {
         along: SizeSet {
             least: 0,
             more: stretch.site.waste,
@@ -242,7 +229,7 @@ pub fn cells_from(
         right: stretch.site.left,
         up: 0,
     };
-    pool.offer(sought.start, &none)?;
-    spread_cells(pool, lists, stretch, sought)?;
+    space.pool.offer(sought.start, &none)?;
+    spread_cells(space, stretch, sought)?;
     Ok(())
 }

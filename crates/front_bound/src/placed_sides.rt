@@ -2,17 +2,18 @@
 
 ghost use Rattle.std.specs.Prelude.{◌≡◌, ℕ, ◌+◌, ◌<◌, ◌≤◌, [], ◌∷◌, length, OnOk};
 ghost use Rattle.front_bound.specs.inner.Clear.{EndsPlaced};
-ghost use Rattle.front_bound.specs.inner.Levels.{to_go_at};
-ghost use Rattle.front_bound.specs.inner.Pools.{Spreads, row_at};
+ghost use Rattle.front_table.specs.Levels.{to_go_at};
+ghost use Rattle.front_table.specs.Pools.{Spreads, row_at};
 
 use crate::ending::Ending;
-use crate::halt::Halt;
 use crate::holes::past;
-use crate::labels::Label;
-use crate::levels::to_go;
 use crate::outset::Outset;
-use crate::pools::Pool;
-use crate::sets::SizeSet;
+use crate::stretch::Stretch;
+use front_table::halt::Halt;
+use front_table::labels::FrontLabel;
+use front_table::levels::to_go;
+use front_table::pools::LabelPool;
+use front_table::sets::SizeSet;
 use glass_base::Defect;
 use glass_base::limits::MOST_PLATES;
 
@@ -20,9 +21,9 @@ use glass_base::limits::MOST_PLATES;
 fn offer_placed(
     ending: &Ending<'_>,
     holes: &[Defect],
-    sides: &mut Pool,
+    sides: &mut LabelPool,
     begin: u32,
-    strip: &Label,
+    strip: &FrontLabel,
 ) -> Result<(), Halt>
     requires { ending.now.row < length sides.old }
     ensures spreads { OnOk result (Spreads (ending.now.row + 1) sides.old sides.new) }
@@ -48,7 +49,7 @@ fn offer_placed(
     if end > ending.most {
         return Ok(());
     }
-    let offered = Label {
+    let offered = FrontLabel {
         along: SizeSet {
             least: side,
             more: 0,
@@ -61,13 +62,13 @@ fn offer_placed(
     Ok(())
 }
 
-/// The same of each label.
+/// Offers the right sides of the strips that labels stand for, behind `begin`.
 fn offer_all_placed(
     ending: &Ending<'_>,
     holes: &[Defect],
-    sides: &mut Pool,
+    sides: &mut LabelPool,
     begin: u32,
-    strips: &[Label],
+    strips: &[FrontLabel],
 ) -> Result<(), Halt>
     requires { ending.now.row < length sides.old }
     ensures spreads { OnOk result (Spreads (ending.now.row + 1) sides.old sides.new) }
@@ -80,13 +81,12 @@ fn offer_all_placed(
     Ok(())
 }
 
-/// Offers the right sides of all strips of a search.
+/// Offers the right sides of all strips of a search on a stretch of a plate.
 pub fn offer_placed_ends(
     outset: &Outset<'_>,
-    holes: &[Defect],
-    sides: &mut Pool,
-    pool: &Pool,
-    begin: u32,
+    stretch: &Stretch<'_>,
+    sides: &mut LabelPool,
+    pool: &LabelPool,
     plate: u32,
 ) -> Result<(), Halt>
     requires sides { outset.now.row < length sides.old }
@@ -94,21 +94,27 @@ pub fn offer_placed_ends(
     requires plate { plate ≤ MOST_PLATES }
     ensures spreads { OnOk result (Spreads outset.now.row sides.old sides.new) }
     ensures held { OnOk result ((m : ℕ) → m < outset.now.row
-        → EndsPlaced outset.now.instance.now holes.now
-        (to_go_at outset.now.fronts.levels.now m) outset.now.most sides.new m plate begin
-        (row_at pool.now m)) }
+        → EndsPlaced outset.now.fronts.instance.now stretch.now.holes.now
+        (to_go_at outset.now.fronts.levels.now m) outset.now.most sides.new m plate
+        stretch.now.site.left (row_at pool.now m)) }
 {
     let low = pool.low();
     for row in low..outset.row {
         let far = to_go(outset.fronts.levels, row);
         let ending = Ending {
-            instance: outset.instance,
+            instance: outset.fronts.instance,
             plate,
             row,
             far,
             most: outset.most,
         };
-        offer_all_placed(&ending, holes, sides, begin, pool.labels(row))?;
+        offer_all_placed(
+            &ending,
+            stretch.holes,
+            sides,
+            stretch.site.left,
+            pool.labels(row),
+        )?;
     }
     Ok(())
 }

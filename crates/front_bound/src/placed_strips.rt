@@ -2,34 +2,33 @@
 
 ghost use Rattle.std.specs.Prelude.{◌≡◌, ℕ, ◌+◌, ◌<◌, ◌≤◌, ◌⊎◌, IfOk, IfSome, OnOk, length};
 ghost use Rattle.front_bound.specs.inner.Placed.{AreCells, Extended, IsStretch, RowPlaced};
-ghost use Rattle.front_bound.specs.inner.Pools.{Spreads, row_at};
-ghost use Rattle.front_bound.specs.inner.Sets.{HeldTo};
+ghost use Rattle.front_table.specs.Pools.{Spreads, row_at};
+ghost use Rattle.front_table.specs.Sets.{HeldTo};
 
-use crate::halt::Halt;
-use crate::labels::Label;
-use crate::levels::list_of;
 use crate::onward::Onward;
 use crate::placed_bands::{join_list, join_rows};
-use crate::placed_cells::{Lists, cells_from};
-use crate::pools::Pool;
-use crate::sets::SizeSet;
+use crate::placed_cells::{CellSpace, cells_from};
 use crate::slack::{most_slack, slack_of};
 use crate::stretch::{Sought, Stretch};
+use front_table::halt::Halt;
+use front_table::labels::FrontLabel;
+use front_table::levels::list_of;
+use front_table::pools::LabelPool;
+use front_table::sets::SizeSet;
 use glass_base::Defect;
 
 /// Cells above a label that leave no more than this: those that were made before, where they serve, or all anew, for all labels that reach up as far.
 fn cells_above(
-    cells: &mut Pool,
-    lists: &mut Lists,
+    cells: &mut CellSpace,
     onward: &Onward<'_>,
-    labels: &[Label],
+    labels: &[FrontLabel],
     made: Option<Sought>,
 ) -> Result<Sought, Halt>
-    requires cells { length cells.old ≡ length onward.now.stretch.now.rows.now }
+    requires cells { length cells.old.pool ≡ length onward.now.stretch.now.fronts.rows.now }
     requires stretch { IsStretch onward.now.stretch.now }
-    requires made { IfSome made (AreCells onward.now.stretch.now onward.now.row cells.old) }
-    ensures len { OnOk result (length cells.new ≡ length cells.old) }
-    ensures are { IfOk result (AreCells onward.now.stretch.now onward.now.row cells.new) }
+    requires made { IfSome made (AreCells onward.now.stretch.now onward.now.row cells.old.pool) }
+    ensures len { OnOk result (length cells.new.pool ≡ length cells.old.pool) }
+    ensures are { IfOk result (AreCells onward.now.stretch.now onward.now.row cells.new.pool) }
     ensures low { IfOk result (λ s. s.low ≤ onward.now.label.now.up) }
     ensures slack { IfOk result (λ s. onward.now.slack ≤ s.slack) }
 {
@@ -50,7 +49,7 @@ fn cells_above(
         low: up,
         slack: most_slack(stretch, row, labels, up, slack),
     };
-    cells_from(cells, lists, stretch, &sought)?;
+    cells_from(cells, stretch, &sought)?;
     Ok(sought)
 }
 
@@ -65,7 +64,7 @@ fn is_below(holes: &[Defect], low: u32) -> bool {
 }
 
 /// Goes on from a label of a row by each band from there on.
-fn extend_freely(pool: &mut Pool, onward: &Onward<'_>) -> Result<(), Halt>
+fn extend_freely(pool: &mut LabelPool, onward: &Onward<'_>) -> Result<(), Halt>
     requires pool { onward.now.row < length pool.old }
     requires stretch { IsStretch onward.now.stretch.now }
     ensures spreads { OnOk result (Spreads onward.now.row pool.old pool.new) }
@@ -73,51 +72,49 @@ fn extend_freely(pool: &mut Pool, onward: &Onward<'_>) -> Result<(), Halt>
         onward.now.label.now) }
 {
     let stretch = onward.stretch;
-    let list = list_of(stretch.levels, onward.row, stretch.limits.class);
+    let list = list_of(stretch.fronts.levels, onward.row, stretch.limits.class);
     join_list(pool, onward, list)?;
     Ok(())
 }
 
 /// Goes on from a label of a row by each band whose items have places.
 fn extend_around(
-    pool: &mut Pool,
-    cells: &mut Pool,
-    lists: &mut Lists,
+    pool: &mut LabelPool,
+    cells: &mut CellSpace,
     onward: &Onward<'_>,
     made: Option<Sought>,
 ) -> Result<Sought, Halt>
     requires pool { onward.now.row < length pool.old }
-    requires cells { length cells.old ≡ length onward.now.stretch.now.rows.now }
+    requires cells { length cells.old.pool ≡ length onward.now.stretch.now.fronts.rows.now }
     requires stretch { IsStretch onward.now.stretch.now }
-    requires made { IfSome made (AreCells onward.now.stretch.now onward.now.row cells.old) }
-    ensures len { OnOk result (length cells.new ≡ length cells.old) }
-    ensures are { IfOk result (AreCells onward.now.stretch.now onward.now.row cells.new) }
+    requires made { IfSome made (AreCells onward.now.stretch.now onward.now.row cells.old.pool) }
+    ensures len { OnOk result (length cells.new.pool ≡ length cells.old.pool) }
+    ensures are { IfOk result (AreCells onward.now.stretch.now onward.now.row cells.new.pool) }
     ensures spreads { OnOk result (Spreads onward.now.row pool.old pool.new) }
     ensures extended { OnOk result (Extended onward.now.stretch.now pool.new onward.now.row
         onward.now.label.now) }
 {
-    let sought = cells_above(cells, lists, onward, pool.labels(onward.row), made)?;
-    join_rows(pool, onward, cells)?;
+    let sought = cells_above(cells, onward, pool.labels(onward.row), made)?;
+    join_rows(pool, onward, &cells.pool)?;
     Ok(sought)
 }
 
 /// Goes on from a label of a row by each band. `made` are the cells that were made before, and then those that are made now.
 fn extend(
-    pool: &mut Pool,
-    cells: &mut Pool,
-    lists: &mut Lists,
+    pool: &mut LabelPool,
+    cells: &mut CellSpace,
     stretch: &Stretch<'_>,
     row: usize,
-    label: &Label,
+    label: &FrontLabel,
     made: Option<Sought>,
 ) -> Result<Option<Sought>, Halt>
     requires pool { row < length pool.old }
-    requires row { row < length stretch.now.rows.now }
-    requires cells { length cells.old ≡ length stretch.now.rows.now }
+    requires row { row < length stretch.now.fronts.rows.now }
+    requires cells { length cells.old.pool ≡ length stretch.now.fronts.rows.now }
     requires stretch { IsStretch stretch.now }
-    requires made { IfSome made (AreCells stretch.now row cells.old) }
-    ensures len { OnOk result (length cells.new ≡ length cells.old) }
-    ensures made { IfOk result (λ after. IfSome after (AreCells stretch.now row cells.new)) }
+    requires made { IfSome made (AreCells stretch.now row cells.old.pool) }
+    ensures len { OnOk result (length cells.new.pool ≡ length cells.old.pool) }
+    ensures made { IfOk result (λ after. IfSome after (AreCells stretch.now row cells.new.pool)) }
     ensures spreads { OnOk result (Spreads row pool.old pool.new) }
     ensures extended { OnOk result (Extended stretch.now pool.new row label.now) }
 {
@@ -135,23 +132,22 @@ fn extend(
         extend_freely(pool, &onward)?;
         return Ok(made);
     }
-    let sought = extend_around(pool, cells, lists, &onward, made)?;
+    let sought = extend_around(pool, cells, &onward, made)?;
     Ok(Some(sought))
 }
 
 /// Goes on from each label of a row by each band.
 fn extend_row(
-    pool: &mut Pool,
-    cells: &mut Pool,
-    lists: &mut Lists,
+    pool: &mut LabelPool,
+    cells: &mut CellSpace,
     stretch: &Stretch<'_>,
     row: usize,
 ) -> Result<(), Halt>
     requires pool { row < length pool.old }
-    requires row { row < length stretch.now.rows.now }
-    requires cells { length cells.old ≡ length stretch.now.rows.now }
+    requires row { row < length stretch.now.fronts.rows.now }
+    requires cells { length cells.old.pool ≡ length stretch.now.fronts.rows.now }
     requires stretch { IsStretch stretch.now }
-    ensures len { OnOk result (length cells.new ≡ length cells.old) }
+    ensures len { OnOk result (length cells.new.pool ≡ length cells.old.pool) }
     ensures spreads { OnOk result (Spreads (row + 1) pool.old pool.new) }
     ensures placed { OnOk result (RowPlaced stretch.now pool.new row) }
 {
@@ -160,7 +156,7 @@ fn extend_row(
     let mut made = None;
     for at in 0..pool.labels(row).len() {
         let label = pool.label(row, at);
-        let next = extend(pool, cells, lists, stretch, row, &label, made)?;
+        let next = extend(pool, cells, stretch, row, &label, made)?;
         made = next;
     }
     Ok(())
@@ -168,25 +164,24 @@ fn extend_row(
 
 /// All strips from a row on that begin at a place, are at least `low` wide and within the limits.
 pub fn placed_from(
-    pool: &mut Pool,
-    cells: &mut Pool,
-    lists: &mut Lists,
+    pool: &mut LabelPool,
+    cells: &mut CellSpace,
     stretch: &Stretch<'_>,
     start: usize,
     low: u32,
 ) -> Result<(), Halt>
-    requires start { start < length stretch.now.rows.now }
+    requires start { start < length stretch.now.fronts.rows.now }
     requires pool { start < length pool.old }
-    requires cells { length cells.old ≡ length stretch.now.rows.now }
+    requires cells { length cells.old.pool ≡ length stretch.now.fronts.rows.now }
     requires stretch { IsStretch stretch.now }
-    ensures cells { OnOk result (length cells.new ≡ length cells.old) }
+    ensures cells { OnOk result (length cells.new.pool ≡ length cells.old.pool) }
     ensures len { OnOk result (length pool.new ≡ length pool.old) }
     ensures begun { OnOk result ((x w right up : ℕ) → (x ≡ 0) ⊎ (0 + stretch.now.site.waste ≤ x)
         → low ≤ w → stretch.now.site.left ≤ right → HeldTo (row_at pool.new start) x w right up) }
     ensures placed { OnOk result ((n : ℕ) → n ≤ start → RowPlaced stretch.now pool.new n) }
 {
     pool.clear();
-    let none = Label {
+    let none = FrontLabel {
         along: SizeSet {
             least: 0,
             more: stretch.site.waste,
@@ -205,7 +200,7 @@ pub fn placed_from(
         if row < first {
             return Ok(());
         }
-        extend_row(pool, cells, lists, stretch, row)?;
+        extend_row(pool, cells, stretch, row)?;
     }
     Ok(())
 }

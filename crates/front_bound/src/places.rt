@@ -3,24 +3,33 @@
 ghost use Rattle.std.specs.Prelude.{◌≡◌, ℕ, ◌+◌, ◌≤◌, Contains, IsTrue, IfSome, OnOk};
 ghost use Rattle.front_bound.specs.inner.Clear.{Covered, IsFree, Meets};
 
-use crate::halt::Halt;
+use front_table::halt::Halt;
 use glass_base::Defect;
 use std::mem;
 
 /// A piece's lower left corner on its plate, in mm.
 #[derive(Clone, Copy)]
-pub struct Place {
+pub struct Corner {
     pub x: u32,
     pub y: u32,
 }
 
 /// The sides of a piece, and how far to the right and up it may reach, in mm.
 #[derive(Clone, Copy)]
-pub struct Piece {
+pub struct PieceToPlace {
     pub wide: u32,
     pub high: u32,
     pub room: u32,
     pub height: u32,
+}
+
+/// Lists of places that are used again.
+#[derive(Drop)]
+pub struct CornerLists {
+    /// The places that are found.
+    pub found: Vec<Corner>,
+    /// Those of the next round.
+    pub next: Vec<Corner>,
 }
 
 /// So often each place is looked at. Where that does not suffice, places are listed at which a defect is met, which is no mistake: they are still
@@ -28,7 +37,7 @@ pub struct Piece {
 const ROUNDS: u32 = 8;
 
 /// Whether a piece meets a defect at a place.
-fn is_met(hole: &Defect, piece: &Piece, place: &Place) -> bool
+fn is_met(hole: &Defect, piece: &PieceToPlace, place: &Corner) -> bool
     ensures { IsTrue result → Meets hole.now piece.now place.now }
 {
     u64::from(hole.x0) < u64::from(place.x) + u64::from(piece.wide)
@@ -38,7 +47,7 @@ fn is_met(hole: &Defect, piece: &Piece, place: &Place) -> bool
 }
 
 /// One of the defects that a piece meets at a place.
-fn met(holes: &[Defect], piece: &Piece, place: &Place) -> Option<Defect>
+fn met(holes: &[Defect], piece: &PieceToPlace, place: &Corner) -> Option<Defect>
     ensures { IfSome result (λ d. Contains holes.now d × Meets d piece.now place.now) }
 {
     for hole in holes {
@@ -50,24 +59,22 @@ fn met(holes: &[Defect], piece: &Piece, place: &Place) -> Option<Defect>
 }
 
 /// Lists a place.
-fn push(places: &mut Vec<Place>, x: u32, y: u32) -> Result<(), Halt>
+fn push(places: &mut Vec<Corner>, x: u32, y: u32) -> Result<(), Halt>
     ensures kept { OnOk result ((left low : ℕ) → Covered places.old.items left low
         → Covered places.new.items left low) }
     ensures new { OnOk result ((left low : ℕ) → x ≤ left → y ≤ low
         → Covered places.new.items left low) }
 {
-    match places.push(Place { x, y }) {
-        Ok(()) => Ok(()),
-        Err(_) => Err(Halt::Memory),
-    }
+    places.push(Corner { x, y })?;
+    Ok(())
 }
 
 /// Lists a place again, or the two behind and above a defect that is met there.
 fn look(
-    places: &mut Vec<Place>,
+    places: &mut Vec<Corner>,
     holes: &[Defect],
-    piece: &Piece,
-    place: &Place,
+    piece: &PieceToPlace,
+    place: &Corner,
 ) -> Result<bool, Halt>
     ensures kept { OnOk result ((left low : ℕ) → Covered places.old.items left low
         → Covered places.new.items left low) }
@@ -91,10 +98,10 @@ fn look(
 
 /// Looks at each place once.
 fn look_at_all(
-    old: &[Place],
-    places: &mut Vec<Place>,
+    old: &[Corner],
+    places: &mut Vec<Corner>,
     holes: &[Defect],
-    piece: &Piece,
+    piece: &PieceToPlace,
 ) -> Result<bool, Halt>
     ensures { OnOk result ((left low : ℕ) → Covered old.now left low
         → IsFree holes.now piece.now left low → Covered places.new.items left low) }
@@ -109,23 +116,22 @@ fn look_at_all(
     Ok(changed)
 }
 
-/// Lists places in `found`: each place right of `x` and above `y` at which the piece meets no defect is right of one of them, and above it.
+/// Lists places as found: each place right of `x` and above `y` at which the piece meets no defect is right of one of them, and above it.
 pub fn least_places(
-    found: &mut Vec<Place>,
-    next: &mut Vec<Place>,
+    lists: &mut CornerLists,
     holes: &[Defect],
-    piece: &Piece,
+    piece: &PieceToPlace,
     x: u32,
     y: u32,
 ) -> Result<(), Halt>
     ensures { OnOk result ((left low : ℕ) → x ≤ left → y ≤ low → IsFree holes.now piece.now left low
-        → Covered found.new.items left low) }
+        → Covered lists.new.found.items left low) }
 {
-    found.clear();
-    push(found, x, y)?;
+    lists.found.clear();
+    push(&mut lists.found, x, y)?;
     for _ in 0..ROUNDS {
-        let changed = look_at_all(found.as_slice(), next, holes, piece)?;
-        mem::swap(found, next);
+        let changed = look_at_all(lists.found.as_slice(), &mut lists.next, holes, piece)?;
+        mem::swap(&mut lists.found, &mut lists.next);
         if !changed {
             return Ok(());
         }

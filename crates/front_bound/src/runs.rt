@@ -5,33 +5,32 @@ ghost use Rattle.glass_base.specs.Plates.{Before, Width};
 ghost use Rattle.plan_trace.specs.TraceRules.{Gap};
 ghost use Rattle.front_course.specs.Claims.{NoCourseShorter};
 ghost use Rattle.front_bound.specs.inner.Around.{IsClass, IsRoomy};
-ghost use Rattle.front_bound.specs.inner.Levels.{to_go_at};
-ghost use Rattle.front_bound.specs.inner.Pools.{HeldAt, Spreads};
-ghost use Rattle.front_bound.specs.inner.Ready.{AreFronts};
-ghost use Rattle.front_bound.specs.inner.Sets.{Fits, Held, Keeps};
-ghost use Rattle.front_bound.specs.inner.Sides.{ClassGoesOn, NextHeld, PlateGoesOn, SidesGoOn};
+ghost use Rattle.front_table.specs.Levels.{to_go_at};
+ghost use Rattle.front_table.specs.Pools.{HeldAt, Spreads};
+ghost use Rattle.front_table.specs.Ready.{AreFronts};
+ghost use Rattle.front_table.specs.Sets.{Fits, Held, Keeps};
+ghost use Rattle.front_bound.specs.Sides.{ClassGoesOn, NextHeld, PlateGoesOn, SidesGoOn};
 
-use crate::ends::shift_of;
-use crate::halt::Halt;
-use crate::labels::{Label, offer};
-use crate::levels::to_go;
 use crate::nearby::{Class, Space, new_space, place_begins};
 use crate::outset::Outset;
-use crate::pools::Pool;
-use crate::sets::SizeSet;
 use crate::sides::offer_ends;
-use crate::strips::{Limits, strips_from};
-use crate::table::Fronts;
-use crate::watch::Watch;
-use glass_base::Instance;
+use front_table::ends::shift_of;
+use front_table::fronts::Fronts;
+use front_table::halt::Halt;
+use front_table::labels::{FrontLabel, offer};
+use front_table::levels::to_go;
+use front_table::pools::LabelPool;
+use front_table::probe::Probe;
+use front_table::sets::SizeSet;
+use front_table::strips::{Limits, StripSearch, strips_from};
 use glass_base::limits::MOST_PLATES;
-use std::alloc::Global;
+use glass_base::{Instance, Listener, News};
 
 /// Offers a begin of strips behind a side, and one on the next plate where this one can end there.
 fn offer_begin(
     instance: &Instance,
-    begins: &mut Vec<Label>,
-    side: &Label,
+    begins: &mut Vec<FrontLabel>,
+    side: &FrontLabel,
     far: u64,
     most: u64,
 ) -> Result<(), Halt>
@@ -57,7 +56,7 @@ fn offer_begin(
     if instance.before(plate + 1).saturating_add(far) > most {
         return Ok(());
     }
-    let next = Label {
+    let next = FrontLabel {
         along: SizeSet::only(0),
         across: SizeSet::only(plate + 1),
         right: 0,
@@ -70,8 +69,8 @@ fn offer_begin(
 /// All begins of strips behind these sides.
 fn begins_of(
     instance: &Instance,
-    begins: &mut Vec<Label>,
-    sides: &[Label],
+    begins: &mut Vec<FrontLabel>,
+    sides: &[FrontLabel],
     far: u64,
     most: u64,
 ) -> Result<(), Halt>
@@ -88,7 +87,7 @@ fn begins_of(
 }
 
 /// The least of these and of where strips can begin by a label on a plate.
-fn first_by(begin: &Label, plate: u32, least: u32) -> u32
+fn first_by(begin: &FrontLabel, plate: u32, least: u32) -> u32
     ensures least { result ≤ least }
     ensures begin { (from : ℕ) → Fits begin.now from plate → result ≤ from }
 {
@@ -99,7 +98,7 @@ fn first_by(begin: &Label, plate: u32, least: u32) -> u32
 }
 
 /// No strip can begin on a plate before this.
-fn first_at(begins: &[Label], plate: u32) -> u32
+fn first_at(begins: &[FrontLabel], plate: u32) -> u32
     ensures { (from : ℕ) → Held begins.now from plate → result ≤ from }
 {
     let mut least = u32::MAX;
@@ -113,16 +112,17 @@ fn first_at(begins: &[Label], plate: u32) -> u32
 fn handle_class(
     outset: &Outset<'_>,
     space: &mut Space,
-    sides: &mut Pool,
-    begins: &[Label],
+    sides: &mut LabelPool,
+    begins: &[FrontLabel],
     class: &Class,
 ) -> Result<(), Halt>
     requires space { IsRoomy outset.now.fronts.rows.now space.old }
     requires sides { length sides.old ≡ length outset.now.fronts.rows.now }
-    requires class { IsClass outset.now.instance.now outset.now.fronts class.now }
+    requires class { IsClass outset.now.fronts class.now }
     ensures space { OnOk result (IsRoomy outset.now.fronts.rows.now space.new) }
     ensures spreads { OnOk result (Spreads outset.now.row sides.old sides.new) }
-    ensures goes_on { OnOk result (ClassGoesOn outset.now.instance.now outset.now.fronts.rows.now
+    ensures goes_on { OnOk result
+        (ClassGoesOn outset.now.fronts.instance.now outset.now.fronts.rows.now
         (to_go_at outset.now.fronts.levels.now) outset.now.most sides.new outset.now.row begins.now
         class.now.plate class.now.low class.now.limits.top class.now.room class.now.limits.most) }
 {
@@ -135,15 +135,13 @@ fn handle_class(
     if clear.is_empty() {
         return Ok(());
     }
-    strips_from(
-        &mut space.strips,
-        outset.fronts.rows,
-        outset.fronts.levels,
-        &class.limits,
-        outset.row,
-        class.low,
-        outset.instance.params().waste,
-    )?;
+    let search = StripSearch {
+        fronts: outset.fronts,
+        limits: class.limits,
+        start: outset.row,
+    };
+    let waste = outset.fronts.instance.params().waste;
+    strips_from(&mut space.strips, &search, class.low, waste)?;
     offer_ends(outset, sides, &space.strips, clear, class.plate)?;
     Ok(())
 }
@@ -152,8 +150,8 @@ fn handle_class(
 fn handle_plate(
     outset: &Outset<'_>,
     space: &mut Space,
-    sides: &mut Pool,
-    begins: &[Label],
+    sides: &mut LabelPool,
+    begins: &[FrontLabel],
     plate: u32,
 ) -> Result<(), Halt>
     requires space { IsRoomy outset.now.fronts.rows.now space.old }
@@ -161,11 +159,12 @@ fn handle_plate(
     requires plate { plate ≤ MOST_PLATES }
     ensures space { OnOk result (IsRoomy outset.now.fronts.rows.now space.new) }
     ensures spreads { OnOk result (Spreads outset.now.row sides.old sides.new) }
-    ensures goes_on { OnOk result (PlateGoesOn outset.now.instance.now outset.now.fronts.rows.now
+    ensures goes_on { OnOk result
+        (PlateGoesOn outset.now.fronts.instance.now outset.now.fronts.rows.now
         (to_go_at outset.now.fronts.levels.now) outset.now.most sides.new outset.now.row begins.now
-        plate (outset.now.instance.now.params.max1 + 1)) }
+        plate (outset.now.fronts.instance.now.params.max1 + 1)) }
 {
-    let instance = outset.instance;
+    let instance = outset.fronts.instance;
     let params = instance.params();
     let tops = outset.fronts.tops;
     let first = first_at(begins, plate);
@@ -207,19 +206,20 @@ fn handle_plate(
 fn handle_plates(
     outset: &Outset<'_>,
     space: &mut Space,
-    sides: &mut Pool,
-    begins: &[Label],
+    sides: &mut LabelPool,
+    begins: &[FrontLabel],
 ) -> Result<(), Halt>
     requires space { IsRoomy outset.now.fronts.rows.now space.old }
     requires sides { length sides.old ≡ length outset.now.fronts.rows.now }
     ensures space { OnOk result (IsRoomy outset.now.fronts.rows.now space.new) }
     ensures spreads { OnOk result (Spreads outset.now.row sides.old sides.new) }
-    ensures goes_on { OnOk result ((plate : ℕ) → plate < outset.now.instance.now.params.plates
-        → PlateGoesOn outset.now.instance.now outset.now.fronts.rows.now
+    ensures goes_on { OnOk result
+        ((plate : ℕ) → plate < outset.now.fronts.instance.now.params.plates
+        → PlateGoesOn outset.now.fronts.instance.now outset.now.fronts.rows.now
         (to_go_at outset.now.fronts.levels.now) outset.now.most sides.new outset.now.row begins.now
-        plate (outset.now.instance.now.params.max1 + 1)) }
+        plate (outset.now.fronts.instance.now.params.max1 + 1)) }
 {
-    let plates = outset.instance.params().plates;
+    let plates = outset.fronts.instance.params().plates;
     if plates > MOST_PLATES {
         return Err(Halt::Limit);
     }
@@ -233,19 +233,20 @@ fn handle_plates(
 fn handle_row(
     outset: &Outset<'_>,
     space: &mut Space,
-    sides: &mut Pool,
-    begins: &mut Vec<Label>,
+    sides: &mut LabelPool,
+    begins: &mut Vec<FrontLabel>,
 ) -> Result<(), Halt>
     requires space { IsRoomy outset.now.fronts.rows.now space.old }
     requires sides { length sides.old ≡ length outset.now.fronts.rows.now }
     ensures space { OnOk result (IsRoomy outset.now.fronts.rows.now space.new) }
     ensures spreads { OnOk result (Spreads outset.now.row sides.old sides.new) }
-    ensures goes_on { OnOk result (SidesGoOn outset.now.instance.now outset.now.fronts.rows.now
+    ensures goes_on { OnOk result
+        (SidesGoOn outset.now.fronts.instance.now outset.now.fronts.rows.now
         (to_go_at outset.now.fronts.levels.now) outset.now.most sides.new outset.now.row) }
 {
     let far = to_go(outset.fronts.levels, outset.row);
     begins_of(
-        outset.instance,
+        outset.fronts.instance,
         begins,
         sides.labels(outset.row),
         far,
@@ -256,7 +257,7 @@ fn handle_row(
 }
 
 /// The lesser of a length and of where a plate can end at a side, with all plates before it in one line.
-pub fn end_by(instance: &Instance, side: &Label, least: u64) -> u64
+pub fn end_by(instance: &Instance, side: &FrontLabel, least: u64) -> u64
     ensures least { result ≤ least }
     ensures side { (right plate : ℕ) → Fits side.now right plate
         → plate < instance.now.params.plates
@@ -281,7 +282,7 @@ pub fn end_by(instance: &Instance, side: &Label, least: u64) -> u64
 }
 
 /// The least length at which a plate can end at one of the sides, or a length where that is less.
-fn least_end(instance: &Instance, sides: &[Label], most: u64) -> u64
+fn least_end(instance: &Instance, sides: &[FrontLabel], most: u64) -> u64
     ensures most { result ≤ most }
     ensures ends { (right plate : ℕ) → Held sides.now right plate
         → plate < instance.now.params.plates
@@ -296,27 +297,24 @@ fn least_end(instance: &Instance, sides: &[Label], most: u64) -> u64
 }
 
 /// The right sides at which strips can end, front by front, as far as they and what is to go are within `most`.
-pub fn sides_within<W: Watch>(
-    alloc: Global,
-    instance: &Instance,
+pub fn sides_within<L: Listener>(
+    probe: &Probe<'_, L>,
     fronts: &Fronts<'_>,
     most: u64,
-    limit: u64,
-    watch: &W,
-) -> Result<Pool, Halt>
+) -> Result<LabelPool, Halt>
     requires some { 1 < length fronts.now.rows.now }
-    requires fronts { AreFronts instance.now fronts.now }
+    requires fronts { AreFronts fronts.now }
     ensures len { IfOk result (λ sides. length sides ≡ length fronts.now.rows.now) }
     ensures start { IfOk result (λ sides. HeldAt sides (length fronts.now.rows.now - 1) 0 0) }
     ensures goes_on { IfOk result (λ sides. (n : ℕ) → 0 < n → n < length fronts.now.rows.now
-        → SidesGoOn instance.now fronts.now.rows.now
+        → SidesGoOn fronts.now.instance.now fronts.now.rows.now
         (to_go_at fronts.now.levels.now) most sides n) }
 {
-    let mut sides = Pool::new(alloc, fronts.rows.len(), limit)?;
-    let mut space = new_space(alloc, fronts.rows, limit)?;
-    let mut begins = Vec::new(alloc);
+    let mut sides = LabelPool::new(probe.alloc, fronts.rows.len(), probe.limit)?;
+    let mut space = new_space(probe.alloc, fronts.rows, probe.limit)?;
+    let mut begins = Vec::new(probe.alloc);
     let first = fronts.rows.len() - 1;
-    let start = Label {
+    let start = FrontLabel {
         along: SizeSet::only(0),
         across: SizeSet::only(0),
         right: 0,
@@ -324,9 +322,8 @@ pub fn sides_within<W: Watch>(
     };
     sides.offer(first, &start)?;
     for done in 0..first {
-        watch.looks(done, first);
+        probe.listener.hear(News::Fronts { done, all: first });
         let outset = Outset {
-            instance,
             fronts: *fronts,
             row: first - done,
             most,
@@ -337,20 +334,17 @@ pub fn sides_within<W: Watch>(
 }
 
 /// A length that no course is below, as far as what is known of all fronts tells: the least one up to `most`, or more than that where none is so short.
-pub fn least_reached<W: Watch>(
-    alloc: Global,
-    instance: &Instance,
+pub fn least_reached<L: Listener>(
+    probe: &Probe<'_, L>,
     fronts: &Fronts<'_>,
     most: u64,
-    limit: u64,
-    watch: &W,
 ) -> Result<u64, Halt>
-    requires { AreFronts instance.now fronts.now }
-    ensures { IfOk result (NoCourseShorter instance.now) }
+    requires { AreFronts fronts.now }
+    ensures { IfOk result (NoCourseShorter fronts.now.instance.now) }
 {
     if fronts.rows.len() <= 1 {
         return Ok(0);
     }
-    let sides = sides_within(alloc, instance, fronts, most, limit, watch)?;
-    Ok(least_end(instance, sides.labels(0), most.saturating_add(1)))
+    let sides = sides_within(probe, fronts, most)?;
+    Ok(least_end(fronts.instance, sides.labels(0), most.saturating_add(1)))
 }

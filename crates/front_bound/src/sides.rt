@@ -3,26 +3,26 @@
 ghost use Rattle.std.specs.Prelude.{◌≡◌, ℕ, suc, ◌+◌, ◌*◌, ◌<◌, ◌≤◌, length, OnOk};
 ghost use Rattle.glass_base.specs.Plates.{Before, Width};
 ghost use Rattle.plan_trace.specs.TraceRules.{Gap};
-ghost use Rattle.front_bound.specs.inner.Levels.{to_go_at};
-ghost use Rattle.front_bound.specs.inner.Pools.{HeldAt, Spreads};
-ghost use Rattle.front_bound.specs.inner.Sets.{Fits, Has, Held};
-ghost use Rattle.front_bound.specs.inner.Sides.{EndsHeld, NextHeld};
+ghost use Rattle.front_table.specs.Levels.{to_go_at};
+ghost use Rattle.front_table.specs.Pools.{HeldAt, Spreads};
+ghost use Rattle.front_table.specs.Sets.{Fits, Has, Held};
+ghost use Rattle.front_bound.specs.Sides.{EndsHeld, NextHeld};
 
 use crate::ending::Ending;
-use crate::halt::Halt;
-use crate::labels::{Label, offer};
-use crate::levels::to_go;
 use crate::outset::Outset;
-use crate::pools::Pool;
-use crate::sets::SizeSet;
+use front_table::halt::Halt;
+use front_table::labels::{FrontLabel, offer};
+use front_table::levels::to_go;
+use front_table::pools::LabelPool;
+use front_table::sets::SizeSet;
 use glass_base::limits::MOST_PLATES;
 
 /// Offers the right sides of a strip, whose widths a label stands for, behind what a label of the same plate stands for.
 fn offer_end(
     ending: &Ending<'_>,
-    sides: &mut Pool,
-    begin: &Label,
-    strip: &Label,
+    sides: &mut LabelPool,
+    begin: &FrontLabel,
+    strip: &FrontLabel,
 ) -> Result<(), Halt>
     requires { ending.now.row < length sides.old }
     ensures spreads { OnOk result (Spreads (ending.now.row + 1) sides.old sides.new) }
@@ -42,7 +42,7 @@ fn offer_end(
     if end > ending.most {
         return Ok(());
     }
-    let side = Label {
+    let side = FrontLabel {
         along: sum.closed(instance.params().waste),
         across: SizeSet::only(plate),
         right: 0,
@@ -52,12 +52,12 @@ fn offer_end(
     Ok(())
 }
 
-/// The same, where the begin is on the plate.
+/// Offers the right sides of a strip behind what a label stands for, where that is on the plate.
 fn offer_end_of(
     ending: &Ending<'_>,
-    sides: &mut Pool,
-    begin: &Label,
-    strip: &Label,
+    sides: &mut LabelPool,
+    begin: &FrontLabel,
+    strip: &FrontLabel,
 ) -> Result<(), Halt>
     requires { ending.now.row < length sides.old }
     ensures spreads { OnOk result (Spreads (ending.now.row + 1) sides.old sides.new) }
@@ -68,16 +68,15 @@ fn offer_end_of(
     if !begin.across.has(ending.plate) {
         return Ok(());
     }
-    offer_end(ending, sides, begin, strip)?;
-    Ok(())
+    offer_end(ending, sides, begin, strip)
 }
 
 /// Offers the right sides of a strip behind each of the begins.
 fn offer_ends_of(
     ending: &Ending<'_>,
-    sides: &mut Pool,
-    begins: &[Label],
-    strip: &Label,
+    sides: &mut LabelPool,
+    begins: &[FrontLabel],
+    strip: &FrontLabel,
 ) -> Result<(), Halt>
     requires { ending.now.row < length sides.old }
     ensures spreads { OnOk result (Spreads (ending.now.row + 1) sides.old sides.new) }
@@ -91,12 +90,12 @@ fn offer_ends_of(
     Ok(())
 }
 
-/// The same, where the strip fills the plate's height.
+/// Offers the right sides of a strip behind each of the begins, where it fills the plate's height.
 fn offer_ends_by(
     ending: &Ending<'_>,
-    sides: &mut Pool,
-    begins: &[Label],
-    strip: &Label,
+    sides: &mut LabelPool,
+    begins: &[FrontLabel],
+    strip: &FrontLabel,
     height: u32,
 ) -> Result<(), Halt>
     requires { ending.now.row < length sides.old }
@@ -108,16 +107,15 @@ fn offer_ends_by(
     if !strip.along.has(height) {
         return Ok(());
     }
-    offer_ends_of(ending, sides, begins, strip)?;
-    Ok(())
+    offer_ends_of(ending, sides, begins, strip)
 }
 
 /// Offers the right sides of the strips that end at a row behind each of the begins.
 fn offer_ends_at(
     ending: &Ending<'_>,
-    sides: &mut Pool,
-    begins: &[Label],
-    strips: &[Label],
+    sides: &mut LabelPool,
+    begins: &[FrontLabel],
+    strips: &[FrontLabel],
     height: u32,
 ) -> Result<(), Halt>
     requires { ending.now.row < length sides.old }
@@ -135,9 +133,9 @@ fn offer_ends_at(
 /// Offers the right sides of all strips of a search behind each of the begins.
 pub fn offer_ends(
     outset: &Outset<'_>,
-    sides: &mut Pool,
-    pool: &Pool,
-    begins: &[Label],
+    sides: &mut LabelPool,
+    pool: &LabelPool,
+    begins: &[FrontLabel],
     plate: u32,
 ) -> Result<(), Halt>
     requires sides { outset.now.row < length sides.old }
@@ -145,16 +143,16 @@ pub fn offer_ends(
     requires plate { plate ≤ MOST_PLATES }
     ensures spreads { OnOk result (Spreads outset.now.row sides.old sides.new) }
     ensures held { OnOk result ((m from width : ℕ) → m < outset.now.row → Held begins.now from plate
-        → HeldAt pool.now m outset.now.instance.now.params.height width
-        → EndsHeld outset.now.instance.now
+        → HeldAt pool.now m outset.now.fronts.instance.now.params.height width
+        → EndsHeld outset.now.fronts.instance.now
         (to_go_at outset.now.fronts.levels.now m) outset.now.most sides.new m plate from width) }
 {
-    let height = outset.instance.params().height;
+    let height = outset.fronts.instance.params().height;
     let low = pool.low();
     for row in low..outset.row {
         let far = to_go(outset.fronts.levels, row);
         let ending = Ending {
-            instance: outset.instance,
+            instance: outset.fronts.instance,
             plate,
             row,
             far,

@@ -3,15 +3,15 @@
 ghost use Rattle.std.specs.Prelude.{◌<◌, ◌≤◌, IfNone, IfSome, length};
 ghost use Rattle.front_bound.specs.inner.Placed.{IsStretch, IsSlack, NoneGoesOn};
 
-use crate::ends::near;
-use crate::labels::Label;
-use crate::levels::ends_of;
 use crate::stretch::Stretch;
-use crate::strips::glass_above;
+use front_table::ends::near;
+use front_table::labels::FrontLabel;
+use front_table::levels::ends_of;
+use front_table::strips::glass_above;
 
 /// How much a band by which a label of a row goes on may leave beside and over its cells, in mm²; none where no strip can still end near enough.
-pub fn slack_of(stretch: &Stretch<'_>, row: usize, label: &Label) -> Option<u64>
-    requires row { row < length stretch.now.levels.now }
+pub fn slack_of(stretch: &Stretch<'_>, row: usize, label: &FrontLabel) -> Option<u64>
+    requires row { row < length stretch.now.fronts.levels.now }
     requires stretch { IsStretch stretch.now }
     ensures none { IfNone result (NoneGoesOn stretch.now row label.now) }
     ensures slack { IfSome result (IsSlack stretch.now row label.now) }
@@ -26,7 +26,7 @@ pub fn slack_of(stretch: &Stretch<'_>, row: usize, label: &Label) -> Option<u64>
         return None;
     }
     let within = (limits.most - wide).min(stretch.reach - end);
-    let Some(area) = near(ends_of(stretch.levels, row), within) else {
+    let Some(area) = near(ends_of(stretch.fronts.levels, row), within) else {
         return None;
     };
     let whole = glass_above(limits.top, limits.height, label.up);
@@ -37,8 +37,8 @@ pub fn slack_of(stretch: &Stretch<'_>, row: usize, label: &Label) -> Option<u64>
 }
 
 /// The greater of a slack and of that of one of a row's labels, where this one reaches up to `up`.
-fn more_slack(stretch: &Stretch<'_>, row: usize, label: &Label, up: u32, slack: u64) -> u64
-    requires row { row < length stretch.now.levels.now }
+fn more_slack(stretch: &Stretch<'_>, row: usize, label: &FrontLabel, up: u32, slack: u64) -> u64
+    requires row { row < length stretch.now.fronts.levels.now }
     requires stretch { IsStretch stretch.now }
     ensures { slack ≤ result }
 {
@@ -52,8 +52,14 @@ fn more_slack(stretch: &Stretch<'_>, row: usize, label: &Label, up: u32, slack: 
 }
 
 /// The greatest of a slack and of those of a row's labels that reach up to `up`.
-pub fn most_slack(stretch: &Stretch<'_>, row: usize, labels: &[Label], up: u32, slack: u64) -> u64
-    requires row { row < length stretch.now.levels.now }
+pub fn most_slack(
+    stretch: &Stretch<'_>,
+    row: usize,
+    labels: &[FrontLabel],
+    up: u32,
+    slack: u64,
+) -> u64
+    requires row { row < length stretch.now.fronts.levels.now }
     requires stretch { IsStretch stretch.now }
     ensures { slack ≤ result }
 {

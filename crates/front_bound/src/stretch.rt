@@ -1,13 +1,12 @@
 //! What a search for strips around defects looks at.
 
-use crate::levels::Level;
-use crate::rows::Row;
-use crate::strips::Limits;
+use front_table::fronts::Fronts;
+use front_table::strips::Limits;
 use glass_base::Defect;
 
 /// Where strips begin, and how far they may reach, in mm.
 #[derive(Clone, Copy)]
-pub struct Site {
+pub struct StripBegin {
     pub left: u32,
     pub room: u32,
     pub height: u32,
@@ -20,10 +19,9 @@ pub struct Site {
 /// The stretch of a plate behind a left side, with the defects that lie there: which strips are looked for on it, and all fronts.
 #[derive(Clone, Copy)]
 pub struct Stretch<'a> {
-    pub rows: &'a [Row],
-    pub levels: &'a [Level],
+    pub fronts: Fronts<'a>,
     pub limits: Limits,
-    pub site: Site,
+    pub site: StripBegin,
     /// The defects behind the place where the strips begin, and those of them that lie within their widest.
     pub holes: &'a [Defect],
     pub near: &'a [Defect],

@@ -1,4 +1,5 @@
-//! What every crate of Glass stands on: lists with room taken ahead of time, parameters, items, defects, instances.
+//! What every crate of Glass stands on: lists with room taken ahead of time, parameters, items, defects, instances, and who
+//! is told how far the work is.
 #![tactic(auto)]
 
 pub mod bad_text;
@@ -7,6 +8,7 @@ pub mod instance;
 pub mod item;
 pub mod laws;
 pub mod limits;
+pub mod listener;
 pub mod memory;
 pub mod params;
 mod plates;
@@ -19,6 +21,7 @@ pub use bad_text::BadText;
 pub use digits::are_digits;
 pub use instance::{BadInstance, Instance};
 pub use item::{Defect, Item};
+pub use listener::{Listener, News, Nobody};
 pub use memory::Memory;
 pub use params::{BadParams, Params};
 pub use plates::same_widths;

@@ -1,9 +1,7 @@
 //! Parameters before their rules are checked.
 
-ghost use Rattle.std.specs.Prelude.{◌≡◌, ◌↔◌, IsOk, IfOk, IfErr};
-ghost use Rattle.glass_base.specs.Sizes.{AreAccepted, AreSizes, RefusesSizes, usual_sizes};
-
-use crate::params::{BadParams, Params};
+ghost use Rattle.std.specs.Prelude.{◌≡◌};
+ghost use Rattle.glass_base.specs.Sizes.{usual_sizes};
 
 /// Parameters that are not yet checked: the number of plates, and sizes in mm. The fields are those of `Params`.
 #[derive(Clone, Copy, Debug)]
@@ -32,23 +30,5 @@ impl Sizes {
             min2: 100,
             waste: 20,
         }
-    }
-
-    /// The parameters of these sizes where they keep the rules of `Params::check`, and the first rule that they break
-    /// otherwise.
-    pub fn check(self) -> Result<Params, BadParams>
-        ensures accepted { IsOk result ↔ AreAccepted self }
-        ensures made { IfOk result (λ p. AreSizes p self) }
-        ensures refused { IfErr result (λ e. RefusesSizes e self) }
-    {
-        Params::check(
-            self.plates,
-            self.width,
-            self.height,
-            self.min1,
-            self.max1,
-            self.min2,
-            self.waste,
-        )
     }
 }

@@ -15,12 +15,12 @@ use Rattle.run_checks.specs.FrozenChecks.{NotAcceptedBehind, VerifiesBehind, Ver
 use Rattle.run_checks.specs.Checks.NotAccepted.{bad_cert, bad_plan, bad_tree, broken_plan}
 use Rattle.glass_run.specs.Commands.{Answers, AnswersInstance, cert_name}
 use Rattle.command_line.specs.Grammar.{Line, count_in}
-use Rattle.command_line.specs.declared.grammar.Count.TheVariants as count
+use Rattle.command_line.specs.declared.kinds.Count.TheVariants as count
 use Rattle.glass_run.specs.Headlines.{Accepts, Ended, FindsRight, ReadBy, StoresConverted}
 use Rattle.run_frame.specs.Runs.{Completes, Prints, Stands, World}
 use Rattle.run_frame.specs.Texts.{Texts, limit_of, text_for, text_or_empty}
-use Rattle.command_line.specs.declared.grammar.Verb.{Verb}
-use Rattle.command_line.specs.declared.grammar.Verb.TheVariants as verb
+use Rattle.command_line.specs.declared.kinds.Verb.{Verb}
+use Rattle.command_line.specs.declared.kinds.Verb.TheVariants as verb
 use Rattle.run_frame.specs.declared.status.Status.{Status}
 use Rattle.run_frame.specs.declared.status.Status.TheVariants as status
 use Rattle.run_checks.proofs.RaisedBounds.{bounds_behind}

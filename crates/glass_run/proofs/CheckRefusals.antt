@@ -18,8 +18,8 @@ use Rattle.run_checks.specs.Checks.NoLawfulPlan.{bad_text, unlawful_plan}
 use Rattle.run_checks.specs.Checks.NotAccepted.{bad_cert, bad_plan, bad_tree, broken_plan}
 use Rattle.glass_run.specs.Commands.{Answers, AnswersInstance, cert_name, plan_name}
 use Rattle.command_line.specs.Grammar.{Line, count_in, flag_in}
-use Rattle.command_line.specs.declared.grammar.Count.TheVariants as count
-use Rattle.command_line.specs.declared.grammar.Flag.TheVariants as flag
+use Rattle.command_line.specs.declared.kinds.Count.TheVariants as count
+use Rattle.command_line.specs.declared.kinds.Flag.TheVariants as flag
 use Rattle.run_plans.specs.Judgements.{IsFirstBroken, unlawful as unlawful_of}
 use Rattle.glass_run.specs.Headlines.{Ended, FindsUnlawful, FindsWrong, IsCheck, IsJudging, ReadBy}
 use Rattle.run_search.specs.Plans.{PlansFrom, PlansWithin, planned}
@@ -27,8 +27,8 @@ use Rattle.run_search.specs.Resumptions.{GoesOn, GoesOnWithin, Resumes, too_long
 use Rattle.run_frame.specs.Runs.{Completes, Prints, Stands, World}
 use Rattle.run_checks.specs.Said.{IsPlanIn}
 use Rattle.run_frame.specs.Texts.{Texts, limit_of, text_for, text_or_empty}
-use Rattle.command_line.specs.declared.grammar.Verb.{Verb}
-use Rattle.command_line.specs.declared.grammar.Verb.TheVariants as verb
+use Rattle.command_line.specs.declared.kinds.Verb.{Verb}
+use Rattle.command_line.specs.declared.kinds.Verb.TheVariants as verb
 use Rattle.run_frame.specs.declared.status.Status.{Status}
 use Rattle.run_frame.specs.declared.status.Status.TheVariants as status
 use Rattle.glass_run.proofs.FreezeHeadline.{unlawful_freeze}
@@ -190,7 +190,6 @@ check_reads verb.Resume is = tt
 check_reads verb.Freeze is = absurd is
 check_reads verb.Sheet is = absurd is
 check_reads verb.Replay is = absurd is
-check_reads verb.Picture is = absurd is
 
 -- an answer of a check that refuses a plan or a certificate is one to what is not accepted
 not_done : (check : Verb) (line : Line) (held : Contents) (answer : Answer) → IsCheck check → line.verb ≡ check → IsRefusal answer.status → (s : Says line held answer) →
@@ -202,7 +201,6 @@ not_done verb.Judge line held answer check of is s = absurd check
 not_done verb.Freeze line held answer check of is s = absurd check
 not_done verb.Sheet line held answer check of is s = absurd check
 not_done verb.Replay line held answer check of is s = absurd check
-not_done verb.Picture line held answer check of is s = absurd check
 not_done verb.Verify line held answer check of is s =
     by (count_in line count.Frozen) (subst (λ (v : Verb). AnswersInstance v line s.texts s.b answer) of s.answers)
   where
@@ -287,4 +285,3 @@ judged_unlawful_by words line held old new verb.Resume is e = unlawful_check wor
 judged_unlawful_by words line held old new verb.Freeze is e = unlawful_freeze words line held old new e
 judged_unlawful_by words line held old new verb.Sheet is e = unlawful_sheet words line held old new e
 judged_unlawful_by words line held old new verb.Replay is e = absurd is
-judged_unlawful_by words line held old new verb.Picture is e = absurd is

@@ -19,10 +19,10 @@ use Rattle.plan_freeze.proofs.FrozenLaw.{rest_is_planned, rest_loses, whole_is_f
 use Rattle.cert_log.specs.declared.certificate.Certificate.{Certificate}
 use Rattle.cert_log.specs.Texts.{cert_text}
 use Rattle.command_line.specs.Grammar.{Line, count_in, files_of, flag_in}
-use Rattle.command_line.specs.declared.grammar.Count.TheVariants as count
-use Rattle.command_line.specs.declared.grammar.Flag.TheVariants as flag
-use Rattle.command_line.specs.declared.grammar.Verb.{Verb}
-use Rattle.command_line.specs.declared.grammar.Verb.TheVariants as verb
+use Rattle.command_line.specs.declared.kinds.Count.TheVariants as count
+use Rattle.command_line.specs.declared.kinds.Flag.TheVariants as flag
+use Rattle.command_line.specs.declared.kinds.Verb.{Verb}
+use Rattle.command_line.specs.declared.kinds.Verb.TheVariants as verb
 use Rattle.run_frame.specs.Answers.{Answer}
 use Rattle.glass_run.specs.Commands.{Answers, AnswersInstance, cert_name, plan_name}
 use Rattle.glass_run.specs.FreezeHeadlines.{HandlesEachBoxBehind, StoresFreeze, StoresWhole, frozen_in, whole_of}

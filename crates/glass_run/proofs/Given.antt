@@ -14,12 +14,12 @@ use Rattle.glass_run.specs.inner.Asked.{IsAsked, IsAskedOf}
 use Rattle.run_frame.specs.Forms.{OnTold, Tells}
 use Rattle.run_frame.specs.declared.notices.Stop.{Stop}
 use Rattle.run_frame.specs.declared.notices.Stop.TheVariants as stop
-use Rattle.command_line.specs.declared.grammar.Verb.{Verb}
-use Rattle.command_line.specs.declared.grammar.Verb.TheVariants as verb
+use Rattle.command_line.specs.declared.kinds.Verb.{Verb}
+use Rattle.command_line.specs.declared.kinds.Verb.TheVariants as verb
 use Rattle.command_line.specs.Grammar.{Line, count_in, files_of, flag_in, stored_as}
-use Rattle.command_line.specs.declared.grammar.Product.TheVariants as product
-use Rattle.command_line.specs.declared.grammar.Count.TheVariants as count
-use Rattle.command_line.specs.declared.grammar.Flag.TheVariants as flag
+use Rattle.command_line.specs.declared.kinds.Product.TheVariants as product
+use Rattle.command_line.specs.declared.kinds.Count.TheVariants as count
+use Rattle.command_line.specs.declared.kinds.Flag.TheVariants as flag
 use Rattle.run_plans.specs.Replays.{ReplaysText}
 use Rattle.run_search.specs.Plans.{PlansWithin}
 use Rattle.run_search.specs.Resumptions.{Resumes}
@@ -88,3 +88,8 @@ said_instance line texts b answer is h = inl (b, is, h)
 pub said_none : (line : Line) (texts : Texts) (s : Stop) (answer : Answer) → OnTold (HasNoInstance line.verb texts) s → Tells s answer → AnswersTexts line texts answer
 said_none line texts stop.Memory answer refused is = absurd is
 said_none line texts (stop.Told notice) answer refused is = inr (subst (λ (a : Answer). HasNoInstance line.verb texts a) (sym is) refused)
+
+-- what is told by files that tell, where more is known of it
+pub told_too : (told : Option Contents) (P Q : Contents → Type 0) → IfSome told P → ((contents : Contents) → P contents → Q contents) → IfSome told Q
+told_too None P Q h more = tt
+told_too (Some contents) P Q h more = more contents h

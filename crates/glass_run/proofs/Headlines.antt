@@ -18,8 +18,8 @@ use Rattle.glass_run.specs.Headlines.{Ended, FindsLawful, FindsNoDraft, FindsUnl
 use Rattle.run_plans.specs.Judgements.{Judges, JudgesSaid}
 use Rattle.run_frame.specs.Runs.{AnswersTold, Completes, Prints, Stands, World}
 use Rattle.run_frame.specs.Texts.{AnswersFetched, Texts, text_for, text_or_empty, texts_of}
-use Rattle.command_line.specs.declared.grammar.Verb.{Verb}
-use Rattle.command_line.specs.declared.grammar.Verb.TheVariants as verb
+use Rattle.command_line.specs.declared.kinds.Verb.{Verb}
+use Rattle.command_line.specs.declared.kinds.Verb.TheVariants as verb
 use Rattle.run_frame.specs.declared.status.Status.{Status}
 use Rattle.run_frame.specs.declared.status.Status.TheVariants as status
 use Rattle.run_frame.proofs.Statuses.{IsRefused, Refuses, texts_refuse}
@@ -39,7 +39,6 @@ rules_of verb.Resume line texts b h = h.made.rules
 rules_of verb.Freeze line texts b h = h.made.rules
 rules_of verb.Sheet line texts b h = h.made.rules
 rules_of verb.Replay line texts b h = h.made.rules
-rules_of verb.Picture line texts b h = h.made.rules
 
 -- the commands whose files say an instance, the defects among them
 abbrev pub ReadsInstance : Verb → Type 0
@@ -58,7 +57,6 @@ instance_read verb.Resume line texts b reads h = h
 instance_read verb.Freeze line texts b reads h = h
 instance_read verb.Sheet line texts b reads h = h
 instance_read verb.Replay line texts b reads h = h
-instance_read verb.Picture line texts b reads h = h
 
 pub read_by : (of : Verb) (line : Line) (held : Contents) (texts : Texts) (b : Problem) → ReadsInstance of → line.verb ≡ of → SaidBy line held texts b → ReadBy line held texts b
 read_by of line held texts b reads is said = record { texts_are = said.texts_are; instance_is = instance_read of line texts b reads (subst (λ (v : Verb). HasInstance v line texts b) is said.instance_is) }

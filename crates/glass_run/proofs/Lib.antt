@@ -1,4 +1,3 @@
-pub mod Commanded
 pub mod Given
 pub mod Statuses
 pub mod Headlines

@@ -20,10 +20,10 @@ use Rattle.run_checks.specs.Checks.{NoLawfulPlan, root_ranges}
 use Rattle.run_checks.specs.Checks.NoLawfulPlan.{bad_text, unlawful_plan}
 use Rattle.run_frame.specs.Texts.{Texts, text_for}
 use Rattle.run_frame.specs.Runs.{Completes, LineRun, Prints, Stands, World}
-use Rattle.command_line.specs.declared.grammar.Count.TheVariants as count
-use Rattle.command_line.specs.declared.grammar.Flag.TheVariants as flag
-use Rattle.command_line.specs.declared.grammar.Verb.{Verb}
-use Rattle.command_line.specs.declared.grammar.Verb.TheVariants as verb
+use Rattle.command_line.specs.declared.kinds.Count.TheVariants as count
+use Rattle.command_line.specs.declared.kinds.Flag.TheVariants as flag
+use Rattle.command_line.specs.declared.kinds.Verb.{Verb}
+use Rattle.command_line.specs.declared.kinds.Verb.TheVariants as verb
 use Rattle.run_frame.specs.declared.status.Status.{Status}
 use Rattle.run_frame.specs.declared.status.Status.TheVariants as status
 use Rattle.glass_run.proofs.Headlines.{Says, completed_says}
@@ -128,7 +128,6 @@ plans_by verb.Resume is line texts b answer h = absurd is
 plans_by verb.Freeze is line texts b answer h = absurd is
 plans_by verb.Sheet is line texts b answer h = absurd is
 plans_by verb.Replay is line texts b answer h = absurd is
-plans_by verb.Picture is line texts b answer h = absurd is
 
 stores_search : (line : Line) (held : Contents) (old new : World) (answer : Answer) (result : Status) (search : Verb) → IsSearch search → line.verb ≡ search → IsSearchEnd result → result ≡ answer.status → Says line held answer →
     Stands answer.stores old.shelf.contents new.shelf.contents → Prints answer.lines old.paper new.paper → StoresSearch line held old new result × HandlesEachBox line held old new

@@ -23,10 +23,10 @@ use Rattle.plan_csv.specs.declared.bad_plan.BadPlan.{BadPlan}
 use Rattle.plan_csv.proofs.TreesInRange.{read_fits}
 use Rattle.run_frame.specs.Answers.{Answer}
 use Rattle.glass_run.specs.Commands.{Answers, AnswersInstance}
-use Rattle.command_line.specs.declared.grammar.Product.TheVariants as product
+use Rattle.command_line.specs.declared.kinds.Product.TheVariants as product
 use Rattle.command_line.specs.Grammar.{stored_as, Line}
-use Rattle.command_line.specs.declared.grammar.Verb.{Verb}
-use Rattle.command_line.specs.declared.grammar.Verb.TheVariants as verb
+use Rattle.command_line.specs.declared.kinds.Verb.{Verb}
+use Rattle.command_line.specs.declared.kinds.Verb.TheVariants as verb
 use Rattle.glass_run.specs.Headlines.{Ended, FindsUnlawful}
 use Rattle.run_plans.specs.Replays.{Follows, ReplaysText, SheetRefused, followed}
 use Rattle.run_frame.specs.Runs.{Completes, Prints, Stands, World}

@@ -3,8 +3,8 @@ use Rattle.run_frame.specs.Answers.{Answer}
 use Rattle.run_frame.specs.Texts.{Texts}
 use Rattle.run_frame.proofs.Statuses.{Refuses}
 use Rattle.run_plans.proofs.Statuses.{instance_refused}
-use Rattle.command_line.specs.declared.grammar.Verb.{Verb}
-use Rattle.command_line.specs.declared.grammar.Verb.TheVariants as verb
+use Rattle.command_line.specs.declared.kinds.Verb.{Verb}
+use Rattle.command_line.specs.declared.kinds.Verb.TheVariants as verb
 use Rattle.glass_run.specs.Commands.{HasNoInstance}
 
 -- it refuses one of them
@@ -19,4 +19,3 @@ none_refused verb.Resume texts answer h = instance_refused texts _ answer h
 none_refused verb.Freeze texts answer h = instance_refused texts _ answer h
 none_refused verb.Sheet texts answer h = instance_refused texts _ answer h
 none_refused verb.Replay texts answer h = instance_refused texts _ answer h
-none_refused verb.Picture texts answer h = instance_refused texts _ answer h

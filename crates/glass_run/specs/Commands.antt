@@ -3,13 +3,13 @@ use Rattle.std.specs.Prelude.{◌⊎◌, ℕ, List, Option, None}
 use Rattle.glass_base.specs.Problem.{Problem}
 use Rattle.glass_base.specs.declared.role.Role.TheVariants as role
 use Rattle.glass_io.specs.Told.{Contents}
-use Rattle.command_line.specs.declared.grammar.Count.TheVariants as count
-use Rattle.command_line.specs.declared.grammar.Flag.TheVariants as flag
+use Rattle.command_line.specs.declared.kinds.Count.TheVariants as count
+use Rattle.command_line.specs.declared.kinds.Flag.TheVariants as flag
 use Rattle.glass_gen.specs.Drawn.{IsDrawn}
-use Rattle.command_line.specs.declared.grammar.Lead.TheVariants as lead
-use Rattle.command_line.specs.declared.grammar.Product.TheVariants as product
-use Rattle.command_line.specs.declared.grammar.Verb.{Verb}
-use Rattle.command_line.specs.declared.grammar.Verb.TheVariants as verb
+use Rattle.command_line.specs.declared.kinds.Lead.TheVariants as lead
+use Rattle.command_line.specs.declared.kinds.Product.TheVariants as product
+use Rattle.command_line.specs.declared.kinds.Verb.{Verb}
+use Rattle.command_line.specs.declared.kinds.Verb.TheVariants as verb
 use Rattle.run_frame.specs.Answers.{Answer}
 use Rattle.run_checks.specs.Checks.{Converts}
 use Rattle.run_plans.specs.Drafts.{Drafts}
@@ -31,7 +31,7 @@ plan_name line = stored_as line product.Plan
 abbrev pub cert_name : Line → List ℕ
 cert_name line = stored_as line product.Certificate
 
--- the answer of each command to its instance; drawing is no command of this program
+-- the answer of each command to its instance
 abbrev pub AnswersInstance : Verb → Line → Texts → Problem → Answer → Type 0
 AnswersInstance verb.Draft line texts b answer = Drafts b (plan_name line) answer
 AnswersInstance verb.Plan line texts b answer =
@@ -47,7 +47,6 @@ AnswersInstance verb.Freeze line texts b answer =
     FreezesWithin b (lead_in line lead.Frozen) (count_in line count.Budget) (flag_in line flag.Fronts) (text_or_empty texts role.Plan) (plan_name line) (cert_name line) answer
 AnswersInstance verb.Sheet line texts b answer = SheetsText b (stored_as line product.Sheet) (text_or_empty texts role.Plan) answer
 AnswersInstance verb.Replay line texts b answer = ReplaysText b (text_or_empty texts role.Sheet) answer
-AnswersInstance verb.Picture line texts b answer = ⊥
 
 -- the command searches
 abbrev pub Searches : Verb → Type 0
@@ -56,11 +55,6 @@ Searches verb.Gen = Unit {0}
 Searches verb.Resume = Unit {0}
 Searches verb.Freeze = Unit {0}
 Searches _ = ⊥
-
--- the command is one of this program
-abbrev pub IsCommand : Verb → Type 0
-IsCommand verb.Picture = ⊥
-IsCommand _ = Unit {0}
 
 -- the text of the defects that each command plans with; a draft is made on plates without defects
 abbrev pub flaws_of : Verb → Texts → Option (List ℕ)

@@ -13,11 +13,11 @@ use Rattle.plan_csv.specs.PlanTexts.{plan_said}
 use Rattle.plan_freeze.specs.Frozen.{BeginsWith, first_plates, joined, later_plates}
 use Rattle.plan_freeze.specs.Rests.{IsRest, frozen_loss}
 use Rattle.command_line.specs.Grammar.{Line, count_in, flag_in, lead_in}
-use Rattle.command_line.specs.declared.grammar.Count.TheVariants as count
-use Rattle.command_line.specs.declared.grammar.Flag.TheVariants as flag
-use Rattle.command_line.specs.declared.grammar.Lead.TheVariants as lead
-use Rattle.command_line.specs.declared.grammar.Verb.{Verb}
-use Rattle.command_line.specs.declared.grammar.Verb.TheVariants as verb
+use Rattle.command_line.specs.declared.kinds.Count.TheVariants as count
+use Rattle.command_line.specs.declared.kinds.Flag.TheVariants as flag
+use Rattle.command_line.specs.declared.kinds.Lead.TheVariants as lead
+use Rattle.command_line.specs.declared.kinds.Verb.{Verb}
+use Rattle.command_line.specs.declared.kinds.Verb.TheVariants as verb
 use Rattle.cert_log.specs.Texts.{cert_text}
 use Rattle.plan_csv.specs.Solutions.{solution_text}
 use Rattle.cert_check.specs.declared.verdict.Why.{Why}

@@ -31,10 +31,10 @@ use Rattle.run_search.specs.Resumptions.{IsResumed, ResumesEachBox}
 use Rattle.run_frame.specs.Runs.{LineRun, Prints, Stands, World}
 use Rattle.run_checks.specs.Said.{SayBoth}
 use Rattle.run_frame.specs.Texts.{Texts, limit_of, text_for, text_or_empty, texts_of}
-use Rattle.command_line.specs.declared.grammar.Count.TheVariants as count
-use Rattle.command_line.specs.declared.grammar.Flag.TheVariants as flag
-use Rattle.command_line.specs.declared.grammar.Verb.{Verb}
-use Rattle.command_line.specs.declared.grammar.Verb.TheVariants as verb
+use Rattle.command_line.specs.declared.kinds.Count.TheVariants as count
+use Rattle.command_line.specs.declared.kinds.Flag.TheVariants as flag
+use Rattle.command_line.specs.declared.kinds.Verb.{Verb}
+use Rattle.command_line.specs.declared.kinds.Verb.TheVariants as verb
 use Rattle.run_frame.specs.declared.status.Status.{Status}
 use Rattle.run_frame.specs.declared.status.Status.TheVariants as status
 

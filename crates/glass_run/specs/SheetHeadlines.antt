@@ -14,7 +14,7 @@ use Rattle.cut_sheet.specs.Replays.{replayed}
 use Rattle.cut_sheet.specs.Sheets.{pieces_of}
 use Rattle.cut_sheet.specs.Texts.{sheet_text}
 use Rattle.plan_csv.specs.PlanTexts.{plan_said}
-use Rattle.command_line.specs.declared.grammar.Product.TheVariants as product
+use Rattle.command_line.specs.declared.kinds.Product.TheVariants as product
 use Rattle.command_line.specs.Grammar.{stored_as, Line}
 use Rattle.run_frame.specs.Answers.{Answer}
 use Rattle.glass_run.specs.Commands.{}

@@ -4,19 +4,19 @@ ghost use Rattle.std.specs.Prelude.{◌≡◌, ◌↔◌, IfOk, IsTrue, MatchRes
 ghost use Rattle.command_line.specs.Grammar.{Line, lead_in, stored_as};
 ghost use Rattle.command_line.specs.Lines.{line_in};
 ghost use Rattle.glass_gen.specs.Drawn.{IsDrawn};
-ghost use Rattle.glass_run.specs.Commands.{AnswersInstance, HasInstance, HasNoInstance, IsCommand, Searches, flaws_of};
+ghost use Rattle.glass_run.specs.Commands.{AnswersInstance, HasInstance, HasNoInstance, Searches, flaws_of};
 ghost use Rattle.glass_run.specs.inner.Asked.{IsAsked, MaySearch};
 ghost use Rattle.run_frame.specs.Forms.{OnTold, answer_in, texts_in};
 
 use box_workers::Gate;
 use command_line::{CommandLine, Count, Lead, Verb};
+use defect_map::Ground;
 use front_bound::losses::FrontSearch;
 use glass_base::{Instance, Memory, Role, Run};
 use glass_gen::generate;
 use run_checks::{convert_texts, verify_from};
 use run_frame::{Reply, Stop, Text, reply_at, reply_with, text_of_role, text_or_empty};
-use run_plans::{draft_instance, instance_of, judge_text, replay_text, sheet_text};
-use run_search::FrontWatch;
+use run_plans::{Grounded, draft_instance, instance_of, judge_text, replay_text, sheet_text};
 use std::alloc::Global;
 
 /// What a command comes to without a search.
@@ -26,7 +26,7 @@ pub(crate) enum Asked {
     Reply(Reply),
     /// A search in this instance, beside these texts.
     Search {
-        instance: Instance,
+        grounded: Grounded,
         texts: Run<Text>,
     },
 }
@@ -44,42 +44,41 @@ fn reply_at_once<G: Gate>(
     alloc: Global,
     line: &CommandLine<'_>,
     texts: &[Text],
-    instance: &Instance,
+    ground: Ground<'_>,
     gate: &G,
 ) -> Result<Reply, Memory>
-    requires at_once { Searches (line_in line.now).verb → ⊥ }
-    requires known { IsCommand (line_in line.now).verb }
+    requires { Searches (line_in line.now).verb → ⊥ }
     ensures { let said = line_in line.now in IfOk result
-        (λ r. AnswersInstance said.verb said (texts_in texts.now) instance.now
+        (λ r. AnswersInstance said.verb said (texts_in texts.now) ground.entry.instance.now
         (answer_in (stored_as said) r)) }
 {
     let search = FrontSearch {
         labels: u64::from(line.count(Count::FrontsLimit)),
-        watch: &FrontWatch { gate },
+        listener: gate,
     };
     match line.verb {
-        Verb::Draft => draft_instance(alloc, instance),
+        Verb::Draft => draft_instance(alloc, ground),
         Verb::Judge => {
-            let notice = judge_text(alloc, instance, text_or_empty(texts, Role::Plan))?;
+            let notice = judge_text(alloc, ground, text_or_empty(texts, Role::Plan))?;
             Ok(reply_with(alloc, notice))
         }
         Verb::Verify => {
             let plan = text_of_role(texts, Role::Plan);
             let k = line.count(Count::Frozen);
             let cert = text_or_empty(texts, Role::Cert);
-            verify_from(alloc, instance, plan, cert, k, &search)
+            verify_from(alloc, ground, plan, cert, k, &search)
         }
         Verb::Convert => {
             let plan = text_of_role(texts, Role::Plan);
             let cert = text_or_empty(texts, Role::Cert);
-            convert_texts(alloc, instance, plan, cert, &search)
+            convert_texts(alloc, ground, plan, cert, &search)
         }
-        Verb::Sheet => sheet_text(alloc, instance, text_or_empty(texts, Role::Plan)),
+        Verb::Sheet => sheet_text(alloc, ground, text_or_empty(texts, Role::Plan)),
         Verb::Replay => {
-            let notice = replay_text(alloc, instance, text_or_empty(texts, Role::Sheet))?;
+            let notice = replay_text(alloc, ground.instance, text_or_empty(texts, Role::Sheet))?;
             Ok(reply_with(alloc, notice))
         }
-        Verb::Plan | Verb::Gen | Verb::Resume | Verb::Freeze | Verb::Picture => unreachable!(),
+        Verb::Plan | Verb::Gen | Verb::Resume | Verb::Freeze => unreachable!(),
     }
 }
 
@@ -97,8 +96,7 @@ fn flaws(verb: Verb, texts: &[Text]) -> Option<&[u8]>
         | Verb::Resume
         | Verb::Freeze
         | Verb::Sheet
-        | Verb::Replay
-        | Verb::Picture => text_of_role(texts, Role::Defects),
+        | Verb::Replay => text_of_role(texts, Role::Defects),
     }
 }
 
@@ -130,8 +128,7 @@ fn instance_for(alloc: Global, line: &CommandLine<'_>, texts: &[Text]) -> Result
         | Verb::Resume
         | Verb::Freeze
         | Verb::Sheet
-        | Verb::Replay
-        | Verb::Picture => instance_of(alloc, texts, flaws(line.verb, texts)),
+        | Verb::Replay => instance_of(alloc, texts, flaws(line.verb, texts)),
     }
 }
 
@@ -142,7 +139,6 @@ pub(crate) fn asked_of_texts<G: Gate>(
     texts: Run<Text>,
     gate: &G,
 ) -> Result<Asked, Memory>
-    requires { IsCommand (line_in line.now).verb }
     ensures asked { let said = line_in line.now in
         IfOk result (IsAsked said (texts_in texts.items)) }
     ensures searches { IfOk result (MaySearch (line_in line.now)) }
@@ -151,9 +147,10 @@ pub(crate) fn asked_of_texts<G: Gate>(
         Ok(instance) => instance,
         Err(stop) => return Ok(Asked::Reply(reply_at(alloc, stop)?)),
     };
+    let grounded = Grounded::new(alloc, instance)?;
     if searches(line.verb) {
-        return Ok(Asked::Search { instance, texts });
+        return Ok(Asked::Search { grounded, texts });
     }
-    let reply = reply_at_once(alloc, line, texts.as_slice(), &instance, gate)?;
+    let reply = reply_at_once(alloc, line, texts.as_slice(), grounded.ground(), gate)?;
     Ok(Asked::Reply(reply))
 }

@@ -9,8 +9,8 @@ ghost use Rattle.glass_run.specs.Headlines.{Ended, FindsLawful, FindsNoDraft, Fi
 ghost use Rattle.glass_run.specs.FreezeHeadlines.{AcceptsFrom, FindsWrongFrom, HandlesEachBoxBehind, StoresFreeze, cut_already};
 ghost use Rattle.run_frame.specs.Runs.{World};
 ghost use Rattle.glass_run.specs.SheetHeadlines.{FollowsSheet, StoresSheet};
-ghost use Rattle.command_line.specs.declared.grammar.Verb.{Verb};
-ghost use Rattle.command_line.specs.declared.grammar.Verb.TheVariants as verb;
+ghost use Rattle.command_line.specs.declared.kinds.Verb.{Verb};
+ghost use Rattle.command_line.specs.declared.kinds.Verb.TheVariants as verb;
 ghost use Rattle.run_frame.specs.declared.status.Status.{Status};
 ghost use Rattle.run_frame.specs.declared.status.Status.TheVariants as status;
 

@@ -12,7 +12,7 @@ ghost use Rattle.run_frame.specs.Runs.{World, world};
 use crate::run::glass;
 use crate::telling::TellingGate;
 use box_workers::Gate;
-use command_line::{Count, Program, Verb, line_named, verb_named};
+use command_line::{Program, Verb, verb_named};
 use glass_io::{Files, Sink, StdFiles, StdSink};
 use run_frame::words::{words_given, words_taken};
 use run_frame::{Status, tell_usage};
@@ -50,15 +50,6 @@ pub fn exit_code<R: Threads + Wait + Sync, F: Files, S: Sink, G: Gate + Sync>(
     status.code()
 }
 
-/// What these words set this number to, where they are a line of a command.
-fn number_set(words: &io::Result<Vec<String>>, count: Count) -> u32 {
-    let line = words_taken(words).and_then(|words| line_named(words));
-    match line {
-        Some(line) => line.count(count),
-        None => 0,
-    }
-}
-
 /// The command that these words begin with, if they begin with one.
 fn command(words: &io::Result<Vec<String>>) -> Option<Verb> {
     let word = words_taken(words).and_then(|words| words.first())?;
@@ -83,9 +74,7 @@ pub fn run_program<
     let mut out = StdSink::new(rt);
     let words = words_given(rt);
     let command = command(&words);
-    let budget = number_set(&words, Count::Budget);
-    let seconds = number_set(&words, Count::Seconds);
-    let gate = TellingGate::new(rt, budget, seconds, terminal);
+    let gate = TellingGate::new(rt, terminal);
     let code = exit_code(rt, alloc, words, &mut files, &mut out, &gate);
     if code == Status::Usage.code() {
         tell_usage(rt, alloc, Program::Glass, command);

@@ -6,7 +6,7 @@ ghost use Rattle.glass_io.specs.Told.{Contents, SameContents};
 ghost use Rattle.command_line.specs.Grammar.{files_of, line_of, stored_as};
 ghost use Rattle.command_line.specs.Lines.{line_in};
 ghost use Rattle.command_line.specs.Manual.{question_of};
-ghost use Rattle.glass_run.specs.Commands.{Answers, AnswersInstance, IsCommand, Searches};
+ghost use Rattle.glass_run.specs.Commands.{Answers, AnswersInstance, Searches};
 ghost use Rattle.run_frame.specs.Runs.{LineRun, RunsTo, world};
 ghost use Rattle.run_frame.specs.Texts.{Reaches};
 ghost use Rattle.glass_run.specs.inner.Asked.{IsAskedOf, MaySearch};
@@ -15,36 +15,19 @@ ghost use Rattle.run_frame.specs.Forms.{CountsFetches, OnFault, answer_in, texts
 use crate::answering::{Asked, asked_of_texts};
 use crate::telling::tell_misfits;
 use box_workers::Gate;
-use command_line::{CommandLine, Count, Flag, Lead, Program, Verb, line_named, question_asked};
-use glass_base::{Instance, Memory, Role};
+use command_line::{CommandLine, Lead, Program, Verb, line_named, question_asked};
+use defect_map::Ground;
+use glass_base::{Memory, Role};
 use glass_io::{Files, Sink};
 use run_frame::delivering::print;
 use run_frame::{
     NoReply, Reply, Status, Text, answer_otherwise, deliver, fetch_files, read_fault_line,
     reply_with, text_of_role, text_or_empty,
 };
-use run_search::{Opening, Workforce, freeze_text, plan_instance, resume_texts};
+use run_search::{Options, Workforce, freeze_text, plan_instance, resume_texts};
 use std::alloc::Global;
 use std::sync::Wait;
 use std::thread::Threads;
-
-/// Up to how many items a search begins with the first plan as it is, where the line says nothing of the work that is to
-/// be done.
-const FEW_ITEMS: usize = 60;
-
-/// How much work is done for a better one where there are more, in millions of ticks: some ten seconds of one processor.
-const USUAL_EFFORT: u32 = 300;
-
-/// How much work is done for a better first plan: what the line says, or what is usual for so many items where it sets
-/// neither that nor a time nor a budget.
-fn effort_of(line: &CommandLine<'_>, instance: &Instance) -> u32 {
-    let set = [Count::Effort, Count::Seconds, Count::Budget];
-    if instance.items().len() > FEW_ITEMS && !set.iter().any(|count| line.sets(*count)) {
-        USUAL_EFFORT
-    } else {
-        line.count(Count::Effort)
-    }
-}
 
 /// The reply of a command that searches to its instance.
 fn reply_by_search<R: Threads + Wait + Sync, G: Gate + Sync>(
@@ -52,49 +35,32 @@ fn reply_by_search<R: Threads + Wait + Sync, G: Gate + Sync>(
     alloc: Global,
     line: &CommandLine<'_>,
     texts: &[Text],
-    instance: &Instance,
+    ground: Ground<'_>,
     gate: &G,
 ) -> Result<Reply, Memory>
     requires { Searches (line_in line.now).verb }
     ensures { let said = line_in line.now in IfOk result
-        (λ r. AnswersInstance said.verb said (texts_in texts.now) instance.now
+        (λ r. AnswersInstance said.verb said (texts_in texts.now) ground.entry.instance.now
         (answer_in (stored_as said) r)) }
 {
-    let (workers, budget) = (line.count(Count::Workers), line.count(Count::Budget));
-    let workforce = Workforce {
-        rt,
-        gate,
-        workers,
-        budget,
-    };
-    let opening = Opening {
-        fronts: line.flag(Flag::Fronts),
-        labels: u64::from(line.count(Count::FrontsLimit)),
-        effort: effort_of(line, instance),
-        seconds: line.count(Count::Seconds),
-    };
-    tell_misfits(instance, gate);
+    let options = Options::of(line, ground.instance.items().len());
+    let workforce = Workforce { rt, gate, options };
+    tell_misfits(ground.instance, gate);
     let plan = text_of_role(texts, Role::Plan);
-    let watch = line.flag(Flag::Watch);
     match line.verb {
-        Verb::Plan => plan_instance(alloc, &workforce, instance, plan, watch, opening),
-        Verb::Gen => plan_instance(alloc, &workforce, instance, plan, watch, opening),
+        Verb::Plan => plan_instance(alloc, &workforce, ground, plan),
+        Verb::Gen => plan_instance(alloc, &workforce, ground, plan),
         Verb::Resume => {
             let cert = text_or_empty(texts, Role::Cert);
-            resume_texts(alloc, &workforce, instance, plan, cert, opening)
+            resume_texts(alloc, &workforce, ground, plan, cert)
         }
         Verb::Freeze => {
             let plan = text_or_empty(texts, Role::Plan);
             let k = line.lead(Lead::Frozen);
-            freeze_text(alloc, &workforce, instance, plan, k, opening)
+            freeze_text(alloc, &workforce, ground, plan, k)
         }
-        Verb::Draft
-        | Verb::Judge
-        | Verb::Verify
-        | Verb::Convert
-        | Verb::Sheet
-        | Verb::Replay
-        | Verb::Picture => unreachable!(),
+        Verb::Draft | Verb::Judge | Verb::Verify | Verb::Convert | Verb::Sheet | Verb::Replay =>
+            unreachable!(),
     }
 }
 
@@ -105,7 +71,6 @@ fn asked_of_files<F: Files, G: Gate>(
     line: &CommandLine<'_>,
     gate: &G,
 ) -> Result<Asked, NoReply>
-    requires { IsCommand (line_in line.now).verb }
     ensures same { SameContents (F.shelf files.old).contents (F.shelf files.new).contents }
     ensures asked { IfOk result (λ asked. IfSome (F.shelf files.old).contents
         (λ contents. IsAskedOf contents (line_in line.now) asked)) }
@@ -136,8 +101,8 @@ fn reply_to_asked<R: Threads + Wait + Sync, G: Gate + Sync>(
 {
     match asked {
         Asked::Reply(reply) => Ok(reply),
-        Asked::Search { instance, texts } => {
-            reply_by_search(rt, alloc, line, texts.as_slice(), &instance, gate)
+        Asked::Search { grounded, texts } => {
+            reply_by_search(rt, alloc, line, texts.as_slice(), grounded.ground(), gate)
         }
     }
 }
@@ -150,7 +115,6 @@ fn reply_of<R: Threads + Wait + Sync, F: Files, G: Gate + Sync>(
     line: &CommandLine<'_>,
     gate: &G,
 ) -> Result<Reply, NoReply>
-    requires { IsCommand (line_in line.now).verb }
     ensures same { SameContents (F.shelf files.old).contents (F.shelf files.new).contents }
     ensures reply { IfOk result (λ r. IfSome (F.shelf files.old).contents
         (λ contents. Answers contents (line_in line.now)
@@ -174,7 +138,6 @@ fn run_line<R: Threads + Wait + Sync, F: Files, S: Sink, G: Gate + Sync>(
     out: &mut S,
     gate: &G,
 ) -> Status
-    requires command { IsCommand (line_in line.now).verb }
     ensures runs { LineRun Answers (line_in line.now)
         (world (F.shelf files.old) (S.paper out.old))
         (world (F.shelf files.new) (S.paper out.new)) result }

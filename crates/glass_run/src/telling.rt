@@ -2,9 +2,9 @@
 
 use box_workers::{Gate, PatientGate};
 use cert_log::NO_LOSS;
-use glass_base::{Instance, Item};
+use glass_base::{Instance, Item, Listener, News};
 use std::io::Eprint;
-use std::sync::atomic::{AtomicU64, Ordering};
+use std::sync::atomic::{AtomicU32, AtomicU64, Ordering};
 use std::time::{Clock, Instant};
 
 /// How many boxes pass between two looks at the clock.
@@ -27,13 +27,14 @@ pub(crate) fn tell_misfits<G: Gate>(instance: &Instance, gate: &G) {
     let along = instance.widest().min(params.max1);
     for item in instance.items() {
         if !fits(item, along, params.height) {
-            gate.misses(item.id);
+            gate.hear(News::Misfit(item.id));
         }
     }
 }
 
-/// A gate for programs, which is patient, knows the time, tells of items that are too large, and where that is wanted tells every few seconds how far the search is: how many
-/// fronts of this pass were looked at, how much of the effort or of the time is over, and then how many boxes of the budget were taken, and the best loss that was seen.
+/// A gate for programs, which is patient, knows the time, tells of items that are too large, and where that is wanted tells
+/// every few seconds how far the search is: how many fronts of this pass were looked at, how much of the effort or of the
+/// time is over, and then how many boxes of the budget were taken, and the best loss that was seen.
 #[derive(Drop)]
 pub struct TellingGate<'a, R> {
     rt: &'a R,
@@ -42,9 +43,7 @@ pub struct TellingGate<'a, R> {
     begun: Option<Instant>,
     /// Whether it is to tell how far the search is.
     tells: bool,
-    budget: u32,
-    /// For how many seconds a better first plan is looked for; 0 where the clock does not say so.
-    seconds: u32,
+    budget: AtomicU32,
     boxes: AtomicU64,
     /// The least loss that was seen, in mm².
     loss: AtomicU64,
@@ -54,14 +53,13 @@ pub struct TellingGate<'a, R> {
 
 impl<'a, R: Clock> TellingGate<'a, R> {
     /// A gate that no worker has come to. It does not tell how far the search is where that is not wanted, or where there is no clock.
-    pub fn new(rt: &'a R, budget: u32, seconds: u32, tells: bool) -> TellingGate<'a, R> {
+    pub fn new(rt: &'a R, tells: bool) -> TellingGate<'a, R> {
         TellingGate {
             rt,
             patient: PatientGate::new(),
             begun: Instant::now(rt).ok(),
             tells,
-            budget,
-            seconds,
+            budget: AtomicU32::new(0),
             boxes: AtomicU64::new(0),
             loss: AtomicU64::new(NO_LOSS),
             due: AtomicU64::new(SECONDS_BETWEEN_LINES),
@@ -70,13 +68,47 @@ impl<'a, R: Clock> TellingGate<'a, R> {
 }
 
 impl<'a, R: Clock + Eprint> TellingGate<'a, R> {
-    /// Tells how far the search is.
-    fn tell(&self, boxes: u64) {
-        let budget = self.budget;
+    /// Tells how many boxes were taken.
+    fn tell_boxes(&self, boxes: u64) {
+        let budget = self.budget.load(Ordering::Relaxed);
         let _told = match self.loss.load(Ordering::Relaxed) {
             NO_LOSS => eprintln!(self.rt; "{boxes} of {budget} boxes, no plan yet"),
             loss => eprintln!(self.rt; "{boxes} of {budget} boxes, best loss {loss}"),
         };
+    }
+
+    /// Tells how many fronts were looked at, where a line is due.
+    fn tell_fronts(&self, done: usize, all: usize) {
+        if self.due().is_some() {
+            let _told = eprintln!(self.rt; "{done} of {all} fronts looked at");
+        }
+    }
+
+    /// Tells how much of the effort is spent, or what is left of the time, where a line is due.
+    fn tell_ticks(&self, spent: u64, of: u64, seconds: Option<u32>) {
+        let Some(elapsed) = self.due() else {
+            return;
+        };
+        let loss = self.loss.load(Ordering::Relaxed);
+        let _told = match seconds {
+            Some(seconds) => {
+                let left = u64::from(seconds).saturating_sub(elapsed);
+                eprintln!(self.rt; "{left} of {seconds} seconds left, best loss {loss}")
+            }
+            None => eprintln!(self.rt; "{spent} of {of} million ticks spent, best loss {loss}"),
+        };
+    }
+
+    /// Tells that an item is too large.
+    fn tell_misfit(&self, item: u32) {
+        let _told = eprintln!(self.rt; "item {item} is too large for every plate");
+    }
+
+    /// Takes note of a loss.
+    fn note_loss(&self, loss: u64) {
+        if loss < self.loss.load(Ordering::Relaxed) {
+            self.loss.store(loss, Ordering::Relaxed);
+        }
     }
 
     /// How many seconds have gone since it was made, where a line is due. Of several workers only the one that sets the
@@ -98,52 +130,35 @@ impl<'a, R: Clock + Eprint> TellingGate<'a, R> {
     }
 }
 
+impl<'a, R: Clock + Eprint> Listener for TellingGate<'a, R> {
+    fn hear(&self, news: News) {
+        match news {
+            News::Fronts { done, all } => self.tell_fronts(done, all),
+            News::Ticks { spent, of, seconds } => self.tell_ticks(spent, of, seconds),
+            News::Loss(loss) => self.note_loss(loss),
+            News::Boxes { budget } => self.budget.store(budget, Ordering::Relaxed),
+            News::Misfit(item) => self.tell_misfit(item),
+        }
+    }
+
+    fn elapsed(&self) -> Option<u64> {
+        let elapsed = self.begun?.elapsed(self.rt).ok()?;
+        Some(elapsed.as_millis().min(u128::from(u64::MAX)) as u64)
+    }
+}
+
 impl<'a, R: Clock + Eprint> Gate for TellingGate<'a, R> {
     fn pass(&self, worker: u32, id: u64) {
         self.patient.pass(worker, id);
         if self.tells {
             let boxes = self.boxes.fetch_add(1, Ordering::Relaxed);
             if boxes % BOXES_BETWEEN_LOOKS == 0 && self.due().is_some() {
-                self.tell(boxes);
+                self.tell_boxes(boxes);
             }
         }
     }
 
     fn idle(&self, worker: u32) {
         self.patient.idle(worker);
-    }
-
-    fn sees(&self, loss: u64) {
-        if loss < self.loss.load(Ordering::Relaxed) {
-            self.loss.store(loss, Ordering::Relaxed);
-        }
-    }
-
-    fn looks(&self, done: usize, all: usize) {
-        if self.due().is_some() {
-            let _told = eprintln!(self.rt; "{done} of {all} fronts looked at");
-        }
-    }
-
-    fn spends(&self, millions: u64, of: u64) {
-        let Some(elapsed) = self.due() else {
-            return;
-        };
-        let loss = self.loss.load(Ordering::Relaxed);
-        let _told = if self.seconds > 0 {
-            let left = u64::from(self.seconds).saturating_sub(elapsed);
-            eprintln!(self.rt; "{left} of {} seconds left, best loss {loss}", self.seconds)
-        } else {
-            eprintln!(self.rt; "{millions} of {of} million ticks spent, best loss {loss}")
-        };
-    }
-
-    fn misses(&self, item: u32) {
-        let _told = eprintln!(self.rt; "item {item} is too large for every plate");
-    }
-
-    fn elapsed(&self) -> Option<u64> {
-        let elapsed = self.begun?.elapsed(self.rt).ok()?;
-        Some(elapsed.as_millis().min(u128::from(u64::MAX)) as u64)
     }
 }

@@ -5,3 +5,4 @@ pub mod Plates
 pub mod Served
 pub mod Balance
 pub mod TraceEnds
+pub mod Heights

@@ -1,6 +1,7 @@
-//! How much glass a trace takes.
+//! How much glass a trace takes, and what a plan of a length loses.
 
-ghost use Rattle.std.specs.Prelude.{◌≡◌, ◌≤◌, length as length_of_list};
+ghost use Rattle.std.specs.Prelude.{◌≡◌, ◌*◌, ◌-◌, ◌≤◌, length as length_of_list};
+ghost use Rattle.glass_base.specs.Items.{area_of};
 ghost use Rattle.cut_model.specs.Steps.{KeepsKinds, last_right as last_right_of, length_of, plates_begun as plates_begun_of};
 
 use cut_model::{Step, Trace};
@@ -47,4 +48,14 @@ pub fn length(instance: &Instance, trace: &Trace) -> u64
     ensures { result ≡ length_of instance.now trace.now.steps.items }
 {
     reach(instance, trace.steps.as_slice())
+}
+
+/// The loss in mm² of a plan of this length in mm: the glass up to there, less the items. No length that a plan or a bound
+/// can have is above the limit.
+#[tactic(auto, using(crate::proofs::Heights::height_times))]
+pub fn loss_of_length(instance: &Instance, length: u64) -> u64
+    requires { length ≤ 810000000000000 }
+    ensures { result ≡ instance.now.params.height * length - area_of instance.now.items }
+{
+    (u64::from(instance.params().height) * length).saturating_sub(instance.area())
 }

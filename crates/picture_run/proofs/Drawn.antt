@@ -4,8 +4,8 @@ use Rattle.std.specs.Prelude.{Ok}
 use Rattle.glass_base.specs.Problem.{Problem}
 use Rattle.glass_base.specs.declared.role.Role.TheVariants as role
 use Rattle.glass_io.specs.Told.{Contents}
-use Rattle.command_line.specs.Grammar.{Line, files_of, stored_as}
-use Rattle.command_line.specs.declared.grammar.Product.TheVariants as product
+use Rattle.command_line.specs.Grammar.{PictureLine, files_of, stored_as}
+use Rattle.command_line.specs.declared.kinds.Product.TheVariants as product
 use Rattle.cut_model.specs.Tree.{Forest}
 use Rattle.cut_model.specs.declared.broken.Verdict.{Verdict}
 use Rattle.plan_picture.specs.Pictures.{IsPicture}
@@ -37,7 +37,7 @@ texts_refused texts flaws name (stop.Told notice) answer flawed refused is =
     inr (subst (λ (o : Option (List ℕ)). InstanceRefused texts o answer) flawed (subst (λ (a : Answer). InstanceRefused texts flaws a) (sym is) refused))
 
 -- the answer to the texts that were fetched is the answer to what the files hold
-pub with_texts : (told : Option Contents) (line : Line) (texts : Texts) (answer : Answer) → IfSome told (λ contents. texts_of contents (files_of line) ≡ Ok texts)
+pub with_texts : (told : Option Contents) (line : PictureLine) (texts : Texts) (answer : Answer) → IfSome told (λ contents. texts_of contents (files_of line) ≡ Ok texts)
     → DrawsTexts (stored_as line product.Picture) texts answer → IfSome told (λ contents. Answers contents line answer)
 with_texts None line texts answer e h = tt
 with_texts (Some contents) line texts answer e h = rw e h

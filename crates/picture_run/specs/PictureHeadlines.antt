@@ -6,8 +6,8 @@ use Rattle.glass_io.specs.Told.{Contents, Stored}
 use Rattle.cut_model.specs.Tree.{Forest}
 use Rattle.plan_csv.specs.PlanTexts.{plan_said}
 use Rattle.run_frame.specs.Answers.{Answer}
-use Rattle.command_line.specs.Grammar.{Line, files_of, picture_line_of, stored_as}
-use Rattle.command_line.specs.declared.grammar.Product.TheVariants as product
+use Rattle.command_line.specs.Grammar.{PictureLine, files_of, picture_line_of, stored_as}
+use Rattle.command_line.specs.declared.kinds.Product.TheVariants as product
 use Rattle.picture_run.specs.Pictures.{Answers, Draws}
 use Rattle.run_frame.specs.Runs.{LineRun, Prints, World}
 use Rattle.run_frame.specs.Texts.{Texts, text_for, text_or_empty, texts_of}
@@ -16,13 +16,13 @@ use Rattle.run_plans.specs.Verdicts.{verdict_line}
 use Rattle.run_frame.specs.declared.status.Status.{Status}
 
 -- these words are a line of the program that draws, the files told what they held, and the run ended so
-pub record PictureEnded (words : List (List ℕ)) (line : Line) (held : Contents) (old new : World) (result : Status) : Type 0 where
+pub record PictureEnded (words : List (List ℕ)) (line : PictureLine) (held : Contents) (old new : World) (result : Status) : Type 0 where
   pub line_is : picture_line_of words ≡ Some line
   pub told : old.shelf.contents ≡ Some held
   pub runs : LineRun Answers line old new result
 
 -- the files say an instance; OUT holds a picture of the plan that PLAN says, and of what was found of it: its loss where it is lawful, and else its first breach; and this is printed
-pub record StoresPicture (line : Line) (held : Contents) (old new : World) : Type 0 where
+pub record StoresPicture (line : PictureLine) (held : Contents) (old new : World) : Type 0 where
   pub texts : Texts
   pub b : Problem
   pub plan : Forest

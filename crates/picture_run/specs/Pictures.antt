@@ -8,8 +8,8 @@ use Rattle.plan_csv.specs.PlanTexts.{plan_said}
 use Rattle.plan_csv.specs.declared.bad_plan.BadPlan.{BadPlan}
 use Rattle.cut_model.specs.declared.broken.Verdict.{Verdict}
 use Rattle.plan_picture.specs.Pictures.{IsPicture}
-use Rattle.command_line.specs.Grammar.{Line, files_of, stored_as}
-use Rattle.command_line.specs.declared.grammar.Product.TheVariants as product
+use Rattle.command_line.specs.Grammar.{PictureLine, files_of, stored_as}
+use Rattle.command_line.specs.declared.kinds.Product.TheVariants as product
 use Rattle.run_frame.specs.Answers.{Answer}
 use Rattle.run_frame.specs.Texts.{AnswersFetched, Texts, text_for, text_or_empty, texts_of}
 use Rattle.run_plans.specs.Instances.{InstanceRefused, IsInstanceOf}
@@ -46,5 +46,5 @@ DrawsTexts name texts answer =
     ⊎ InstanceRefused texts (text_for texts role.Defects) answer
 
 -- the right answers of a line to what stands under the names of its files: all files are fetched, in their order, before one is read
-abbrev pub Answers : Contents → Line → Answer → Type 0
+abbrev pub Answers : Contents → PictureLine → Answer → Type 0
 Answers contents line answer = AnswersFetched (DrawsTexts (stored_as line product.Picture)) (texts_of contents (files_of line)) answer

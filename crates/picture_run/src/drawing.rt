@@ -10,7 +10,8 @@ ghost use Rattle.run_plans.specs.Verdicts.{verdict_line as verdict_line_of};
 
 use command_line::Product;
 use cut_model::{Plan, Verdict};
-use glass_base::{Instance, Memory};
+use defect_map::Ground;
+use glass_base::Memory;
 use plan_picture::picture;
 use run_frame::{Reply, Status, one_output, reply_at};
 use run_plans::{lawful_line, read_plan_of, unlawful_line, verdict_on};
@@ -27,14 +28,14 @@ fn verdict_line(alloc: Global, verdict: &Verdict) -> Result<String, Memory>
 }
 
 /// The reply that stores the picture of a plan, and tells its loss or its first breach.
-fn draw_plan(alloc: Global, instance: &Instance, plan: &Plan) -> Result<Reply, Memory>
+fn draw_plan(alloc: Global, ground: Ground<'_>, plan: &Plan) -> Result<Reply, Memory>
     requires { Fits (tree plan.now) }
     ensures { IfOk result (λ r. (name : Product → List ℕ)
-        → Draws instance.now (name Product.Picture) (tree plan.now) (answer_in name r)) }
+        → Draws ground.entry.instance.now (name Product.Picture) (tree plan.now) (answer_in name r)) }
 {
-    let verdict = verdict_on(alloc, instance, plan)?;
+    let verdict = verdict_on(alloc, ground, plan)?;
     let lines = verdict_line(alloc, &verdict)?;
-    let bytes = picture(alloc, instance, plan, &verdict)?;
+    let bytes = picture(alloc, ground.instance, plan, &verdict)?;
     Ok(Reply {
         status: Status::Done,
         outputs: one_output(alloc, Product::Picture, bytes)?,
@@ -43,12 +44,12 @@ fn draw_plan(alloc: Global, instance: &Instance, plan: &Plan) -> Result<Reply, M
 }
 
 /// The reply to the text of a plan of this instance: its picture is stored, whether it is lawful or not.
-pub(crate) fn draw_text(alloc: Global, instance: &Instance, bytes: &[u8]) -> Result<Reply, Memory>
+pub(crate) fn draw_text(alloc: Global, ground: Ground<'_>, bytes: &[u8]) -> Result<Reply, Memory>
     ensures { IfOk result (λ r. (name : Product → List ℕ)
-        → DrawsText instance.now (name Product.Picture) bytes.now (answer_in name r)) }
+        → DrawsText ground.entry.instance.now (name Product.Picture) bytes.now (answer_in name r)) }
 {
-    match read_plan_of(alloc, instance, bytes) {
-        Ok(plan) => draw_plan(alloc, instance, &plan),
+    match read_plan_of(alloc, ground.instance, bytes) {
+        Ok(plan) => draw_plan(alloc, ground, &plan),
         Err(stop) => reply_at(alloc, stop),
     }
 }

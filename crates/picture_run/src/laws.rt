@@ -3,7 +3,7 @@
 
 ghost use Rattle.std.specs.Prelude.{ℕ, List};
 ghost use Rattle.glass_io.specs.Told.{Contents};
-ghost use Rattle.command_line.specs.Grammar.{Line};
+ghost use Rattle.command_line.specs.Grammar.{PictureLine};
 ghost use Rattle.run_frame.specs.Runs.{World};
 ghost use Rattle.run_frame.specs.declared.status.Status.TheVariants as status;
 ghost use Rattle.picture_run.specs.PictureHeadlines.{PictureEnded, StoresPicture};
@@ -13,6 +13,6 @@ ghost use Rattle.picture_run.specs.PictureHeadlines.{PictureEnded, StoresPicture
 /// outlined, and the texts tell the loss or the breach, the numbers of plates and items, each plate's sides, and of pieces only what is true of one; all other
 /// names are as before; and what is printed is the plan's loss where it is lawful, and else its first breach.
 pub fn done_pictures_are_true()
-    ensures { (words : List (List ℕ)) → (line : Line) → (held : Contents) → (old new : World)
+    ensures { (words : List (List ℕ)) → (line : PictureLine) → (held : Contents) → (old new : World)
         → PictureEnded words line held old new status.Done → StoresPicture line held old new }
 {}

@@ -10,7 +10,7 @@ ghost use Rattle.run_frame.specs.Runs.{World, world};
 ghost use Rattle.picture_run.specs.Pictures.{Answers};
 
 use crate::run::glass_picture;
-use command_line::{Program, Verb};
+use command_line::Program;
 use glass_io::{Files, Sink, StdFiles, StdSink};
 use run_frame::words::{words_given, words_taken};
 use run_frame::{Status, tell_usage};
@@ -60,7 +60,7 @@ pub fn run_picture<R: Env + Print + Eprint + rt::Files + AllocGlobal>(rt: &R) ->
     let mut out = StdSink::new(rt);
     let code = exit_code(alloc, words_given(rt), &mut files, &mut out);
     if code == Status::Usage.code() {
-        tell_usage(rt, alloc, Program::Picture, Some(Verb::Picture));
+        tell_usage(rt, alloc, Program::Picture, None);
     }
     code
 }

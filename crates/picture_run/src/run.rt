@@ -20,7 +20,7 @@ use run_frame::{
     NoReply, Reply, Status, Text, answer_otherwise, deliver, fetch_files, read_fault_line,
     reply_at, reply_with, text_of_role, text_or_empty,
 };
-use run_plans::instance_of;
+use run_plans::{Grounded, instance_of};
 use std::alloc::Global;
 
 /// The reply to the texts of the files: to the plan of the instance that they say, or to the first text that is
@@ -30,7 +30,10 @@ fn reply_to_texts(alloc: Global, texts: &[Text]) -> Result<Reply, Memory>
         → DrawsTexts (name Product.Picture) (texts_in texts.now) (answer_in name r)) }
 {
     match instance_of(alloc, texts, text_of_role(texts, Role::Defects)) {
-        Ok(instance) => draw_text(alloc, &instance, text_or_empty(texts, Role::Plan)),
+        Ok(instance) => {
+            let grounded = Grounded::new(alloc, instance)?;
+            draw_text(alloc, grounded.ground(), text_or_empty(texts, Role::Plan))
+        }
         Err(stop) => reply_at(alloc, stop),
     }
 }
@@ -39,7 +42,7 @@ fn reply_to_texts(alloc: Global, texts: &[Text]) -> Result<Reply, Memory>
 fn reply_of<F: Files>(
     alloc: Global,
     files: &mut F,
-    line: &CommandLine<'_>,
+    line: &CommandLine<'_, ()>,
 ) -> Result<Reply, NoReply>
     ensures same { SameContents (F.shelf files.old).contents (F.shelf files.new).contents }
     ensures reply { IfOk result (λ r. IfSome (F.shelf files.old).contents
@@ -63,7 +66,7 @@ fn reply_of<F: Files>(
 /// Runs a line of the program that draws.
 fn run_line<F: Files, S: Sink>(
     alloc: Global,
-    line: &CommandLine<'_>,
+    line: &CommandLine<'_, ()>,
     files: &mut F,
     out: &mut S,
 ) -> Status

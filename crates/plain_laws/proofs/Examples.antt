@@ -6,7 +6,8 @@ use Rattle.glass_io.specs.Told.{Appended}
 use Rattle.run_frame.specs.Runs.{World}
 use Rattle.run_frame.specs.declared.status.Status.TheVariants as status
 use Rattle.run_search.specs.Plans.{ended_lines}
-use Rattle.plain_laws.specs.Plain.{PrintsEnd, word_of}
+use Rattle.plain_laws.specs.Plain.{PrintsEnd}
+use Rattle.run_frame.specs.Codes.{word_of}
 
 -- the lines of a search that found that there is no plan
 infeasible_ended : (later : List ℕ) × (codes "status infeasible\nloss none\nbound none\nplates none\nboxes 1\nopen 0\n" ≡ ended_lines (word_of status.Infeasible) None None ++ later)

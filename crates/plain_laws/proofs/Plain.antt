@@ -10,18 +10,19 @@ use Rattle.cert_log.specs.declared.certificate.Certificate.{Certificate}
 use Rattle.cert_log.specs.Good.{Reaches}
 use Rattle.cert_log.specs.Texts.{cert_text}
 use Rattle.command_line.specs.Grammar.{Line, count_in}
-use Rattle.command_line.specs.declared.grammar.Count.TheVariants as count
-use Rattle.command_line.specs.declared.grammar.Verb.TheVariants as verb
+use Rattle.command_line.specs.declared.kinds.Count.TheVariants as count
+use Rattle.command_line.specs.declared.kinds.Verb.TheVariants as verb
 use Rattle.plan_freeze.specs.Rests.{frozen_loss}
 use Rattle.glass_run.specs.FreezeHeadlines.{AcceptsBehind, AcceptsFrom, StoresFreeze, frozen_in, whole_of}
 use Rattle.run_checks.specs.FrozenChecks.{raised}
 use Rattle.glass_run.specs.Headlines.{Accepts, StoresResumed, StoresSearch}
-use Rattle.run_search.specs.Plans.{HasLoss, counted_lines, ended_lines, ending, ending_word, handled, history_lines, search_lines}
+use Rattle.run_search.specs.Plans.{HasLoss, counted_lines, ended_lines, ending, handled, history_lines, search_lines}
 use Rattle.run_frame.specs.Runs.{Prints, World}
+use Rattle.run_frame.specs.Codes.{word_of}
 use Rattle.run_frame.specs.declared.status.Status.{Status}
 use Rattle.run_frame.specs.declared.status.Status.TheVariants as status
 use Rattle.glass_run.proofs.Headlines.{said_by}
-use Rattle.plain_laws.specs.Plain.{AcceptsPlan, AcceptsPlanBehind, FindsPlan, FindsPlanBehind, IsBounded, PrintsEnd, ResumesPlan, word_of}
+use Rattle.plain_laws.specs.Plain.{AcceptsPlan, AcceptsPlanBehind, FindsPlan, FindsPlanBehind, IsBounded, PrintsEnd, ResumesPlan}
 
 optimal_not_stopped : (result : Status) → result ≡ status.Optimal → result ≢ status.Stopped
 optimal_not_stopped result optimal stopped = clash (sym optimal ∙ stopped)
@@ -56,14 +57,8 @@ bounded b plan c result has bounds ends exact = record {
 }
 
 -- the word for how a search ended is that of its status
-word_is : (closed some : Bool) → (if closed then (if some then codes "optimal" else codes "infeasible") else codes "stopped")
-    ≡ word_of (if closed then (if some then status.Optimal else status.Infeasible) else status.Stopped)
-word_is true true = refl
-word_is true false = refl
-word_is false some = refl
-
-word_said : (c : Certificate) (result : Status) → result ≡ ending c → ending_word c ≡ word_of result
-word_said c result ends = word_is (c.left == 0) (is_some c.loss) ∙ ap word_of (sym ends)
+word_said : (c : Certificate) (result : Status) → result ≡ ending c → word_of (ending c) ≡ word_of result
+word_said c result ends = ap word_of (sym ends)
 
 -- the lines of a search begin with how it ended
 prints_end : (c : Certificate) (result : Status) (plates : Option ℕ) (told : Option (List ℕ)) (old new : World) → result ≡ ending c → Prints (search_lines c plates told) old.paper new.paper →
@@ -72,7 +67,7 @@ prints_end c result plates None old new ends prints =
     let counted : List ℕ = counted_lines plates (handled c) c.left in
     (counted, subst (λ (how : List ℕ). Prints (ended_lines how c.loss c.bound ++ counted) old.paper new.paper) (word_said c result ends) prints)
 prints_end c result plates (Some losses) old new ends prints =
-    let ended : List ℕ = ended_lines (ending_word c) c.loss c.bound in
+    let ended : List ℕ = ended_lines (word_of (ending c)) c.loss c.bound in
     let later : List ℕ = counted_lines plates (handled c) c.left ++ history_lines losses in (
       later,
       subst (λ (how : List ℕ). Prints (ended_lines how c.loss c.bound ++ later) old.paper new.paper) (word_said c result ends)
@@ -113,13 +108,13 @@ resumes_plan line held old new result of s = record {
 
 -- so where there is a plan in any case
 word_behind : (closed : Bool) (loss : Option ℕ) (n : ℕ) (result : Status) → loss ≡ Some n → (closed ≡ true → result ≡ status.Optimal) → (closed ≡ false → result ≡ status.Stopped)
-    → (if closed then (if is_some loss then codes "optimal" else codes "infeasible") else codes "stopped") ≡ word_of result
+    → word_of (if closed then (if is_some loss then status.Optimal else status.Infeasible) else status.Stopped) ≡ word_of result
 word_behind true loss n result is optimal stopped =
-    subst (λ (o : Option ℕ). (if is_some o then codes "optimal" else codes "infeasible") ≡ word_of result) (sym is) (ap word_of (sym (optimal refl)))
+    subst (λ (o : Option ℕ). word_of (if is_some o then status.Optimal else status.Infeasible) ≡ word_of result) (sym is) (ap word_of (sym (optimal refl)))
 word_behind false loss n result is optimal stopped = ap word_of (sym (stopped refl))
 
 freeze_word : (more n : ℕ) (c : Certificate) (result : Status) → option_map (λ m. more + m) c.loss ≡ Some n → (result ≡ status.Stopped ↔ (0 < c.left)) → (result ≢ status.Stopped → result ≡ status.Optimal)
-    → ending_word (raised more c) ≡ word_of result
+    → word_of (ending (raised more c)) ≡ word_of result
 freeze_word more n c result loss left_open exact =
     word_behind (c.left == 0) (option_map (λ m. more + m) c.loss) n result loss (λ closed. exact (λ stopped. none_open closed (left_open.0 stopped))) (λ left. left_open.1 (some_open left))
   where
@@ -158,7 +153,7 @@ freezes_plan line held old new result s =
       prints = (
         counted,
         subst (λ (how : List ℕ). Prints (ended_lines how (Some (loss_of s.b whole)) bound ++ counted) old.paper new.paper) (freeze_word more (loss_of s.b whole) c result s.loss_is s.left_open (λ h. (s.exact h).0))
-            (subst (λ (o : Option ℕ). Prints (ended_lines (ending_word (raised more c)) o bound ++ counted) old.paper new.paper) s.loss_is s.prints),
+            (subst (λ (o : Option ℕ). Prints (ended_lines (word_of (ending (raised more c))) o bound ++ counted) old.paper new.paper) s.loss_is s.prints),
       );
     }
 

@@ -11,7 +11,7 @@ use Rattle.cert_log.specs.Good.{Reaches}
 use Rattle.cert_log.specs.Texts.{loss_text}
 use Rattle.cert_resume.specs.Joins.{IsAtMost}
 use Rattle.command_line.specs.Grammar.{Line, lead_in}
-use Rattle.command_line.specs.declared.grammar.Lead.TheVariants as lead
+use Rattle.command_line.specs.declared.kinds.Lead.TheVariants as lead
 use Rattle.plan_csv.specs.PlanTexts.{plan_said}
 use Rattle.plan_csv.specs.Solutions.{solution_text}
 use Rattle.plan_freeze.specs.Frozen.{BeginsWith}
@@ -23,14 +23,9 @@ use Rattle.run_search.specs.Plans.{HasLoss, ended_lines, plan_stores}
 use Rattle.run_frame.specs.Runs.{Prints, Stands, World}
 use Rattle.run_checks.specs.Said.{IsPlanIn}
 use Rattle.run_frame.specs.Texts.{Texts, text_for, text_or_empty}
+use Rattle.run_frame.specs.Codes.{word_of}
 use Rattle.run_frame.specs.declared.status.Status.{Status}
 use Rattle.run_frame.specs.declared.status.Status.TheVariants as status
-
--- the word with which a search ends, by its status
-abbrev pub word_of : Status → List ℕ
-word_of status.Optimal = codes "optimal"
-word_of status.Infeasible = codes "infeasible"
-word_of _ = codes "stopped"
 
 -- the first three lines say how a search ended, its loss and its bound
 abbrev pub PrintsEnd : Status → Option ℕ → Option ℕ → World → World → Type 0

@@ -4,9 +4,9 @@
 
 ghost use Rattle.std.specs.Prelude.{◌≡◌, ℕ, List, suc};
 ghost use Rattle.command_line.specs.Grammar.{Line, count_in};
-ghost use Rattle.command_line.specs.declared.grammar.Count.TheVariants as count;
-ghost use Rattle.command_line.specs.declared.grammar.Verb.{Verb};
-ghost use Rattle.command_line.specs.declared.grammar.Verb.TheVariants as verb;
+ghost use Rattle.command_line.specs.declared.kinds.Count.TheVariants as count;
+ghost use Rattle.command_line.specs.declared.kinds.Verb.{Verb};
+ghost use Rattle.command_line.specs.declared.kinds.Verb.TheVariants as verb;
 ghost use Rattle.glass_io.specs.Told.{Contents};
 ghost use Rattle.glass_run.specs.Headlines.{Ended, IsSearch, IsSearchEnd};
 ghost use Rattle.run_frame.specs.Runs.{World};

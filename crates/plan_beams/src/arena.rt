@@ -1,6 +1,6 @@
 //! All nodes of a beam from which a candidate comes.
 
-use crate::node::Node;
+use crate::node::LaidCell;
 use crate::pools::Pool;
 use crate::seats::Seating;
 use glass_base::Memory;
@@ -12,7 +12,7 @@ const MANY_NODES: usize = 1 << 20;
 /// The nodes that were expanded; parents are places here.
 #[derive(Drop)]
 pub struct Arena {
-    pub nodes: Vec<Node>,
+    pub nodes: Vec<LaidCell>,
     /// How many there were after it was swept last.
     live: usize,
 }

@@ -1,15 +1,15 @@
 //! Whether the cells of a plate are clear of its defects where bands and strips are stretched.
 
 use crate::measure::Length;
-use crate::node::Node;
+use crate::node::LaidCell;
 use crate::scene::Scene;
 use crate::shapes::Rectangle;
-use crate::sheet::{Plate, Sheet};
+use crate::sheet::{BeamPlate, Sheet};
 use crate::stretching::{Spot, Stretching};
 use crate::ticks::Ticks;
 
 /// Whether a cell's item or one of its cuts runs through the defect. All of them lie in its strip.
-fn is_hit(sheet: &Sheet, wide: Length, defect: &Rectangle, node: &Node, spot: &Spot) -> bool {
+fn is_hit(sheet: &Sheet, wide: Length, defect: &Rectangle, node: &LaidCell, spot: &Spot) -> bool {
     defect.is_along_x(spot.a, spot.b)
         && (is_strip_hit(wide, defect, node, spot)
             || is_band_hit(sheet, defect, node, spot)
@@ -17,21 +17,21 @@ fn is_hit(sheet: &Sheet, wide: Length, defect: &Rectangle, node: &Node, spot: &S
 }
 
 /// Whether the strip's sides, where the cell begins it, run through the defect.
-fn is_strip_hit(wide: Length, defect: &Rectangle, node: &Node, spot: &Spot) -> bool {
+fn is_strip_hit(wide: Length, defect: &Rectangle, node: &LaidCell, spot: &Spot) -> bool {
     node.begins.is_strip()
         && ((Length::ZERO < spot.a && defect.is_crossed_x(spot.a))
             || (spot.b < wide && defect.is_crossed_x(spot.b)))
 }
 
 /// Whether the band's sides, where the cell begins it, run through the defect, which reaches into the strip.
-fn is_band_hit(sheet: &Sheet, defect: &Rectangle, node: &Node, spot: &Spot) -> bool {
+fn is_band_hit(sheet: &Sheet, defect: &Rectangle, node: &LaidCell, spot: &Spot) -> bool {
     node.begins.is_band()
         && ((Length::ZERO < spot.c && defect.is_crossed_y(spot.c))
             || (spot.d < sheet.high && defect.is_crossed_y(spot.d)))
 }
 
 /// Whether the cell's item, its sides or the line over or under its item run through the defect.
-fn is_cell_hit(defect: &Rectangle, node: &Node, spot: &Spot) -> bool {
+fn is_cell_hit(defect: &Rectangle, node: &LaidCell, spot: &Spot) -> bool {
     let right = spot.e + Length::from(node.width);
     let height = Length::from(node.height);
     let (low, top) = if node.lifted {
@@ -52,7 +52,7 @@ fn is_cell_hit(defect: &Rectangle, node: &Node, spot: &Spot) -> bool {
 }
 
 /// Whether a cell and its cuts are clear of the defects of its plate.
-fn is_spot_clear(sheet: &Sheet, plate: &Plate, node: &Node, spot: &Spot) -> bool {
+fn is_spot_clear(sheet: &Sheet, plate: &BeamPlate, node: &LaidCell, spot: &Spot) -> bool {
     !plate
         .defects
         .iter()
@@ -60,7 +60,7 @@ fn is_spot_clear(sheet: &Sheet, plate: &Plate, node: &Node, spot: &Spot) -> bool
 }
 
 /// Whether all cells of a plate up to a new one are clear of its defects, at the spots that they have with it.
-pub fn is_clear(sheet: &Sheet, scene: &Scene, new: Node, ticks: &mut Ticks) -> bool {
+pub fn is_clear(sheet: &Sheet, scene: &Scene, new: LaidCell, ticks: &mut Ticks) -> bool {
     let Some(plate) = sheet.plates.get(usize::from(scene.plate)) else {
         return false;
     };

@@ -2,7 +2,7 @@
 
 use crate::measure::Length;
 use crate::scene::Scene;
-use crate::shapes::{Band, Cell, Reach, Rectangle};
+use crate::shapes::{Cell, ClosedBand, Reach, Rectangle};
 use crate::sheet::Sheet;
 
 /// What a defect asks of a place.
@@ -43,12 +43,12 @@ fn demand_of_cell(scene: &Scene, defect: &Rectangle, reach: Reach, cell: &Cell) 
 }
 
 /// Whether the line behind the band's last cell runs through the defect.
-fn is_end_crossed(defect: &Rectangle, b: Length, band: &Band) -> bool {
+fn is_end_crossed(defect: &Rectangle, b: Length, band: &ClosedBand) -> bool {
     band.right < b && defect.is_crossed_x(band.right) && defect.y0 < band.d && band.c < defect.y1
 }
 
 /// Whether a line of a closed band runs through a defect of the strip.
-fn is_band_crossed(sheet: &Sheet, defect: &Rectangle, b: Length, band: &Band) -> bool {
+fn is_band_crossed(sheet: &Sheet, defect: &Rectangle, b: Length, band: &ClosedBand) -> bool {
     (Length::ZERO < band.c && defect.is_crossed_y(band.c))
         || (band.d < sheet.high && defect.is_crossed_y(band.d))
         || is_end_crossed(defect, b, band)

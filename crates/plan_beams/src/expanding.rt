@@ -1,10 +1,10 @@
 //! The children of a node.
 
 use crate::fitting::{MOST_BEHIND, first_reach, note_behind};
-use crate::form::{Base, Form, Forms};
+use crate::form::{Base, CellForm, Forms};
 use crate::ledger::Ledger;
 use crate::measure::Length;
-use crate::node::{Begins, Candidate, Node};
+use crate::node::Begins;
 use crate::placing::{is_late, least_waste, place};
 use crate::scene::Scene;
 use crate::shapes::Reach;
@@ -35,19 +35,13 @@ struct Attempts {
 }
 
 /// An empty strip from `x` on, on this plate, if there is such a plate.
-fn strip_from<'b>(
-    task: &Task,
-    arena: &'b [Node],
-    parent: Option<u32>,
-    base: &'b Candidate,
-    plate: u16,
-    x: Length,
-) -> Option<Scene<'b>> {
+fn strip_from<'b>(task: &'b Task<'b>, base: &Base<'b>, plate: u16, x: Length) -> Option<Scene<'b>> {
     match task.sheet.plates.get(usize::from(plate)) {
         Some(sheet) => Some(Scene {
-            arena,
-            parent,
-            base,
+            task,
+            arena: base.arena,
+            parent: base.parent,
+            base: base.candidate,
             begins: Begins::Strip,
             plate,
             wide: sheet.wide,
@@ -66,16 +60,16 @@ fn strip_from<'b>(
 }
 
 /// How far strip and band may reach.
-fn furthest(task: &Task, scene: &Scene) -> Reach {
+fn furthest(scene: &Scene) -> Reach {
     Reach {
-        b: scene.wide.min(scene.a + task.sheet.max1),
-        d: task.sheet.high,
+        b: scene.wide.min(scene.a + scene.task.sheet.max1),
+        d: scene.task.sheet.high,
     }
 }
 
 /// Whether strip and band may reach so far.
-fn is_within(task: &Task, scene: &Scene, reach: Reach) -> bool {
-    let furthest = furthest(task, scene);
+fn is_within(scene: &Scene, reach: Reach) -> bool {
+    let furthest = furthest(scene);
     reach.b <= furthest.b && reach.d <= furthest.d
 }
 
@@ -90,8 +84,8 @@ fn is_snug(scene: &Scene, reach: Reach) -> bool {
 
 /// How far strip and band reach at the least with a form that is put behind a defect. A band is to leave the strip as
 /// it is.
-fn reach_behind(task: &Task, scene: &Scene, form: &Form) -> Reach {
-    let reach = first_reach(task.sheet, scene, &form.cell(scene.left(), false));
+fn reach_behind(scene: &Scene, form: &CellForm) -> Reach {
+    let reach = first_reach(scene.task.sheet, scene, &form.cell(scene.left(), false));
     match scene.begins {
         Begins::Band => Reach {
             b: scene.b,
@@ -105,14 +99,12 @@ impl Attempts {
     /// Puts a form where strip and band reach as far as `least` at the least, or around the defects that hinder it.
     fn place(
         &mut self,
-        task: &Task,
         ledger: &mut Ledger,
         scene: &Scene,
-        form: &Form,
+        form: &CellForm,
         least: Reach,
     ) -> Result<Option<Reach>, Memory> {
-        let e = scene.left();
-        let found = place(task, ledger, scene, form, e, least, &mut self.tries)?;
+        let found = place(ledger, scene, form, least, &mut self.tries)?;
         if found.is_some() {
             self.any = true;
         }
@@ -122,20 +114,19 @@ impl Attempts {
     /// Puts a form into new bands above defects, or into new strips right of them.
     fn put_behind(
         &mut self,
-        task: &Task,
         ledger: &mut Ledger,
         scene: &Scene,
-        form: &Form,
+        form: &CellForm,
     ) -> Result<(), Memory> {
-        note_behind(task.sheet, scene, &mut self.behind)?;
+        note_behind(scene.task.sheet, scene, &mut self.behind)?;
         for number in 0..MOST_BEHIND {
             let Some(side) = self.behind.get(number).copied() else {
                 return Ok(());
             };
             let behind = scene.begun_at(side);
-            let least = reach_behind(task, &behind, form);
-            if least.b <= scene.wide && least.d <= task.sheet.high {
-                self.place(task, ledger, &behind, form, least)?;
+            let least = reach_behind(&behind, form);
+            if least.b <= scene.wide && least.d <= scene.task.sheet.high {
+                self.place(ledger, &behind, form, least)?;
             }
         }
         Ok(())
@@ -144,29 +135,28 @@ impl Attempts {
     /// Puts a form that has no snug place yet.
     fn put(
         &mut self,
-        task: &Task,
         ledger: &mut Ledger,
         scene: &Scene,
-        form: &mut Form,
+        form: &mut CellForm,
     ) -> Result<(), Memory> {
         if form.done {
             return Ok(());
         }
         let e = scene.left();
-        let least = first_reach(task.sheet, scene, &form.cell(e, false));
-        if !is_within(task, scene, least) {
+        let least = first_reach(scene.task.sheet, scene, &form.cell(e, false));
+        if !is_within(scene, least) {
             return Ok(());
         }
-        if is_late(task, scene, form, e, least) {
+        if is_late(scene, form, e, least) {
             self.hope = false;
             return Ok(());
         }
-        let found = self.place(task, ledger, scene, form, least)?;
+        let found = self.place(ledger, scene, form, least)?;
         if let Some(reach) = found {
-            form.done = !task.guide.loose && is_snug(scene, reach);
+            form.done = !scene.task.guide.loose && is_snug(scene, reach);
         }
-        if task.guide.more && found != Some(least) && scene.begins.is_band() {
-            return self.put_behind(task, ledger, scene, form);
+        if scene.task.guide.more && found != Some(least) && scene.begins.is_band() {
+            return self.put_behind(ledger, scene, form);
         }
         Ok(())
     }
@@ -175,21 +165,20 @@ impl Attempts {
     /// wherever they are put.
     fn put_each(
         &mut self,
-        task: &Task,
         ledger: &mut Ledger,
         scene: &Scene,
         forms: &mut Forms,
     ) -> Result<(), Memory> {
-        let least = least_waste(task, scene);
+        let least = least_waste(scene);
         if !self.hope && least >= forms.limit {
             return Ok(());
         }
-        let furthest = furthest(task, scene);
+        let furthest = furthest(scene);
         let e = scene.left();
         for form in forms.list.iter_mut() {
             let is_within = e + form.width <= furthest.b && scene.c + form.height <= furthest.d;
             if is_within && (self.hope || least < form.limit) {
-                self.put(task, ledger, scene, form)?;
+                self.put(ledger, scene, form)?;
             }
         }
         Ok(())
@@ -213,13 +202,11 @@ impl Bench {
 
     /// Offers the children of a node: cells in its band, bands in its strip, strips on its plate, and where none of
     /// these finds a place and none was passed over, strips on the next plate.
-    pub fn expand(
+    pub fn expand<'b>(
         &mut self,
-        task: &Task,
+        task: &'b Task<'b>,
         ledger: &mut Ledger,
-        arena: &[Node],
-        parent: Option<u32>,
-        base: &Base,
+        base: &Base<'b>,
     ) -> Result<(), Memory> {
         self.forms.note(task, ledger, base)?;
         let forms = self.forms.list.len() as u64;
@@ -227,70 +214,60 @@ impl Bench {
         self.attempts.any = false;
         self.attempts.hope = true;
         let mut next = 0;
-        if parent.is_some() {
+        if base.parent.is_some() {
             let node = &base.candidate.node;
-            if let Some(open) = strip_from(
-                task,
-                arena,
-                parent,
-                base.candidate,
-                node.plate,
-                node.b.into(),
-            ) {
-                self.stay(task, ledger, &open)?;
+            if let Some(open) = strip_from(task, base, node.plate, node.b.into()) {
+                self.stay(ledger, &open)?;
             }
             next = node.plate.saturating_add(1);
         }
         if self.attempts.any || !self.attempts.hope {
             return Ok(());
         }
-        self.begin_plate(task, ledger, arena, parent, base, next)
+        self.begin_plate(task, ledger, base, next)
     }
 
     /// Offers strips on a plate that a node begins.
-    fn begin_plate(
+    fn begin_plate<'b>(
         &mut self,
-        task: &Task,
+        task: &'b Task<'b>,
         ledger: &mut Ledger,
-        arena: &[Node],
-        parent: Option<u32>,
-        base: &Base,
+        base: &Base<'b>,
         plate: u16,
     ) -> Result<(), Memory> {
-        match strip_from(task, arena, parent, base.candidate, plate, Length::ZERO) {
+        match strip_from(task, base, plate, Length::ZERO) {
             Some(strip) => {
                 let begun = Scene {
                     begins: Begins::Plate,
                     ..strip
                 };
-                self.put_strips(task, ledger, &begun)
+                self.put_strips(ledger, &begun)
             }
             None => Ok(()),
         }
     }
 
     /// Offers the children on a node's own plate; `next` is the strip beside its own.
-    fn stay(&mut self, task: &Task, ledger: &mut Ledger, next: &Scene) -> Result<(), Memory> {
+    fn stay(&mut self, ledger: &mut Ledger, next: &Scene) -> Result<(), Memory> {
         let node = &next.base.node;
         let left = Length::from(node.a);
-        let right = left + task.sheet.max1;
+        let right = left + next.task.sheet.max1;
         self.strip.note(next.arena, node)?;
-        self.strip
-            .note_defects(task.sheet, node.plate, left, right, &mut ledger.ticks)?;
-        self.put_cells(task, ledger, next)?;
-        self.put_bands(task, ledger, next)?;
+        self.strip.note_defects(next.task.sheet, node.plate, left, right, &mut ledger.ticks)?;
+        self.put_cells(ledger, next)?;
+        self.put_bands(ledger, next)?;
         let strip = Scene {
             lax: Reach {
-                b: self.strip.lax_b(task.sheet, node),
+                b: self.strip.lax_b(next.task.sheet, node),
                 d: Length::ZERO,
             },
             ..*next
         };
-        self.put_strips(task, ledger, &strip)
+        self.put_strips(ledger, &strip)
     }
 
     /// Offers cells in the open band.
-    fn put_cells(&mut self, task: &Task, ledger: &mut Ledger, next: &Scene) -> Result<(), Memory> {
+    fn put_cells(&mut self, ledger: &mut Ledger, next: &Scene) -> Result<(), Memory> {
         let node = &next.base.node;
         let scene = Scene {
             begins: Begins::Cell,
@@ -303,12 +280,11 @@ impl Bench {
             cells: self.strip.cells.as_slice(),
             ..*next
         };
-        self.attempts
-            .put_each(task, ledger, &scene, &mut self.forms)
+        self.attempts.put_each(ledger, &scene, &mut self.forms)
     }
 
     /// Offers bands in the open strip.
-    fn put_bands(&mut self, task: &Task, ledger: &mut Ledger, next: &Scene) -> Result<(), Memory> {
+    fn put_bands(&mut self, ledger: &mut Ledger, next: &Scene) -> Result<(), Memory> {
         let node = &next.base.node;
         let scene = Scene {
             begins: Begins::Band,
@@ -323,19 +299,13 @@ impl Bench {
             bands: self.strip.bands.as_slice(),
             ..*next
         };
-        self.attempts
-            .put_each(task, ledger, &scene, &mut self.forms)
+        self.attempts.put_each(ledger, &scene, &mut self.forms)
     }
 
     /// Offers the first cells of a new strip.
-    fn put_strips(
-        &mut self,
-        task: &Task,
-        ledger: &mut Ledger,
-        strip: &Scene,
-    ) -> Result<(), Memory> {
+    fn put_strips(&mut self, ledger: &mut Ledger, strip: &Scene) -> Result<(), Memory> {
         self.strip.note_defects(
-            task.sheet,
+            strip.task.sheet,
             strip.plate,
             strip.a,
             strip.wide,
@@ -345,7 +315,6 @@ impl Bench {
             defects: self.strip.defects.as_slice(),
             ..*strip
         };
-        self.attempts
-            .put_each(task, ledger, &scene, &mut self.forms)
+        self.attempts.put_each(ledger, &scene, &mut self.forms)
     }
 }

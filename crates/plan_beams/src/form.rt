@@ -3,9 +3,9 @@
 use crate::chains::Chains;
 use crate::ledger::Ledger;
 use crate::measure::{Amount, Length};
-use crate::node::{Candidate, Part};
+use crate::node::{Candidate, LaidCell, LaidItem};
 use crate::shapes::Cell;
-use crate::stock::Piece;
+use crate::stock::StockItem;
 use crate::task::Task;
 use glass_base::Memory;
 use std::alloc::Global;
@@ -15,9 +15,9 @@ const MOST_PARTNERS: u32 = 6;
 
 /// One next item as a cell, or two of the same width one over the other. All lengths are in mm.
 #[derive(Clone, Copy)]
-pub struct Form {
-    pub part: Part,
-    pub above: Option<Part>,
+pub struct CellForm {
+    pub part: LaidItem,
+    pub above: Option<LaidItem>,
     pub width: Length,
     pub height: Length,
     pub area: Amount,
@@ -34,21 +34,25 @@ pub struct Form {
 /// The forms of a node.
 #[derive(Drop)]
 pub struct Forms {
-    pub list: Vec<Form>,
+    pub list: Vec<CellForm>,
     /// The greatest of their limits.
     pub limit: Amount,
     /// The forms of one item, by their widths.
     widths: Chains,
 }
 
-/// The node that is expanded: its sums, and how many items of each stack are cut.
+/// The node that is expanded: its sums, how many items of each stack are cut, and where it comes from.
 #[derive(Clone, Copy)]
 pub struct Base<'b> {
     pub candidate: &'b Candidate,
     pub places: &'b [u16],
+    /// The nodes before it.
+    pub arena: &'b [LaidCell],
+    /// Its place behind them; none at the start.
+    pub parent: Option<u32>,
 }
 
-impl Form {
+impl CellForm {
     /// How many items it has.
     pub fn items(&self) -> u16 {
         if self.above.is_some() { 2 } else { 1 }
@@ -74,9 +78,15 @@ impl Base<'_> {
 }
 
 /// The form `under` with the item of the form `over` above its own.
-fn stacked(task: &Task, ledger: &Ledger, base: &Base, under: &Form, over: &Form) -> Form {
+fn stacked(
+    task: &Task,
+    ledger: &Ledger,
+    base: &Base,
+    under: &CellForm,
+    over: &CellForm,
+) -> CellForm {
     let value = under.value + over.value;
-    Form {
+    CellForm {
         above: Some(over.part),
         height: under.height + over.height,
         area: under.area + over.area,
@@ -88,10 +98,10 @@ fn stacked(task: &Task, ledger: &Ledger, base: &Base, under: &Form, over: &Form)
 }
 
 /// The form of an item that lies over that of `under`, which is of the same stack.
-fn upper(under: &Form, piece: Piece, turned: bool) -> Form {
+fn upper(under: &CellForm, piece: StockItem, turned: bool) -> CellForm {
     let (width, height) = piece.sides(turned);
-    Form {
-        part: Part {
+    CellForm {
+        part: LaidItem {
             stack: under.part.stack,
             turned,
         },
@@ -125,7 +135,7 @@ impl Forms {
     }
 
     /// Adds a form.
-    fn add(&mut self, form: &Form) -> Result<(), Memory> {
+    fn add(&mut self, form: &CellForm) -> Result<(), Memory> {
         self.limit = self.limit.max(form.limit);
         self.list.push(*form)?;
         Ok(())
@@ -138,8 +148,8 @@ impl Forms {
             if let Some(piece) = stack.pieces.get(usize::from(*place)) {
                 let limit = base.limit(task, ledger, 1, piece.value);
                 let stack_number = number.min(65_535) as u16;
-                let form = Form {
-                    part: Part {
+                let form = CellForm {
+                    part: LaidItem {
                         stack: stack_number,
                         turned: false,
                     },
@@ -160,13 +170,13 @@ impl Forms {
     }
 
     /// Notes the form of an item, and where it is no square turned too, where `pairs` is as the turned one has it.
-    fn note_turns(&mut self, task: &Task, form: &Form, pairs: bool) -> Result<(), Memory> {
+    fn note_turns(&mut self, task: &Task, form: &CellForm, pairs: bool) -> Result<(), Memory> {
         self.note_single(task, form)?;
         if form.width == form.height {
             return Ok(());
         }
-        let turned = Form {
-            part: Part {
+        let turned = CellForm {
+            part: LaidItem {
                 stack: form.part.stack,
                 turned: true,
             },
@@ -178,7 +188,7 @@ impl Forms {
         self.note_single(task, &turned)
     }
 
-    fn note_single(&mut self, task: &Task, form: &Form) -> Result<(), Memory> {
+    fn note_single(&mut self, task: &Task, form: &CellForm) -> Result<(), Memory> {
         if form.width <= task.sheet.max1 && form.height <= task.sheet.high {
             self.add(form)?;
         }
@@ -209,7 +219,7 @@ impl Forms {
         task: &Task,
         ledger: &Ledger,
         base: &Base,
-        under: &Form,
+        under: &CellForm,
     ) -> Result<(), Memory> {
         let stack = usize::from(under.part.stack);
         let Some(piece) = task.stock.second(stack, base.places) else {
@@ -230,8 +240,8 @@ impl Forms {
         task: &Task,
         ledger: &Ledger,
         base: &Base,
-        under: &Form,
-        over: &Form,
+        under: &CellForm,
+        over: &CellForm,
     ) -> Result<(), Memory> {
         if over.width == under.width && under.height + over.height <= task.sheet.high {
             self.add(&stacked(task, ledger, base, under, over))?;
@@ -262,7 +272,7 @@ impl Forms {
         task: &Task,
         ledger: &Ledger,
         base: &Base,
-        over: &Form,
+        over: &CellForm,
     ) -> Result<(), Memory> {
         let mut partner = self.widths.last(over.width.0 as usize);
         for _ in 0..MOST_PARTNERS {

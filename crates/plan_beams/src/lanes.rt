@@ -7,7 +7,7 @@ use crate::form::Base;
 use crate::ledger::Ledger;
 use crate::lists::List;
 use crate::measure::{Amount, Length};
-use crate::node::{Candidate, Node};
+use crate::node::{Candidate, LaidCell};
 use crate::pools::Pool;
 use crate::seats::Seating;
 use crate::strip::ROOM;
@@ -21,7 +21,7 @@ use std::sync::Mutex;
 #[derive(Clone, Copy)]
 pub struct Shift<'s> {
     pub task: &'s Task<'s>,
-    pub arena: &'s [Node],
+    pub arena: &'s [LaidCell],
     /// The nodes that are to be expanded, by their places in the pool.
     pub taken: &'s [u32],
     pub pool: &'s Pool,
@@ -47,7 +47,7 @@ pub struct Lane {
     pub ledger: Ledger,
     bench: Bench,
     /// Its nodes of a level, and how many items of each stack they have cut.
-    pub nodes: Vec<Node>,
+    pub nodes: Vec<LaidCell>,
     pub seats: Vec<u16>,
     /// The same of the node that is expanded.
     places: Vec<u16>,
@@ -84,8 +84,10 @@ impl Lane {
         let base = Base {
             candidate: &start,
             places: self.places.as_slice(),
+            arena: &[],
+            parent: None,
         };
-        self.bench.expand(task, &mut self.ledger, &[], None, &base)?;
+        self.bench.expand(task, &mut self.ledger, &base)?;
         self.rank()
     }
 
@@ -99,15 +101,10 @@ impl Lane {
         let base = Base {
             candidate,
             places: self.places.as_slice(),
+            arena: shift.arena,
+            parent: Some(place.min(u32::MAX as usize) as u32),
         };
-        let parent = place.min(u32::MAX as usize) as u32;
-        self.bench.expand(
-            shift.task,
-            &mut self.ledger,
-            shift.arena,
-            Some(parent),
-            &base,
-        )
+        self.bench.expand(shift.task, &mut self.ledger, &base)
     }
 
     /// Sorts the orders of its children.

@@ -1,7 +1,7 @@
 //! Partial traces: each ends in a node, and a node knows the one before it.
 
 use crate::measure::{Amount, Length};
-use crate::shapes::{Band, Cell, Reach};
+use crate::shapes::{Cell, ClosedBand, Reach};
 use crate::task::LANES;
 
 /// What a cell begins.
@@ -43,7 +43,7 @@ impl Begins {
 
 /// The next item of a stack, as it is laid.
 #[derive(Clone, Copy)]
-pub struct Part {
+pub struct LaidItem {
     pub stack: u16,
     pub turned: bool,
 }
@@ -51,12 +51,12 @@ pub struct Part {
 /// One cell put down. All lengths are in mm; the least `b` and `d` of the strip and the band so far are those of
 /// their last node, which later cells may raise.
 #[derive(Clone, Copy)]
-pub struct Node {
+pub struct LaidCell {
     /// The node before, by its place in the arena; none for the first cell.
     pub parent: Option<u32>,
-    pub part: Part,
+    pub part: LaidItem,
     /// The item above in the cell.
-    pub above: Option<Part>,
+    pub above: Option<LaidItem>,
     pub begins: Begins,
     pub lifted: bool,
     pub plate: u16,
@@ -75,12 +75,12 @@ pub struct Node {
     pub lax_d: u16,
 }
 
-impl Node {
+impl LaidCell {
     /// The state before the first cell.
-    pub fn start() -> Node {
-        Node {
+    pub fn start() -> LaidCell {
+        LaidCell {
             parent: None,
-            part: Part {
+            part: LaidItem {
                 stack: 0,
                 turned: false,
             },
@@ -102,7 +102,7 @@ impl Node {
     }
 
     /// The node before this one, where there is one.
-    pub fn parent_in<'n>(&self, arena: &'n [Node]) -> Option<&'n Node> {
+    pub fn parent_in<'n>(&self, arena: &'n [LaidCell]) -> Option<&'n LaidCell> {
         arena.get(self.parent? as usize)
     }
 
@@ -146,8 +146,8 @@ impl Node {
     }
 
     /// The band that ends with this cell.
-    pub fn band(&self) -> Band {
-        Band {
+    pub fn band(&self) -> ClosedBand {
+        ClosedBand {
             c: self.c.into(),
             d: self.d.into(),
             right: self.right(),
@@ -158,7 +158,7 @@ impl Node {
 /// A node with its sums.
 #[derive(Clone, Copy)]
 pub struct Candidate {
-    pub node: Node,
+    pub node: LaidCell,
     /// The least is the best.
     pub key: Amount,
     /// The area of the items so far.
@@ -175,7 +175,7 @@ impl Candidate {
     /// The state before the first cell.
     pub fn start() -> Candidate {
         Candidate {
-            node: Node::start(),
+            node: LaidCell::start(),
             key: Amount::ZERO,
             area: Amount::ZERO,
             value: Amount::ZERO,

@@ -1,7 +1,7 @@
 //! The path of a plan, and its trace.
 
 use crate::measure::Amount;
-use crate::node::{Candidate, Node, Part};
+use crate::node::{Candidate, LaidCell, LaidItem};
 use crate::sheet::Sheet;
 use crate::stock::Stock;
 use crate::stretching::{Spot, Stretching};
@@ -11,9 +11,9 @@ use std::alloc::Global;
 
 /// The nodes of a plan, and its loss.
 #[derive(Drop)]
-pub struct Path {
+pub struct FoundPath {
     /// From the last one on.
-    pub nodes: Vec<Node>,
+    pub nodes: Vec<LaidCell>,
     pub loss: Amount,
 }
 
@@ -31,7 +31,11 @@ pub fn least_of(list: &[Candidate], best: Amount) -> Option<Candidate> {
 }
 
 /// A node and those before it.
-fn nodes_from<'n>(alloc: Global, arena: &'n [Node], last: &'n Node) -> Result<Vec<Node>, Memory> {
+fn nodes_from<'n>(
+    alloc: Global,
+    arena: &'n [LaidCell],
+    last: &'n LaidCell,
+) -> Result<Vec<LaidCell>, Memory> {
     let mut nodes = Vec::new(alloc);
     let mut current = last;
     for _ in 0..last.items {
@@ -45,15 +49,15 @@ fn nodes_from<'n>(alloc: Global, arena: &'n [Node], last: &'n Node) -> Result<Ve
 }
 
 /// The path to a candidate that holds all items.
-pub fn path_to(alloc: Global, last: Candidate, arena: &[Node]) -> Result<Path, Memory> {
-    Ok(Path {
+pub fn path_to(alloc: Global, last: Candidate, arena: &[LaidCell]) -> Result<FoundPath, Memory> {
+    Ok(FoundPath {
         nodes: nodes_from(alloc, arena, &last.node)?,
         loss: last.waste,
     })
 }
 
 /// The number in the instance of the stack of an item.
-fn stack_of(stock: &Stock, part: Part) -> u32 {
+fn stack_of(stock: &Stock, part: LaidItem) -> u32 {
     match stock.stacks.get(usize::from(part.stack)) {
         Some(stack) => stack.number,
         None => 0,
@@ -61,7 +65,7 @@ fn stack_of(stock: &Stock, part: Part) -> u32 {
 }
 
 /// The step of a node's lower item at this spot.
-fn step_of(stock: &Stock, node: &Node, spot: &Spot) -> Step {
+fn step_of(stock: &Stock, node: &LaidCell, spot: &Spot) -> Step {
     Step {
         stack: stack_of(stock, node.part),
         turn: u32::from(node.part.turned),
@@ -79,7 +83,7 @@ fn step_of(stock: &Stock, node: &Node, spot: &Spot) -> Step {
 fn note_steps(
     steps: &mut Vec<Step>,
     stock: &Stock,
-    node: &Node,
+    node: &LaidCell,
     spot: &Spot,
 ) -> Result<(), Memory> {
     let step = step_of(stock, node, spot);
@@ -101,7 +105,7 @@ pub fn trace_of(
     alloc: Global,
     sheet: &Sheet,
     stock: &Stock,
-    path: &[Node],
+    path: &[LaidCell],
 ) -> Result<Trace, Memory> {
     let mut steps = Vec::new(alloc);
     let mut stretching = Stretching::new();

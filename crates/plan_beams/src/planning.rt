@@ -2,22 +2,22 @@
 
 use crate::crew::{Alone, Crew};
 use crate::hands::Hands;
-use crate::paths::{Path, trace_of};
-use crate::rest::Rest;
-use crate::schedule::{Turn, WideBeam, first_turn, second_turn, wide_turn};
+use crate::pace::Pace;
+use crate::paths::{FoundPath, trace_of};
+use crate::rest::Remainder;
+use crate::schedule::{BeamTurn, WideBeam, first_turn, second_turn, wide_turn};
 use crate::searching::beam;
 use crate::sheet::Sheet;
 use crate::stock::Stock;
 use crate::task::Task;
-use crate::watch::{Nobody, Watch};
 use cut_model::{Step, Trace};
-use glass_base::{Instance, Memory};
+use glass_base::{Instance, Listener, Memory, Nobody};
 use std::alloc::Global;
 use std::thread::Threads;
 
 /// A trace that a beam found, and the loss in mm² that it counted. Nothing is promised of either.
 #[derive(Drop)]
-pub struct Found {
+pub struct BeamPlan {
     pub trace: Trace,
     pub loss: u64,
 }
@@ -25,7 +25,7 @@ pub struct Found {
 /// What a wide beam found, if it found something, and the ticks that it took.
 #[derive(Drop)]
 pub struct Widely {
-    pub found: Option<Found>,
+    pub found: Option<BeamPlan>,
     pub ticks: u64,
 }
 
@@ -34,10 +34,10 @@ fn found_on(
     alloc: Global,
     sheet: &Sheet,
     stock: &Stock,
-    path: Option<Path>,
-) -> Result<Option<Found>, Memory> {
+    path: Option<FoundPath>,
+) -> Result<Option<BeamPlan>, Memory> {
     match path {
-        Some(path) => Ok(Some(Found {
+        Some(path) => Ok(Some(BeamPlan {
             trace: trace_of(alloc, sheet, stock, path.nodes.as_slice())?,
             loss: path.loss.0,
         })),
@@ -52,8 +52,13 @@ fn found_on(
 /// A beam ends soon after so many ticks. It fails only where memory runs out.
 #[derive(Drop)]
 pub struct Beams {
-    rest: Rest,
+    rest: Remainder,
     sheet: Sheet,
+}
+
+/// The pace of a beam that nobody is told of, and that no clock ends.
+fn unheard() -> Pace<'static, Nobody> {
+    Pace::new(&Nobody, 0, None)
 }
 
 impl Beams {
@@ -70,7 +75,7 @@ impl Beams {
         plates: u32,
         steps: &[Step],
     ) -> Result<Beams, Memory> {
-        let rest = Rest::behind(alloc, instance, plates, steps)?;
+        let rest = Remainder::behind(alloc, instance, plates, steps)?;
         let sheet = Sheet::new(alloc, instance, &rest)?;
         Ok(Beams { rest, sheet })
     }
@@ -86,13 +91,13 @@ impl Beams {
     }
 
     /// The best trace of a beam, if it finds one, and the ticks that it took.
-    fn take<H: Hands, W: Watch>(
+    fn take<H: Hands, L: Listener>(
         &self,
         alloc: Global,
         hands: &H,
         instance: &Instance,
-        turn: Turn,
-        watch: &W,
+        turn: BeamTurn,
+        pace: &Pace<L>,
     ) -> Result<Widely, Memory>
         requires hands { H.can_work }
     {
@@ -105,7 +110,7 @@ impl Beams {
             ticks: turn.ticks,
             widest: turn.widest,
         };
-        let (path, ticks) = beam(alloc, hands, &task, watch)?;
+        let (path, ticks) = beam(alloc, hands, &task, pace)?;
         Ok(Widely {
             found: found_on(alloc, &self.sheet, &stock, path)?,
             ticks,
@@ -118,9 +123,9 @@ impl Beams {
         alloc: Global,
         instance: &Instance,
         ticks: u64,
-    ) -> Result<Option<Found>, Memory> {
+    ) -> Result<Option<BeamPlan>, Memory> {
         let turn = first_turn(ticks);
-        let taken = self.take(alloc, &Alone, instance, turn, &Nobody)?;
+        let taken = self.take(alloc, &Alone, instance, turn, &unheard())?;
         Ok(taken.found)
     }
 
@@ -131,22 +136,22 @@ impl Beams {
         instance: &Instance,
         lost: Option<u64>,
         ticks: u64,
-    ) -> Result<Option<Found>, Memory> {
+    ) -> Result<Option<BeamPlan>, Memory> {
         let turn = second_turn(&self.rest, lost, ticks);
-        let taken = self.take(alloc, &Alone, instance, turn, &Nobody)?;
+        let taken = self.take(alloc, &Alone, instance, turn, &unheard())?;
         Ok(taken.found)
     }
 
     /// The best trace of a wide beam, if it finds one, and the ticks that it took. Each of its levels is spread over
-    /// the crew's threads; what is found does not hang on them. How many ticks were spent is told to `watch` after
+    /// the crew's threads; what is found does not hang on them. How far the work is, is told after
     /// each level.
-    pub fn wide<R: Threads + Sync, W: Watch>(
+    pub fn wide<R: Threads + Sync, L: Listener>(
         &self,
         alloc: Global,
         crew: &Crew<R>,
         instance: &Instance,
         beam: WideBeam,
-        watch: &W,
+        pace: &Pace<L>,
     ) -> Result<Widely, Memory> {
         let waste = self.sheet.waste;
         self.take(
@@ -154,7 +159,7 @@ impl Beams {
             crew,
             instance,
             wide_turn(&self.rest, waste, beam),
-            watch,
+            pace,
         )
     }
 }

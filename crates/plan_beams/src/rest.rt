@@ -8,7 +8,7 @@ use std::alloc::Global;
 
 /// What is to be planned: the plates behind the first ones, and the items that are not on these.
 #[derive(Drop)]
-pub struct Rest {
+pub struct Remainder {
     /// How many plates stay as they are.
     pub plates: u32,
     /// How many items of each stack are on them.
@@ -33,15 +33,15 @@ fn places_behind(alloc: Global, stacks: u32, steps: &[Step]) -> Result<Vec<usize
     Ok(places)
 }
 
-impl Rest {
+impl Remainder {
     /// What is left behind the first plates of a plan, where these are its steps on them.
     pub fn behind(
         alloc: Global,
         instance: &Instance,
         plates: u32,
         steps: &[Step],
-    ) -> Result<Rest, Memory> {
-        let mut rest = Rest {
+    ) -> Result<Remainder, Memory> {
+        let mut rest = Remainder {
             plates,
             places: places_behind(alloc, instance.stacks(), steps)?,
             items: 0,

@@ -1,14 +1,17 @@
 //! The strip and the band in which a cell is to be put. All lengths are in mm.
 
 use crate::measure::Length;
-use crate::node::{Begins, Candidate, Node};
-use crate::shapes::{Band, Cell, Reach, Rectangle};
+use crate::node::{Begins, Candidate, LaidCell};
+use crate::shapes::{Cell, ClosedBand, Reach, Rectangle};
+use crate::task::Task;
 
-/// From which node a cell is to be put, and the strip and the band into which, as they are so far.
+/// For which beam and from which node a cell is to be put, and the strip and the band into which, as they are so far.
 #[derive(Clone, Copy)]
 pub struct Scene<'s> {
+    /// What the beam is to do.
+    pub task: &'s Task<'s>,
     /// The nodes before that one.
-    pub arena: &'s [Node],
+    pub arena: &'s [LaidCell],
     /// The node, by its place in the arena; none at the start.
     pub parent: Option<u32>,
     pub base: &'s Candidate,
@@ -30,7 +33,7 @@ pub struct Scene<'s> {
     /// The defects that may stand in the way, from left to right.
     pub defects: &'s [Rectangle],
     /// The closed bands of the strip.
-    pub bands: &'s [Band],
+    pub bands: &'s [ClosedBand],
     /// The cells that the band has already.
     pub cells: &'s [Cell],
 }

@@ -5,7 +5,7 @@ ghost use Rattle.std.specs.Prelude.{◌≤◌};
 
 use crate::guide::{Guide, Tolerance};
 use crate::measure::{Amount, Length};
-use crate::rest::Rest;
+use crate::rest::Remainder;
 
 /// The loss that the first beam expects of an area, in 1/1024.
 const FIRST_RATE: u64 = 102;
@@ -44,7 +44,7 @@ const MOST_DOUBLED: u32 = 6;
 /// A guide: the share of the best plan's loss that is expected, in 1/1024; the tolerance in mm; the charges; how much
 /// the rest of a stack counts; and whether all places are tried.
 #[derive(Clone, Copy)]
-struct Row {
+struct GuideRow {
     share: u64,
     tolerance: u32,
     right: u64,
@@ -54,7 +54,7 @@ struct Row {
     loose: bool,
 }
 
-const USUAL: Row = Row {
+const USUAL: GuideRow = GuideRow {
     share: 717,
     tolerance: 20,
     right: 102,
@@ -65,30 +65,30 @@ const USUAL: Row = Row {
 };
 
 /// The guides of the wide beams, in turn. Those of a first plan go by the first one.
-const ROWS: [Row; 6] = [
+const ROWS: [GuideRow; 6] = [
     USUAL,
-    Row {
+    GuideRow {
         share: 800,
         tolerance: 5,
         ..USUAL
     },
-    Row {
+    GuideRow {
         share: 1075,
         tolerance: 5,
         ..USUAL
     },
-    Row {
+    GuideRow {
         share: 500,
         tolerance: 10,
         even: 1400,
         ..USUAL
     },
-    Row {
+    GuideRow {
         tolerance: 0,
         more: true,
         ..USUAL
     },
-    Row {
+    GuideRow {
         tolerance: 0,
         right: 40,
         above: 4,
@@ -101,7 +101,7 @@ const ROWS: [Row; 6] = [
 /// What a beam is to do, whatever the instance: by what it goes, what it is to lose less than, its effort in ticks,
 /// and how many nodes of a level it expands at the most.
 #[derive(Clone, Copy)]
-pub struct Turn {
+pub struct BeamTurn {
     pub guide: Guide,
     pub best: Amount,
     pub ticks: u64,
@@ -118,7 +118,7 @@ pub struct WideBeam {
     pub ticks: u64,
 }
 
-impl Row {
+impl GuideRow {
     /// The guide that expects a loss at this rate.
     fn guide(&self, rate: u64, tolerance: Tolerance) -> Guide {
         Guide {
@@ -162,8 +162,8 @@ impl Row {
 }
 
 /// The first beam of a first plan, whose loss tells the second one what to expect.
-pub fn first_turn(ticks: u64) -> Turn {
-    Turn {
+pub fn first_turn(ticks: u64) -> BeamTurn {
+    BeamTurn {
         guide: USUAL.guide(FIRST_RATE, USUAL.slack()),
         best: Amount::FAR,
         ticks,
@@ -172,7 +172,7 @@ pub fn first_turn(ticks: u64) -> Turn {
 }
 
 /// The second beam of a first plan, where the first one lost so much, in mm².
-pub fn second_turn(rest: &Rest, lost: Option<u64>, ticks: u64) -> Turn {
+pub fn second_turn(rest: &Remainder, lost: Option<u64>, ticks: u64) -> BeamTurn {
     let (rate, best) = match lost {
         Some(lost) => (
             USUAL.rate(lost, rest.area).unwrap_or(FIRST_RATE),
@@ -180,7 +180,7 @@ pub fn second_turn(rest: &Rest, lost: Option<u64>, ticks: u64) -> Turn {
         ),
         None => (FIRST_RATE, Amount::FAR),
     };
-    Turn {
+    BeamTurn {
         guide: USUAL.guide(rate, USUAL.slack_for(rest.items)),
         best,
         ticks,
@@ -196,10 +196,10 @@ fn doubled(number: u32) -> u32
 }
 
 /// A wide beam's turn, where `waste` is the least one.
-pub fn wide_turn(rest: &Rest, waste: Length, beam: WideBeam) -> Turn {
+pub fn wide_turn(rest: &Remainder, waste: Length, beam: WideBeam) -> BeamTurn {
     let row = ROWS[(beam.number % 6) as usize];
     let rate = row.rate(beam.lost, rest.area).unwrap_or(0);
-    Turn {
+    BeamTurn {
         guide: row.guide(rate, row.tolerance_for(rest.items, waste)),
         best: Amount(beam.lost),
         ticks: beam.ticks,

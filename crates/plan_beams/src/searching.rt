@@ -5,13 +5,13 @@ use crate::arena::Arena;
 use crate::hands::Hands;
 use crate::lanes::{Lane, Shift, cuts};
 use crate::measure::{Amount, Length};
-use crate::paths::{Path, path_to};
+use crate::pace::Pace;
+use crate::paths::{FoundPath, path_to};
 use crate::pools::Pool;
 use crate::seats::Seating;
 use crate::sieves::{Sieve, Sifting};
 use crate::task::{AHEAD, LANES, Task, room_for};
-use crate::watch::Watch;
-use glass_base::Memory;
+use glass_base::{Listener, Memory};
 use std::alloc::{AllocError, Global};
 use std::mem;
 use std::sync::Mutex;
@@ -217,20 +217,18 @@ impl Search {
         Ok(())
     }
 
-    /// Works a level off, where so many ticks are left and a node takes `cost`, and tells what one took.
+    /// Works a level off, of which at most `width` nodes are expanded, and tells how many ticks one took.
     fn work_off<H: Hands>(
         &mut self,
         alloc: Global,
         hands: &H,
         task: &Task,
         level: usize,
-        left: u64,
-        cost: u64,
-    ) -> Result<u64, Memory>
+        width: usize,
+    ) -> Result<Option<u64>, Memory>
         requires hands { H.can_work }
     {
         let before = self.spent;
-        let width = task.width(left, level, cost);
         self.take(hands, task, width)?;
         self.expand(hands, task, width)?;
         self.gather(level)?;
@@ -242,14 +240,12 @@ impl Search {
             &mut self.next,
         )?;
         let spent = self.spent.wrapping_sub(before);
-        match spent.checked_div(self.taken.len() as u64) {
-            Some(mean) => Ok(mean.saturating_add(1)),
-            None => Ok(cost),
-        }
+        let mean = spent.checked_div(self.taken.len() as u64);
+        Ok(mean.map(|ticks| ticks.saturating_add(1)))
     }
 
     /// The path to the best candidate that holds all items, if one has less waste than is known.
-    fn path(&self, alloc: Global, task: &Task) -> Result<Option<Path>, Memory> {
+    fn path(&self, alloc: Global, task: &Task) -> Result<Option<FoundPath>, Memory> {
         match self.now.least(task.best) {
             Some(last) => Ok(Some(path_to(alloc, last, self.arena.nodes.as_slice())?)),
             None => Ok(None),
@@ -258,12 +254,12 @@ impl Search {
 }
 
 /// The path to the best plan that a beam finds, if it finds one, and the ticks that it took.
-pub fn beam<H: Hands, W: Watch>(
+pub fn beam<H: Hands, L: Listener>(
     alloc: Global,
     hands: &H,
     task: &Task,
-    watch: &W,
-) -> Result<(Option<Path>, u64), Memory>
+    pace: &Pace<L>,
+) -> Result<(Option<FoundPath>, u64), Memory>
     requires hands { H.can_work }
 {
     let mut search = Search::new(alloc, task)?;
@@ -273,9 +269,11 @@ pub fn beam<H: Hands, W: Watch>(
         .saturating_add(40);
     search.begin(task)?;
     for level in 1..items {
-        let left = task.left(search.spent).min(watch.left(search.spent));
-        cost = search.work_off(alloc, hands, task, level, left, cost)?;
-        watch.spends(search.spent);
+        let left = task.left(search.spent).min(pace.left(search.spent));
+        let width = task.width(left, level, cost);
+        let mean = search.work_off(alloc, hands, task, level, width)?;
+        cost = mean.unwrap_or(cost);
+        pace.tell(search.spent);
     }
     Ok((search.path(alloc, task)?, search.spent))
 }

@@ -1,6 +1,6 @@
 //! How many items of each stack the nodes of a level have cut.
 
-use crate::node::{Node, Part};
+use crate::node::{LaidCell, LaidItem};
 use glass_base::Memory;
 use std::alloc::Global;
 
@@ -35,21 +35,21 @@ impl Seats {
 }
 
 /// The numbers of the node before this one, where there is one.
-fn parent_seat<'l>(levels: &'l [Seats; 3], node: &Node, stacks: usize) -> Option<&'l [u16]> {
+fn parent_seat<'l>(levels: &'l [Seats; 3], node: &LaidCell, stacks: usize) -> Option<&'l [u16]> {
     let more = if node.above.is_some() { 2 } else { 1 };
     let level = usize::from(node.items.saturating_sub(more)) % 3;
     levels[level].of(node.parent? as usize, stacks)
 }
 
 /// Counts one more item of a stack.
-fn count(seat: &mut [u16], part: Part) {
+fn count(seat: &mut [u16], part: LaidItem) {
     if let Some(place) = seat.get_mut(usize::from(part.stack)) {
         *place = place.saturating_add(1);
     }
 }
 
 /// Notes the numbers of a node.
-fn fill_seat(levels: &[Seats; 3], node: &Node, seat: &mut [u16]) {
+fn fill_seat(levels: &[Seats; 3], node: &LaidCell, seat: &mut [u16]) {
     match parent_seat(levels, node, seat.len()) {
         Some(parent) => {
             for (place, other) in seat.iter_mut().zip(parent.iter()) {
@@ -90,7 +90,7 @@ impl Seating {
     }
 
     /// Notes the numbers of a node of the next level in a list of its own, which has a place for each stack.
-    pub fn fill(&self, node: &Node, seat: &mut [u16]) {
+    pub fn fill(&self, node: &LaidCell, seat: &mut [u16]) {
         fill_seat(&self.levels, node, seat);
     }
 

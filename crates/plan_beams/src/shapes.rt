@@ -54,7 +54,7 @@ impl Cell {
 
 /// A band of the strip that is closed.
 #[derive(Clone, Copy)]
-pub struct Band {
+pub struct ClosedBand {
     /// The lower side.
     pub c: Length,
     /// The upper side.

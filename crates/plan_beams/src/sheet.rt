@@ -1,14 +1,14 @@
 //! Parameters, plates and defects in the form that the search reads.
 
 use crate::measure::Length;
-use crate::rest::Rest;
+use crate::rest::Remainder;
 use crate::shapes::Rectangle;
 use glass_base::{Defect, Instance, Memory};
 use std::alloc::Global;
 
 /// A plate. All lengths are in mm.
 #[derive(Drop)]
-pub struct Plate {
+pub struct BeamPlate {
     pub wide: Length,
     /// The widths of the plates before it together, without those that stay as they are.
     pub before: Length,
@@ -26,7 +26,7 @@ pub struct Sheet {
     pub waste: Length,
     /// The least side of all items.
     pub small: Length,
-    pub plates: Vec<Plate>,
+    pub plates: Vec<BeamPlate>,
 }
 
 fn rectangle(defect: &Defect) -> Rectangle {
@@ -53,12 +53,12 @@ fn defects_of(alloc: Global, instance: &Instance, plate: u32) -> Result<Vec<Rect
 }
 
 /// The plates behind the first ones.
-fn plates_behind(alloc: Global, instance: &Instance, first: u32) -> Result<Vec<Plate>, Memory> {
+fn plates_behind(alloc: Global, instance: &Instance, first: u32) -> Result<Vec<BeamPlate>, Memory> {
     let mut plates = Vec::new(alloc);
     let mut before = 0u32;
     for number in first..instance.params().plates {
         let wide = instance.width(number);
-        plates.push(Plate {
+        plates.push(BeamPlate {
             wide: Length(wide),
             before: Length(before),
             defects: defects_of(alloc, instance, number)?,
@@ -69,7 +69,7 @@ fn plates_behind(alloc: Global, instance: &Instance, first: u32) -> Result<Vec<P
 }
 
 impl Sheet {
-    pub fn new(alloc: Global, instance: &Instance, rest: &Rest) -> Result<Sheet, Memory> {
+    pub fn new(alloc: Global, instance: &Instance, rest: &Remainder) -> Result<Sheet, Memory> {
         let params = instance.params();
         Ok(Sheet {
             high: Length(params.height),

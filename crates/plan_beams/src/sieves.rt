@@ -5,7 +5,7 @@
 use crate::crew::Labour;
 use crate::guide::Tolerance;
 use crate::pools::Pool;
-use crate::taken::{Front, Taken};
+use crate::taken::{Outline, Taken};
 use crate::task::LANES;
 use crate::ticks::Ticks;
 use crossbeam_utils::CachePadded;
@@ -17,7 +17,7 @@ const BUCKETS: u64 = 4_093;
 
 /// A candidate: its number in the order of its level, and its place in the pool.
 #[derive(Clone, Copy)]
-struct Entry {
+struct Ranked {
     number: u32,
     place: u32,
 }
@@ -25,7 +25,7 @@ struct Entry {
 /// A sieve, which has its share of the sets of items.
 #[derive(Drop)]
 pub struct Sieve {
-    entries: Vec<Entry>,
+    entries: Vec<Ranked>,
     /// The numbers of those that none before them dominates.
     pub good: Vec<u32>,
     taken: Taken,
@@ -57,7 +57,7 @@ impl Sieve {
 
     /// Takes a candidate in, which is no better than those before it.
     pub fn put(&mut self, number: u32, place: u32) -> Result<(), Memory> {
-        self.entries.push(Entry { number, place })?;
+        self.entries.push(Ranked { number, place })?;
         Ok(())
     }
 
@@ -66,7 +66,7 @@ impl Sieve {
         for entry in &self.entries {
             if let Some(candidate) = pool.get(entry.place) {
                 let bucket = (candidate.mix / LANES as u64 % BUCKETS) as usize;
-                let front = Front::of(candidate);
+                let front = Outline::of(candidate);
                 if self
                     .taken
                     .admit(&front, bucket, tolerance, &mut self.ticks)?

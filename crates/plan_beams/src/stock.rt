@@ -4,13 +4,13 @@ ghost use Rattle.std.specs.Prelude.{◌<◌, length};
 
 use crate::guide::Guide;
 use crate::measure::{Amount, Length};
-use crate::rest::Rest;
+use crate::rest::Remainder;
 use glass_base::{Instance, Item, Memory};
 use std::alloc::Global;
 
 /// An item. All lengths are in mm.
 #[derive(Clone, Copy)]
-pub struct Piece {
+pub struct StockItem {
     pub length: Length,
     pub width: Length,
     pub area: Amount,
@@ -22,7 +22,7 @@ pub struct Piece {
     pub pairs_width: bool,
 }
 
-impl Piece {
+impl StockItem {
     /// The sides along x and y.
     pub fn sides(&self, turned: bool) -> (Length, Length) {
         if turned {
@@ -39,7 +39,7 @@ pub struct Stack {
     /// Its number in the instance.
     pub number: u32,
     /// Its items, in the order in which they are cut.
-    pub pieces: Vec<Piece>,
+    pub pieces: Vec<StockItem>,
     /// A number below 2^48. Sets of items are told apart by the sums of these.
     pub mix: u64,
 }
@@ -96,7 +96,7 @@ fn pieces_of(
     positions: &[u32],
     guide: &Guide,
     mean: u64,
-) -> Result<Vec<Piece>, Memory> {
+) -> Result<Vec<StockItem>, Memory> {
     let items = instance.items();
     let mut pieces = Vec::new(alloc);
     let mut behind = 0u64;
@@ -104,7 +104,7 @@ fn pieces_of(
     for position in positions.iter().rev() {
         if let Some(item) = items.get(*position as usize) {
             let area = u64::from(item.length).wrapping_mul(u64::from(item.width));
-            pieces.push(Piece {
+            pieces.push(StockItem {
                 length: Length(item.length),
                 width: Length(item.width),
                 area: Amount(area),
@@ -133,7 +133,7 @@ fn total_value(stacks: &[Stack]) -> Amount {
 fn stacks_of(
     alloc: Global,
     instance: &Instance,
-    rest: &Rest,
+    rest: &Remainder,
     guide: &Guide,
 ) -> Result<Vec<Stack>, Memory> {
     let mean = rest.mean_stack().max(1);
@@ -157,7 +157,7 @@ impl Stock {
     pub fn new(
         alloc: Global,
         instance: &Instance,
-        rest: &Rest,
+        rest: &Remainder,
         guide: &Guide,
     ) -> Result<Stock, Memory> {
         let stacks = stacks_of(alloc, instance, rest, guide)?;
@@ -170,7 +170,7 @@ impl Stock {
     }
 
     /// The item of this stack that is cut next but one, where so many are cut already.
-    pub fn second(&self, stack: usize, places: &[u16]) -> Option<Piece> {
+    pub fn second(&self, stack: usize, places: &[u16]) -> Option<StockItem> {
         match (self.stacks.get(stack), places.get(stack)) {
             (Some(held), Some(place)) => {
                 let second = usize::from(*place).saturating_add(1);

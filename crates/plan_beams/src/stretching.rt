@@ -2,7 +2,7 @@
 
 use crate::gaps::lack;
 use crate::measure::Length;
-use crate::node::Node;
+use crate::node::LaidCell;
 use crate::sheet::Sheet;
 
 /// Where a cell lies, and its strip and band. All lengths are in mm.
@@ -55,7 +55,7 @@ impl Stretching {
     }
 
     /// Takes in what a node settles that is the last one of its plate, strip or band.
-    fn note(&mut self, sheet: &Sheet, node: &Node) {
+    fn note(&mut self, sheet: &Sheet, node: &LaidCell) {
         if self.ends_plate {
             let wide = match sheet.plates.get(usize::from(node.plate)) {
                 Some(plate) => plate.wide,
@@ -78,7 +78,7 @@ impl Stretching {
     }
 
     /// Where the cell of a node lies, which is the one before those that were asked for so far.
-    pub fn spot_of(&mut self, sheet: &Sheet, node: &Node) -> Spot {
+    pub fn spot_of(&mut self, sheet: &Sheet, node: &LaidCell) -> Spot {
         self.note(sheet, node);
         let a = Length::from(node.a);
         let e = Length::from(node.e);

@@ -1,8 +1,8 @@
 //! The strip that a node leaves open.
 
 use crate::measure::Length;
-use crate::node::{Begins, Node};
-use crate::shapes::{Band, Cell, Rectangle};
+use crate::node::{Begins, LaidCell};
+use crate::shapes::{Cell, ClosedBand, Rectangle};
 use crate::sheet::Sheet;
 use crate::ticks::Ticks;
 use glass_base::Memory;
@@ -15,7 +15,7 @@ pub const ROOM: usize = 64;
 #[derive(Drop)]
 pub struct OpenStrip {
     /// The open band and the closed ones, from the last on.
-    pub bands: Vec<Band>,
+    pub bands: Vec<ClosedBand>,
     /// The cells of the open band, from the last on.
     pub cells: Vec<Cell>,
     /// The defects that may stand in the way, from left to right.
@@ -23,7 +23,7 @@ pub struct OpenStrip {
 }
 
 /// The bands behind the first, which is the open one.
-pub fn closed(bands: &[Band]) -> &[Band] {
+pub fn closed(bands: &[ClosedBand]) -> &[ClosedBand] {
     match bands.split_first() {
         Some((_, closed)) => closed,
         None => &[],
@@ -37,7 +37,7 @@ fn is_lax_band(cells: &[Cell], high: Length) -> bool {
 
 /// Whether a strip of these bands, from `a` to `b`, may be wider by any number below a waste: behind each band is a
 /// waste.
-fn is_lax_strip(sheet: &Sheet, bands: &[Band], a: Length, b: Length) -> bool {
+fn is_lax_strip(sheet: &Sheet, bands: &[ClosedBand], a: Length, b: Length) -> bool {
     b - a + sheet.waste <= sheet.max1 && !bands.iter().any(|band| b <= band.right)
 }
 
@@ -51,7 +51,7 @@ impl OpenStrip {
     }
 
     /// Notes the bands of the strip in which a node's cell lies, and the cells of the open one.
-    pub fn note<'n>(&mut self, arena: &'n [Node], node: &'n Node) -> Result<(), Memory> {
+    pub fn note<'n>(&mut self, arena: &'n [LaidCell], node: &'n LaidCell) -> Result<(), Memory> {
         self.bands.clear();
         self.cells.clear();
         self.bands.push(node.band())?;
@@ -77,7 +77,7 @@ impl OpenStrip {
     }
 
     /// The upper side of the last band that may be higher, once the node's band is closed.
-    pub fn lax_d(&self, node: &Node) -> Length {
+    pub fn lax_d(&self, node: &LaidCell) -> Length {
         let high = Length::from(node.d) - Length::from(node.c);
         if is_lax_band(self.cells.as_slice(), high) {
             node.d.into()
@@ -87,7 +87,7 @@ impl OpenStrip {
     }
 
     /// The right side of the last strip that may be wider, once the node's strip is closed.
-    pub fn lax_b(&self, sheet: &Sheet, node: &Node) -> Length {
+    pub fn lax_b(&self, sheet: &Sheet, node: &LaidCell) -> Length {
         let bands = self.bands.as_slice();
         if is_lax_strip(sheet, bands, node.a.into(), node.b.into()) {
             node.b.into()

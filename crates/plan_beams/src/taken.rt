@@ -12,7 +12,7 @@ const MOST_LOOKS: u32 = 1000;
 
 /// The front of a candidate, and which items it holds: all by which others are compared with it.
 #[derive(Clone, Copy)]
-pub struct Front {
+pub struct Outline {
     /// The sum over its items of the mixes of their stacks.
     mix: u64,
     plate: u16,
@@ -29,7 +29,7 @@ pub struct Front {
 /// The nodes of a level that are taken.
 #[derive(Drop)]
 pub struct Taken {
-    list: Vec<Front>,
+    list: Vec<Outline>,
     chains: Chains,
 }
 
@@ -43,10 +43,10 @@ fn is_no_more(one: u16, other: u16, tolerance: Tolerance) -> bool {
     }
 }
 
-impl Front {
-    pub fn of(candidate: &Candidate) -> Front {
+impl Outline {
+    pub fn of(candidate: &Candidate) -> Outline {
         let node = &candidate.node;
-        Front {
+        Outline {
             mix: candidate.mix,
             plate: node.plate,
             a: node.a,
@@ -60,7 +60,7 @@ impl Front {
     }
 
     /// Whether its band and what lies in it reach no further than those of the other.
-    fn is_band_no_more(&self, other: &Front, tolerance: Tolerance) -> bool {
+    fn is_band_no_more(&self, other: &Outline, tolerance: Tolerance) -> bool {
         if is_no_more(self.d, other.c, tolerance) {
             return true;
         }
@@ -70,7 +70,7 @@ impl Front {
     }
 
     /// Whether it is nowhere worse than the other, but for the tolerance.
-    fn is_no_more(&self, other: &Front, tolerance: Tolerance) -> bool {
+    fn is_no_more(&self, other: &Outline, tolerance: Tolerance) -> bool {
         if self.plate != other.plate {
             return self.plate < other.plate;
         }
@@ -89,7 +89,7 @@ impl Front {
     }
 
     /// Whether it holds the same items as the other, and is nowhere worse but for the tolerance.
-    fn dominates(&self, other: &Front, tolerance: Tolerance) -> bool {
+    fn dominates(&self, other: &Outline, tolerance: Tolerance) -> bool {
         self.mix == other.mix && self.is_no_more(other, tolerance)
     }
 }
@@ -111,7 +111,7 @@ impl Taken {
     /// Whether a node of this bucket dominates a candidate.
     fn is_dominated(
         &self,
-        front: &Front,
+        front: &Outline,
         bucket: usize,
         tolerance: Tolerance,
         ticks: &mut Ticks,
@@ -135,7 +135,7 @@ impl Taken {
     /// Takes a candidate of this bucket where none that was taken dominates it, and tells whether it did.
     pub fn admit(
         &mut self,
-        front: &Front,
+        front: &Outline,
         bucket: usize,
         tolerance: Tolerance,
         ticks: &mut Ticks,

@@ -1,8 +1,7 @@
 -- How large least lengths and areas can be, and which step a least length comes from.
 use Rattle.std.proofs.Common.{◌≡◌, ℕ, suc, ◌+◌, ◌-◌, ◌*◌, ◌/◌, ◌≤◌, List, [], ◌∷◌, length, map, get_or, max, refl, ap, sym, arith, All}
-use Rattle.std.proofs.Math.Nat.{div-le_self, mul-le-mul_left, mul-le-mul_right}
+use Rattle.std.proofs.Math.Nat.{div-le_self, mul-le-mul_left}
 use Rattle.std.proofs.lemmas.List.Sums.{sum_by-le}
-use Rattle.glass_base.specs.declared.params.Params.{Params}
 use Rattle.glass_base.specs.declared.item.Item.{Item}
 use Rattle.glass_base.specs.Items.{area_of}
 use Rattle.glass_base.specs.Problem.{Problem, IsProblem}
@@ -22,9 +21,6 @@ pub area_most : (b : Problem) → IsProblem b → area_of b.items ≤ 3200000000
 area_most b rules =
     let each : All (λ (item : Item). item.length * item.width ≤ 400000000) b.items = λ k d lt. area_small _ _ (rules.items_in_range k d lt).0 (rules.items_in_range k d lt).1 in
     omega (arith, sum_by-le (λ (item : Item). item.length * item.width) 400000000 b.items each, rules.few_items)
-
-pub height_times : (params : Params) (n : ℕ) → n ≤ 810000000000000 → params.height * n ≤ 16200000000000000000
-height_times params n small = omega (arith, mul-le-mul_right n params.accepted.height_limit)
 
 -- the last of steps that code keeps, each with its level and what is known of it
 pub last_at : {X : Type 0} (level : X → Level) (known : X → Known) (k : Known) (steps : List X) (d : X) → 1 ≤ length steps →

@@ -13,7 +13,7 @@ use Rattle.cut_model.specs.Parents.{rows_in}
 use Rattle.cut_model.specs.Tree.{is_branch, nothing, piece, sort_named}
 use Rattle.plan_csv.specs.declared.bad_plan.BadPlan.{BadPlan}
 use Rattle.plan_csv.specs.declared.bad_plan.BadPlan.TheVariants as bad
-use Rattle.plan_csv.specs.declared.nodes.Node.{Node}
+use Rattle.plan_csv.specs.declared.nodes.KeptRow.{KeptRow}
 use Rattle.plan_csv.specs.declared.nodes.Nodes.{Nodes}
 use Rattle.plan_csv.specs.PlanTexts.{cell_refusal, grown, lies, names_branch, unless}
 use Rattle.plan_csv.specs.inner.ReadNodes.{AreNodes, HaveTwo, IsChild, IsNamed, IsPiece, below, row_with, side_filled}
@@ -25,7 +25,7 @@ childless rows (r ∷ children) e uncut all =
     absurd (let cut : names_branch e.kind ≡ true = (All-head (IsChild rows e) r children all).with.branch in cc)
 
 -- no row names a row that is not cut as its parent
-none_below : (rows : List Row) (r : Row) (o : Option Node) → IsNamed rows r.node o → row_with r.node rows ≡ Some r → names_branch r.kind ≡ false → rows_in r.node rows ≡ []
+none_below : (rows : List Row) (r : Row) (o : Option KeptRow) → IsNamed rows r.node o → row_with r.node rows ≡ Some r → names_branch r.kind ≡ false → rows_in r.node rows ≡ []
 none_below rows r None n known uncut = n.1
 none_below rows r (Some node) n known uncut =
     let same : node.row ≡ r = let s : Some node.row ≡ Some r = sym n.found ∙ known in cc in

@@ -13,7 +13,7 @@ use Rattle.cut_model.specs.Parents.{is_number, rows_in, sum_along}
 use Rattle.plan_csv.specs.PlanTexts.{lies}
 use Rattle.cut_model.specs.Tree.{IsRowType}
 use Rattle.plan_csv.specs.inner.ReadNodes.{Gained, GoesWith, IsChild, IsNamed, IsUnder, row_with, side_filled}
-use Rattle.plan_csv.specs.declared.nodes.Node.{Node}
+use Rattle.plan_csv.specs.declared.nodes.KeptRow.{KeptRow}
 use Rattle.glass_base.specs.declared.limits.TheConstants.{MOST_SIDE}
 
 -- two numbers that differ are not equal to the order of numbers
@@ -52,7 +52,7 @@ child_more : (rows more : List Row) (e x : Row) → IsChild rows e x → IsChild
 child_more rows more e x h = record { known = found_more x.node rows more x h.known; with = h.with; typed = h.typed }
 
 -- what is kept of a number stays, where the new row neither has this number nor names it as its parent
-pub named_same : (rows : List Row) (r : Row) (number : ℕ) (o : Option Node) → number ≢ r.node → is_number number r.parent ≡ false
+pub named_same : (rows : List Row) (r : Row) (number : ℕ) (o : Option KeptRow) → number ≢ r.node → is_number number r.parent ≡ false
     → IsNamed rows number o → IsNamed (rows ++ r ∷ []) number o
 named_same rows r number None ne h n = (not_found_more number rows r ne n.0, same_children number rows r h ∙ n.1)
 named_same rows r number (Some node) ne h n =
@@ -67,7 +67,7 @@ named_same rows r number (Some node) ne h n =
     }
 
 -- the node of the new row's parent has gained it
-pub named_gained : (rows : List Row) (r : Row) (parent : ℕ) (o m : Option Node) → row_with r.node rows ≡ None → r.parent ≡ Some parent → IsRowType r.kind
+pub named_gained : (rows : List Row) (r : Row) (parent : ℕ) (o m : Option KeptRow) → row_with r.node rows ≡ None → r.parent ≡ Some parent → IsRowType r.kind
     → IsUnder rows r parent → Gained r o m → IsNamed rows parent o → IsNamed (rows ++ r ∷ []) parent m
 named_gained rows r parent None m new p typed under gained n = absurd gained
 named_gained rows r parent (Some node) None new p typed under gained n = absurd gained
@@ -94,12 +94,12 @@ named_gained rows r parent (Some node) (Some more) new p typed under gained n =
     }
 
 -- no row names a number as its parent that no row has
-no_children : (rows : List Row) (number : ℕ) (o : Option Node) → row_with number rows ≡ None → IsNamed rows number o → rows_in number rows ≡ []
+no_children : (rows : List Row) (number : ℕ) (o : Option KeptRow) → row_with number rows ≡ None → IsNamed rows number o → rows_in number rows ≡ []
 no_children rows number None h n = n.1
 no_children rows number (Some node) h n = absurd (let u : Some node.row ≡ None = sym n.found ∙ h in cc)
 
 -- a node without children for a new row
-pub named_new : (rows : List Row) (r : Row) (o : Option Node) (n : Node) → row_with r.node rows ≡ None → is_number r.node r.parent ≡ false → IsNamed rows r.node o
+pub named_new : (rows : List Row) (r : Row) (o : Option KeptRow) (n : KeptRow) → row_with r.node rows ≡ None → is_number r.node r.parent ≡ false → IsNamed rows r.node o
     → n.row ≡ r → n.children.items ≡ [] → n.filled ≡ 0 → IsNamed (rows ++ r ∷ []) r.node (Some n)
 named_new rows r o n new own old row_is none filled =
     let same : rows_in r.node (rows ++ r ∷ []) ≡ [] = same_children r.node rows r own ∙ no_children rows r.node o new old in

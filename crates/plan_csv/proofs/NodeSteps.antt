@@ -11,7 +11,7 @@ use Rattle.cut_model.specs.Lawful.{plate_rows}
 use Rattle.cut_model.specs.Parents.{is_number}
 use Rattle.cut_model.specs.Tree.{IsRowType}
 use Rattle.plan_csv.specs.inner.ReadNodes.{AreNodes, MayFollow, IsAttached, IsNamed, IsPlaced, IsRoot, row_with}
-use Rattle.plan_csv.specs.declared.nodes.Node.{Node}
+use Rattle.plan_csv.specs.declared.nodes.KeptRow.{KeptRow}
 use Rattle.plan_csv.specs.declared.nodes.Nodes.{Nodes}
 use Rattle.plan_csv.proofs.NodeFacts.{found_last, found_more, named_gained, named_new, named_same, number_differs}
 
@@ -73,12 +73,12 @@ roots_more rows r (suc cut) (Some _) level new placed roots =
     (All-weaker (IsRoot rows) (IsRoot (rows ++ r ∷ [])) (root_more rows (r ∷ [])) (plate_rows rows) roots)
 
 -- a node was put in under this number, and the others are as before
-pub record HasNewNode (number : ℕ) (n : Node) (old new : ℕ → Option Node) : Type 0 where
+pub record HasNewNode (number : ℕ) (n : KeptRow) (old new : ℕ → Option KeptRow) : Type 0 where
   pub here : new number ≡ Some n
   pub others : (q : ℕ) → is_eq (nat_cmp number q) ≡ false → new q ≡ old q
 
 -- what is kept is that of one row more
-pub are_nodes-more : (r : Row) (n : Node) (old mid new : Nodes) → AreNodes old → MayFollow old.rows.items r → IsAttached r r.parent old mid
+pub are_nodes-more : (r : Row) (n : KeptRow) (old mid new : Nodes) → AreNodes old → MayFollow old.rows.items r → IsAttached r r.parent old mid
     → new.rows.items ≡ old.rows.items ++ r ∷ [] → new.plates.items ≡ mid.plates.items
     → HasNewNode r.node n (get nat_cmp mid.named) (get nat_cmp new.named) → n.row ≡ r → n.children.items ≡ [] → n.filled ≡ 0 → AreNodes new
 are_nodes-more r n old mid new nodes allowed attached rows plates put row_is none filled =

@@ -13,7 +13,7 @@ use std::collections::BTreeMap;
 
 /// What is kept of a row.
 #[derive(Drop)]
-pub struct Node {
+pub struct KeptRow {
     pub row: Row,
     /// The sum of its children's sizes in the direction of the cut, in mm.
     pub filled: u32,
@@ -27,7 +27,7 @@ pub struct Nodes {
     pub rows: Run<Row>,
     pub plates: Run<Row>,
     /// What is kept of each row, by its node number.
-    pub named: BTreeMap<u64, Node>,
+    pub named: BTreeMap<u64, KeptRow>,
 }
 
 /// The side of a row by which it fills its parent, in mm.
@@ -44,7 +44,7 @@ pub fn side_of(row: &Row) -> u32
 }
 
 /// Adds a child to a node.
-fn add(node: &mut Node, row: &Row) -> Result<(), Memory>
+fn add(node: &mut KeptRow, row: &Row) -> Result<(), Memory>
     requires { node.old.filled + side_filled row.now ≤ MOST_SIDE }
     ensures { OnOk result (HasGained row.now node.old node.new) }
 {
@@ -54,7 +54,7 @@ fn add(node: &mut Node, row: &Row) -> Result<(), Memory>
 }
 
 /// Adds a child to the node of this number, which is kept and has room for it.
-fn add_child(named: &mut BTreeMap<u64, Node>, parent: u64, row: &Row) -> Result<(), Memory>
+fn add_child(named: &mut BTreeMap<u64, KeptRow>, parent: u64, row: &Row) -> Result<(), Memory>
     requires { HasSpace row.now (get nat_cmp named.old parent) }
     ensures { OnOk result (HasNewChild row.now parent (get nat_cmp named.old)
         (get nat_cmp named.new)) }
@@ -99,7 +99,7 @@ impl Nodes {
         ensures nodes { OnOk result (AreNodes self.new) }
     {
         self.attach(row)?;
-        let node = Node {
+        let node = KeptRow {
             row: *row,
             filled: 0,
             children: Run::new(alloc),

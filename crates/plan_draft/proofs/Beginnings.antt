@@ -7,7 +7,7 @@ use Rattle.glass_base.specs.Problem.{Problem}
 use Rattle.defect_map.specs.Queries.{CrossesNoneX}
 use Rattle.plan_trace.specs.Marks.{item_width}
 use Rattle.plan_trace.specs.TraceRules.{Gap}
-use Rattle.plan_draft.specs.declared.place.Place.{Place}
+use Rattle.plan_draft.specs.declared.place.ItemPlace.{ItemPlace}
 use Rattle.plan_draft.specs.inner.Least.{IsSkip}
 use Rattle.plan_draft.specs.inner.Places.{HasNoPlace, IsBestBefore, IsFirstOf, IsLeft, IsPlace, IsUpright, StandsAt, end_of, lesser}
 use Rattle.plan_draft.proofs.Bottoms.{skip_stronger}
@@ -49,33 +49,33 @@ left_narrow b plate from left le apart lt near = record {
 pub best_none : (b : Problem) (plate from : ℕ) (item : Item) → IsBestBefore b plate from item from None
 best_none b plate from item = record { first = λ p h. by p h.0.left.before h.1 }
   where
-    by : (p : Place) → Gap b.params.waste from p.a → p.a < from → ⊥
+    by : (p : ItemPlace) → Gap b.params.waste from p.a → p.a < from → ⊥
     by p (inl e) lt = omega (arith, e, lt)
     by p (inr far) lt = omega (arith, far, lt)
 
 -- left sides that are skipped have no place
-pub best_skip : (b : Problem) (plate from : ℕ) (item : Item) (left next : ℕ) (best : Option Place) → IsSkip (IsLeft b plate from) left next → IsBestBefore b plate from item left best → IsBestBefore b plate from item next best
+pub best_skip : (b : Problem) (plate from : ℕ) (item : Item) (left next : ℕ) (best : Option ItemPlace) → IsSkip (IsLeft b plate from) left next → IsBestBefore b plate from item left best → IsBestBefore b plate from item next best
 best_skip b plate from item left next best skip h = record {
   first = same_places best (λ p is. (is.0, omega (arith, is.1, skip.further)))
       (λ p is. (is.0, elim (cases_lt p.a left) [ inl lt ↦ lt | inr le ↦ absurd (skip.none_before p.a le is.1 is.0.left) ])) h.first;
 }
 
 -- the places at one more left side
-pub best_more : (b : Problem) (plate from : ℕ) (item : Item) (left : ℕ) (best here found : Option Place) → found ≡ lesser best here → IsLeft b plate from left → IsBestBefore b plate from item left best →
+pub best_more : (b : Problem) (plate from : ℕ) (item : Item) (left : ℕ) (best here found : Option ItemPlace) → found ≡ lesser best here → IsLeft b plate from left → IsBestBefore b plate from item left best →
     MatchOption here (HasNoPlace (StandsAt b plate left item)) (IsFirstOf (StandsAt b plate left item)) → IsBestBefore b plate from item (left + 1) found
 best_more b plate from item left best here found is at h k = record {
   first = rw is (same_places (lesser best here) to back
       (lesser_first (λ p. IsPlace b plate from item p × (p.a < left)) (λ p. StandsAt b plate left item p) best here h.first k));
 }
   where
-    placed : (p : Place) → StandsAt b plate left item p → IsPlace b plate from item p
+    placed : (p : ItemPlace) → StandsAt b plate left item p → IsPlace b plate from item p
     placed p s = record { left = subst (IsLeft b plate from) (sym s.1.a_is) at; stands = subst (λ n. StandsAt b plate n item p) (sym s.1.a_is) s }
 
-    to : (p : Place) → (IsPlace b plate from item p × (p.a < left)) ⊎ StandsAt b plate left item p → IsPlace b plate from item p × (p.a < left + 1)
+    to : (p : ItemPlace) → (IsPlace b plate from item p × (p.a < left)) ⊎ StandsAt b plate left item p → IsPlace b plate from item p × (p.a < left + 1)
     to p (inl was) = (was.0, omega (arith, was.1))
     to p (inr s) = (placed p s, omega (arith, s.1.a_is))
 
-    back : (p : Place) → IsPlace b plate from item p × (p.a < left + 1) → (IsPlace b plate from item p × (p.a < left)) ⊎ StandsAt b plate left item p
+    back : (p : ItemPlace) → IsPlace b plate from item p × (p.a < left + 1) → (IsPlace b plate from item p × (p.a < left)) ⊎ StandsAt b plate left item p
     back p is =
         elim (cases_lt p.a left) [
           | inl lt ↦ inl (is.0, lt)
@@ -87,7 +87,7 @@ least_width zero item = omega arith
 least_width (suc turn) item = omega arith
 
 -- how wide a strip of the item is at least
-wide_enough : (b : Problem) (plate from : ℕ) (item : Item) (p : Place) → IsPlace b plate from item p → p.a + max b.params.min1 (min item.length item.width) ≤ p.b
+wide_enough : (b : Problem) (plate from : ℕ) (item : Item) (p : ItemPlace) → IsPlace b plate from item p → p.a + max b.params.min1 (min item.length item.width) ≤ p.b
 wide_enough b plate from item p is =
     elim is.stands.1.behind [
       | inl alone ↦ omega (arith, is.stands.1.wide, alone, least_width p.turn item)
@@ -95,7 +95,7 @@ wide_enough b plate from item p is =
     ]
 
 -- a strip that begins too far right comes later than the best place
-pub best_all : (b : Problem) (plate from : ℕ) (item : Item) (left : ℕ) (best : Option Place) → end_of (Width b plate) best < left + max b.params.min1 (min item.length item.width) →
+pub best_all : (b : Problem) (plate from : ℕ) (item : Item) (left : ℕ) (best : Option ItemPlace) → end_of (Width b plate) best < left + max b.params.min1 (min item.length item.width) →
     IsBestBefore b plate from item left best → MatchOption best (HasNoPlace (IsPlace b plate from item)) (IsFirstOf (IsPlace b plate from item))
 best_all b plate from item left None far h = λ p is.
     elim (cases_lt p.a left) [
@@ -111,6 +111,6 @@ best_all b plate from item left (Some q) far h = (
 )
 
 -- the best place so far ends on the plate
-pub end_within : (b : Problem) (plate from : ℕ) (item : Item) (left : ℕ) (best : Option Place) → IsBestBefore b plate from item left best → end_of (Width b plate) best ≤ Width b plate
+pub end_within : (b : Problem) (plate from : ℕ) (item : Item) (left : ℕ) (best : Option ItemPlace) → IsBestBefore b plate from item left best → end_of (Width b plate) best ≤ Width b plate
 end_within b plate from item left None h = omega arith
 end_within b plate from item left (Some p) h = h.first.0.0.stands.1.right.within

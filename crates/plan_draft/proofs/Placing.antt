@@ -8,7 +8,7 @@ use Rattle.defect_map.specs.Queries.{CrossesNoneX, CrossesNoneY, HitsNone}
 use Rattle.plan_trace.specs.declared.level.Level.{Level}
 use Rattle.plan_trace.specs.Marks.{Cut, item_height, item_width}
 use Rattle.plan_trace.specs.TraceRules.{AloneFits, BandFits, CellFits, StripFits}
-use Rattle.plan_draft.specs.declared.place.Place.{Place}
+use Rattle.plan_draft.specs.declared.place.ItemPlace.{ItemPlace}
 use Rattle.plan_draft.specs.inner.Places.{IsPlace}
 
 -- a step that stands alone on this plate with this item
@@ -21,7 +21,7 @@ pub record IsAlone (plate : ℕ) (item : Item) (s : Cut) : Type 0 where
   pub lift_is : s.draw.lift ≡ 0
   pub e_is : s.e ≡ s.a
 
-abbrev pub place_of_cut : Cut → Place
+abbrev pub place_of_cut : Cut → ItemPlace
 place_of_cut s = record { a = s.a; b = s.b; c = s.c; d = s.d; turn = s.draw.turn }
 
 -- the rules that do not speak of the step before, but for the end of its strip

@@ -39,14 +39,18 @@ fn is_top(site: Site, left: u32, right: u32, top: u32) -> bool
             && site.ground.is_clear_y(site.plate, top, left, right)
 }
 
-/// Whether the line beside an item at `left`, from c to d, runs through no defect, where the strip goes on behind the item.
-fn is_beside(site: Site, left: u32, right: u32, item: Sides, c: u32, d: u32) -> bool
+/// Whether the line beside an item at `left` in this band runs through no defect, where the strip goes on behind the
+/// item.
+fn is_beside(site: Site, left: u32, right: u32, item: Sides, band: Band) -> bool
     requires left { left ≤ MOST_REACH }
-    requires band { c < d }
+    requires band { band.c < band.d }
     ensures { IsTrue result ↔ IsBeside site.entry.ground.instance.now site.entry.plate left
-        right item.w c d }
+        right item.w band.c band.d }
 {
-    left + item.w == right || site.ground.is_clear_x(site.plate, left + item.w, c, d)
+    left + item.w == right
+        || site
+            .ground
+            .is_clear_x(site.plate, left + item.w, band.c, band.d)
 }
 
 /// Whether a band from c on that the item fills may stand, in a strip from `left` to `right`.
@@ -60,7 +64,7 @@ fn fills(site: Site, left: u32, right: u32, item: Sides, c: u32) -> bool
     let top = c + item.h;
     site.ground.instance.params().min2 <= item.h
         && is_top(site, left, right, top)
-        && is_beside(site, left, right, item, c, top)
+        && is_beside(site, left, right, item, Band { c, d: top })
 }
 
 /// The least upper side of a band from c on that leaves a waste over the item.
@@ -84,7 +88,7 @@ fn top_over(site: Site, left: u32, right: u32, item: Sides, c: u32) -> Option<u3
     match top_from(site, left, right, least) {
         None => None,
         Some(top) => {
-            if is_beside(site, left, right, item, c, top) {
+            if is_beside(site, left, right, item, Band { c, d: top }) {
                 Some(top)
             } else {
                 None

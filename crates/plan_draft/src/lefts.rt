@@ -7,7 +7,7 @@ ghost use Rattle.plan_draft.specs.inner.Least.{IsSkip};
 ghost use Rattle.plan_draft.specs.inner.Places.{HasNoPlace, IsFirstOf, IsLeft, IsPlace, IsUpright, end_of};
 
 use crate::lines::blocked_upright;
-use crate::place::{Place, first_of};
+use crate::place::{ItemPlace, first_of};
 use crate::places::place_at;
 use crate::site::Site;
 use glass_base::Item;
@@ -45,7 +45,7 @@ fn blocked_left(site: Site, from: u32, left: u32) -> Option<u32>
 }
 
 /// Where the left side of a strip is too far right to be of use: at the plate's end, or at the right side of the best place so far.
-fn far_end(site: Site, best: Option<Place>) -> u32
+fn far_end(site: Site, best: Option<ItemPlace>) -> u32
     ensures { result ≡ end_of (Width site.entry.ground.instance.now site.entry.plate) best }
 {
     match best {
@@ -55,7 +55,7 @@ fn far_end(site: Site, best: Option<Place>) -> u32
 }
 
 /// The first place of an item on a plate, behind what ends at `from`.
-pub fn first_place(site: Site, from: u32, item: &Item) -> Option<Place>
+pub fn first_place(site: Site, from: u32, item: &Item) -> Option<ItemPlace>
     requires range { IsItemInRange item.now }
     requires sides { HasSides item.now }
     ensures { let b = site.entry.ground.instance.now in
@@ -71,7 +71,7 @@ pub fn first_place(site: Site, from: u32, item: &Item) -> Option<Place>
         .params()
         .min1
         .max(item.length.min(item.width));
-    let mut best: Option<Place> = None;
+    let mut best: Option<ItemPlace> = None;
     let mut left = from;
     while left + least <= far_end(site, best) {
         match blocked_left(site, from, left) {

@@ -6,7 +6,7 @@ ghost use Rattle.glass_base.specs.declared.limits.TheConstants.{MOST_SIDE};
 
 /// The sides of an item's strip and band, in mm, and the item's turn. The item stands at (a, c).
 #[derive(Clone, Copy)]
-pub struct Place {
+pub struct ItemPlace {
     /// The left side of the strip.
     pub a: u32,
     /// The right side of the strip.
@@ -36,7 +36,7 @@ pub struct Band {
 }
 
 /// Whether a place does not come after another one: by b, a, c, d and turn, the first that differs deciding.
-fn is_not_after(place: &Place, other: &Place) -> bool
+fn is_not_after(place: &ItemPlace, other: &ItemPlace) -> bool
     ensures { result ≡ not_after (rank_of place.now) (rank_of other.now) }
 {
     if place.b != other.b {
@@ -55,7 +55,7 @@ fn is_not_after(place: &Place, other: &Place) -> bool
 }
 
 /// The one of two places that comes first, where there is one.
-pub fn first_of(one: Option<Place>, other: Option<Place>) -> Option<Place>
+pub fn first_of(one: Option<ItemPlace>, other: Option<ItemPlace>) -> Option<ItemPlace>
     ensures { result ≡ lesser one other }
 {
     match one {

@@ -7,14 +7,14 @@ ghost use Rattle.plan_trace.specs.TraceRules.{Gap};
 ghost use Rattle.plan_draft.specs.inner.Places.{HasNoPlace, IsFirstOf, IsRight, StandsAt, StandsBeside, StandsSo, StandsTo};
 
 use crate::bands::band_from;
-use crate::place::{Place, Sides, first_of};
+use crate::place::{ItemPlace, Sides, first_of};
 use crate::site::Site;
 use crate::strips::right_from;
 use glass_base::Item;
 use glass_base::limits::MOST_SIDE;
 
 /// The first place of an item at the left side of a strip that ends at `right`.
-fn place_to(site: Site, left: u32, right: u32, item: Sides, turn: u32) -> Option<Place>
+fn place_to(site: Site, left: u32, right: u32, item: Sides, turn: u32) -> Option<ItemPlace>
     requires left { left ≤ MOST_SIDE }
     requires wide { left + site.ground.instance.now.params.min1 ≤ right }
     requires right { IsRight site.ground.instance.now site.plate
@@ -26,7 +26,7 @@ fn place_to(site: Site, left: u32, right: u32, item: Sides, turn: u32) -> Option
 {
     match band_from(site, left, right, item) {
         None => None,
-        Some(band) => Some(Place {
+        Some(band) => Some(ItemPlace {
             a: left,
             b: right,
             c: band.c,
@@ -49,7 +49,7 @@ fn is_right(site: Site, most: u32, right: u32) -> bool
 }
 
 /// The first place of an item at the left side of a strip that is as wide as the item.
-fn place_alone(site: Site, left: u32, item: Sides, turn: u32) -> Option<Place>
+fn place_alone(site: Site, left: u32, item: Sides, turn: u32) -> Option<ItemPlace>
     requires left { left ≤ MOST_SIDE }
     ensures { let b = site.entry.ground.instance.now in
         MatchOption result (HasNoPlace (StandsTo b site.entry.plate left turn item.w item.h
@@ -65,7 +65,7 @@ fn place_alone(site: Site, left: u32, item: Sides, turn: u32) -> Option<Place>
 }
 
 /// The first place of an item at the left side of a strip in which a waste stands beside it.
-fn place_beside(site: Site, left: u32, item: Sides, turn: u32) -> Option<Place>
+fn place_beside(site: Site, left: u32, item: Sides, turn: u32) -> Option<ItemPlace>
     requires left { left ≤ MOST_SIDE }
     ensures { let b = site.entry.ground.instance.now in
         MatchOption result (HasNoPlace (StandsBeside b site.entry.plate left turn item.w item.h))
@@ -80,7 +80,7 @@ fn place_beside(site: Site, left: u32, item: Sides, turn: u32) -> Option<Place>
 }
 
 /// The first place of an item of these sides at the left side of a strip.
-fn place_in_turn(site: Site, left: u32, item: Sides, turn: u32) -> Option<Place>
+fn place_in_turn(site: Site, left: u32, item: Sides, turn: u32) -> Option<ItemPlace>
     requires left { left ≤ MOST_SIDE }
     ensures { let b = site.entry.ground.instance.now in
         MatchOption result (HasNoPlace (StandsSo b site.entry.plate left turn item.w item.h))
@@ -93,7 +93,7 @@ fn place_in_turn(site: Site, left: u32, item: Sides, turn: u32) -> Option<Place>
 }
 
 /// The first place of an item at this left side of its strip, in one of its turns.
-pub fn place_at(site: Site, left: u32, item: &Item) -> Option<Place>
+pub fn place_at(site: Site, left: u32, item: &Item) -> Option<ItemPlace>
     requires left { left ≤ MOST_SIDE }
     requires range { IsItemInRange item.now }
     requires sides { HasSides item.now }

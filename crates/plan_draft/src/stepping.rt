@@ -6,14 +6,14 @@ ghost use Rattle.plan_draft.specs.inner.Places.{HasNoPlace, IsFirstOf, IsPlace};
 ghost use Rattle.plan_draft.specs.inner.Steps.{HasNoStep, IsFirstStep};
 
 use crate::lefts::first_place;
-use crate::place::Place;
+use crate::place::ItemPlace;
 use crate::site::Site;
 use cut_model::Step;
 use defect_map::Ground;
 use glass_base::{Instance, Item};
 
 /// The step of an item that stands alone at this place.
-fn step_at(stack: u32, kind: u32, place: Place) -> Step
+fn step_at(stack: u32, kind: u32, place: ItemPlace) -> Step
     ensures { result ≡ record {
       stack = stack;
       turn = place.turn;
@@ -41,7 +41,7 @@ fn step_at(stack: u32, kind: u32, place: Place) -> Step
 }
 
 /// The first place of an item on this plate, behind what ends at `from`.
-fn place_on(ground: Ground<'_>, plate: u32, from: u32, item: &Item) -> Option<Place>
+fn place_on(ground: Ground<'_>, plate: u32, from: u32, item: &Item) -> Option<ItemPlace>
     requires range { IsItemInRange item.now }
     requires sides { HasSides item.now }
     ensures { let b = ground.entry.instance.now in
@@ -53,7 +53,7 @@ fn place_on(ground: Ground<'_>, plate: u32, from: u32, item: &Item) -> Option<Pl
 }
 
 /// The first place of an item on the plate in use, if there is one, behind the last strip, which ends at `right`.
-fn place_in_use(ground: Ground<'_>, plates: u32, right: u32, item: &Item) -> Option<Place>
+fn place_in_use(ground: Ground<'_>, plates: u32, right: u32, item: &Item) -> Option<ItemPlace>
     requires range { IsItemInRange item.now }
     requires sides { HasSides item.now }
     ensures { let b = ground.entry.instance.now in
@@ -67,7 +67,7 @@ fn place_in_use(ground: Ground<'_>, plates: u32, right: u32, item: &Item) -> Opt
 }
 
 /// The first place of an item on the next plate, if there is one.
-fn place_on_next(ground: Ground<'_>, plates: u32, item: &Item) -> Option<Place>
+fn place_on_next(ground: Ground<'_>, plates: u32, item: &Item) -> Option<ItemPlace>
     requires range { IsItemInRange item.now }
     requires sides { HasSides item.now }
     ensures { let b = ground.entry.instance.now in

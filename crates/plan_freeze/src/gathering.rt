@@ -11,12 +11,12 @@ use std::alloc::Global;
 
 /// The numbers of the items told so far, as far as they lie on the first plates.
 #[derive(Drop)]
-struct Gathering {
+struct NumbersTold {
     plates: u32,
     numbers: Run<u32>,
 }
 
-impl Visitor for Gathering {
+impl Visitor for NumbersTold {
     type Stop = Memory;
 
     ghost has_seen = { λ start now seen.
@@ -43,7 +43,7 @@ pub(crate) fn frozen_numbers(
     ensures { IfOk result (λ numbers. numbers.items
         ≡ numbers_frozen instance.now (tree plan.now) k) }
 {
-    let mut gathering = Gathering {
+    let mut gathering = NumbersTold {
         plates: k,
         numbers: Run::new(alloc),
     };

@@ -3,38 +3,23 @@
 ghost use Rattle.std.specs.Prelude.{◌≡◌, ◌<◌, ◌≤◌};
 ghost use Rattle.cut_model.specs.Fits.{Fits};
 ghost use Rattle.cut_model.specs.Lawful.{IsLawful};
-ghost use Rattle.cut_model.specs.Loss.{area_wasted};
-ghost use Rattle.cut_model.specs.Tree.{neighbour_count, tree, type_number};
-ghost use Rattle.cut_model.specs.Visits.{IsSmall};
+ghost use Rattle.cut_model.specs.Tree.{neighbour_count, tree};
 ghost use Rattle.plan_freeze.specs.Rests.{frozen_loss as frozen_loss_of};
 ghost use Rattle.plan_freeze.specs.inner.Wasted.{IsWasted};
 
-use cut_model::{Family, Plan, Sort, Visitor, walk};
+use cut_model::{Family, Plan, Visitor, walk};
 use glass_base::Instance;
+use loss_area::area_lost;
 use std::convert::Infallible;
-
-/// The area that a piece loses: its own where it is a waste.
-fn area_lost(family: &Family) -> u64
-    requires small { IsSmall family.now }
-    requires named { family.now.row.kind ≡ type_number family.now.sort }
-    ensures { result ≡ area_wasted family.now.row.kind family.now.row }
-{
-    match family.sort {
-        Sort::Waste => u64::from(family.row.width) * u64::from(family.row.height),
-        Sort::Item(_) => 0,
-        Sort::Branch => 0,
-        Sort::Residual => 0,
-    }
-}
 
 /// The area of the wastes told so far, as far as they lie on the first plates.
 #[derive(Drop)]
-struct Wastes {
+struct FrozenWastes {
     plates: u32,
     area: u64,
 }
 
-impl Visitor for Wastes {
+impl Visitor for FrozenWastes {
     type Stop = Infallible;
 
     ghost has_seen = { λ start now seen. (now.plates ≡ start.plates) × IsWasted start.plates start.area now.area seen };
@@ -55,7 +40,7 @@ pub fn frozen_loss(instance: &Instance, plan: &Plan, k: u32) -> u64
     requires fewer { k < neighbour_count (tree plan.now) }
     ensures { result ≡ frozen_loss_of instance.now (tree plan.now) k }
 {
-    let mut wastes = Wastes { plates: k, area: 0 };
+    let mut wastes = FrozenWastes { plates: k, area: 0 };
     match walk(&mut wastes, instance, plan) {
         Ok(()) => wastes.area,
         Err(never) => match never {},

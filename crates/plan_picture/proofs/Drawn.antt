@@ -10,7 +10,7 @@ use Rattle.cut_model.specs.declared.broken.Broken.{Broken}
 use Rattle.cut_model.specs.declared.family.Row.{Row}
 use Rattle.cut_model.specs.Tree.{sort_named}
 use Rattle.plan_picture.specs.declared.layout.Layout.{Layout}
-use Rattle.plan_picture.specs.declared.mark.Look.{Look}
+use Rattle.plan_picture.specs.declared.mark.PieceLook.{PieceLook}
 use Rattle.plan_picture.specs.declared.mark.Mark.TheVariants as mark
 use Rattle.plan_picture.specs.declared.mark.Words.{Words}
 use Rattle.plan_picture.specs.Pictures.{defects_on, drawn, is_breach, is_plate, look_of, middle, plates_in, struck_by}
@@ -112,7 +112,7 @@ more_kept b row test fails said more are_true =
     filter-append test said more ∙ ap (λ (ws : List Words). filter test said ++ ws) (none_kept b row test fails more are_true) ∙ append-nil (filter test said)
 
 -- one more row is shown, in the group of its plate
-drawn_shown : (b : Problem) (breach : Option Broken) (layout : Layout) (s : Sketch) (row : Row) (how : Look) (more : List Words) (plates : List ℕ) (rows : List Row) →
+drawn_shown : (b : Problem) (breach : Option Broken) (layout : Layout) (s : Sketch) (row : Row) (how : PieceLook) (more : List Words) (plates : List ℕ) (rows : List Row) →
     s.tells.plate ≡ Some row.plate → how ≡ look_of b (sort_named row.kind) → All (IsTrueOf b row) more → IsShown b breach layout (ended b breach s row.plate) plates rows →
     IsShown b breach layout (ended b breach (record s { tells = tell s.tells (mark.Piece row how); words = s.words ++ more; outlined = s.outlined ++ filter (is_breach breach) (row ∷ []) }) row.plate) plates (rows ++ row ∷ [])
 drawn_shown b breach layout s row how more plates rows at look are_true h =
@@ -125,7 +125,7 @@ drawn_shown b breach layout s row how more plates rows at look are_true h =
       pieces =
           ap (λ (ds : List Drawn). ds ++ record { plate = t.plate; row = row; how = how } ∷ []) h.pieces
           ∙ ap (λ (p : Option ℕ). map (drawn b) rows ++ record { plate = p; row = row; how = how } ∷ []) at
-          ∙ ap (λ (l : Look). map (drawn b) rows ++ record { plate = Some row.plate; row = row; how = l } ∷ []) look
+          ∙ ap (λ (l : PieceLook). map (drawn b) rows ++ record { plate = Some row.plate; row = row; how = l } ∷ []) look
           ∙ sym (map-append (drawn b) rows (row ∷ []));
       plates_are = h.plates_are;
       placed = h.placed;
@@ -156,7 +156,7 @@ drawn_shown b breach layout s row how more plates rows at look are_true h =
     }
 
 -- the sketch in which the group of the row's plate is open, then the row is drawn
-pub more_shown : (b : Problem) (breach : Option Broken) (layout : Layout) (s turned new : Sketch) (rows : List Row) (row : Row) (how : Look) →
+pub more_shown : (b : Problem) (breach : Option Broken) (layout : Layout) (s turned new : Sketch) (rows : List Row) (row : Row) (how : PieceLook) →
     HasShown b breach layout s rows → turned ≡ turned_to b breach layout s row.plate → how ≡ look_of b (sort_named row.kind) → HasDrawn b breach row how turned new →
     HasShown b breach layout new (rows ++ row ∷ [])
 more_shown b breach layout s turned new rows row how h turned_is look drawn_is =

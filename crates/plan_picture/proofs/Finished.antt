@@ -9,7 +9,7 @@ use Rattle.cut_model.specs.Families.{rows_of}
 use Rattle.cut_model.specs.Order.{cut_order}
 use Rattle.cut_model.specs.Tree.{Forest, neighbour_count}
 use Rattle.plan_picture.specs.declared.layout.Layout.{Layout}
-use Rattle.plan_picture.specs.declared.mark.Frame.{Frame}
+use Rattle.plan_picture.specs.declared.mark.PictureSize.{PictureSize}
 use Rattle.plan_picture.specs.declared.mark.Mark.{Mark}
 use Rattle.plan_picture.specs.declared.mark.Words.{Words}
 use Rattle.plan_picture.specs.declared.mark.Words.TheVariants as words
@@ -57,7 +57,7 @@ legend_of_none b (verdict.Broken broken) rows plates items =
     All-from_recursion (AreOf b rows) (legend_words b (verdict.Broken broken) plates items) (tt, (tt, (tt, (tt, (tt, (tt, (tt, (tt, (tt, tt)))))))))
 
 -- the plates are shown, and the legend is behind them
-pub finished : (b : Problem) (plan : Forest) (found : Verdict) (layout : Layout) (shown : Told) (frame : Frame) (marks : List Mark) (plates items : ℕ) →
+pub finished : (b : Problem) (plan : Forest) (found : Verdict) (layout : Layout) (shown : Told) (frame : PictureSize) (marks : List Mark) (plates items : ℕ) →
     plates ≡ neighbour_count plan → items ≡ length (cut_order (rows_of b plan)) →
     layout.height ≡ b.params.height → IsShown b (breach_of found) layout shown (plates_in (rows_of b plan)) (rows_of b plan) → told marks ≡ with_texts shown (legend_words b found plates items) →
     IsPicture b plan found (picture_text frame marks)

@@ -6,18 +6,18 @@ use Rattle.glass_base.specs.declared.item.Defect.{Defect}
 use Rattle.cut_model.specs.declared.family.Row.{Row}
 use Rattle.plan_picture.specs.declared.mark.Fill.{Fill}
 use Rattle.plan_picture.specs.declared.mark.Fill.TheVariants as fill
-use Rattle.plan_picture.specs.declared.mark.Frame.{Frame}
-use Rattle.plan_picture.specs.declared.mark.Label.{Label}
+use Rattle.plan_picture.specs.declared.mark.PictureSize.{PictureSize}
+use Rattle.plan_picture.specs.declared.mark.PlacedText.{PlacedText}
 use Rattle.plan_picture.specs.declared.mark.Line.{Line}
-use Rattle.plan_picture.specs.declared.mark.Look.{Look}
-use Rattle.plan_picture.specs.declared.mark.Look.TheVariants as look
+use Rattle.plan_picture.specs.declared.mark.PieceLook.{PieceLook}
+use Rattle.plan_picture.specs.declared.mark.PieceLook.TheVariants as look
 use Rattle.plan_picture.specs.declared.mark.Mark.{Mark}
 use Rattle.plan_picture.specs.declared.mark.Mark.TheVariants as mark
 use Rattle.plan_picture.specs.declared.writing.TheConstants.{STYLE}
 use Rattle.plan_picture.specs.Words.{class_text, sides_text, words_text}
 
 -- the beginning: its view box is in mm, and `STYLE` is the style sheet's text
-abbrev pub head_text : Frame → List ℕ
+abbrev pub head_text : PictureSize → List ℕ
 head_text f =
     codes "<svg xmlns=\"http://www.w3.org/2000/svg\" role=\"img\" viewBox=\"0 0 " ++ decimal f.width ++ codes " " ++ decimal f.height
     ++ codes "\" font-size=\"" ++ decimal f.size ++ codes "\">\n<title>Cutting plan</title>\n<style>\n@page{margin:0;size:1200px "
@@ -36,7 +36,7 @@ place_text x y width height =
     ++ decimal height ++ codes "\""
 
 -- the name of a piece
-abbrev pub name_text : Look → List ℕ
+abbrev pub name_text : PieceLook → List ℕ
 name_text (look.Item number _) = codes "item " ++ decimal number
 name_text look.Waste = codes "waste"
 name_text look.Branch = codes "branch"
@@ -51,27 +51,27 @@ item_class None = codes "item"
 item_class (Some stack) = stack_class stack
 
 -- the class by which a piece is filled
-abbrev pub look_class : Look → List ℕ
+abbrev pub look_class : PieceLook → List ℕ
 look_class (look.Item _ stack) = item_class stack
 look_class look.Waste = codes "waste"
 look_class look.Branch = codes "branch"
 look_class look.Residual = codes "residual"
 
 -- what a browser shows where the pointer rests on a piece
-abbrev pub title_text : Row → Look → List ℕ
+abbrev pub title_text : Row → PieceLook → List ℕ
 title_text row how =
     codes "<title>" ++ name_text how ++ codes ", " ++ sides_text row.width row.height ++ codes ", node " ++ decimal row.node
     ++ codes "</title>"
 
 -- the class of a row: how it is filled, and the level of the cut that makes it
-abbrev pub row_class : Row → Look → List ℕ
+abbrev pub row_class : Row → PieceLook → List ℕ
 row_class row how = codes " class=\"" ++ look_class how ++ codes " cut" ++ decimal row.cut ++ codes "\""
 
 -- the rectangle of a row
-abbrev pub rect_text : Row → Look → List ℕ
+abbrev pub rect_text : Row → PieceLook → List ℕ
 rect_text row how = codes "<rect" ++ row_class row how ++ place_text row.x row.y row.width row.height ++ codes "/>"
 
-abbrev pub piece_text : Row → Look → List ℕ
+abbrev pub piece_text : Row → PieceLook → List ℕ
 piece_text row how = codes "<g>" ++ title_text row how ++ rect_text row how ++ codes "</g>\n"
 
 abbrev pub cut_text : Line → List ℕ
@@ -104,7 +104,7 @@ abbrev pub spot_text : Bool → ℕ → ℕ → List ℕ
 spot_text false x y = codes " x=\"" ++ decimal x ++ codes "\" y=\"" ++ decimal y ++ codes "\""
 spot_text true x y = codes " transform=\"translate(" ++ decimal x ++ codes " " ++ decimal y ++ codes ") rotate(-90)\""
 
-abbrev pub label_text : Label → List ℕ
+abbrev pub label_text : PlacedText → List ℕ
 label_text l =
     codes "<text class=\"" ++ class_text l.words ++ codes "\"" ++ spot_text l.upright l.x l.y ++ codes " font-size=\"" ++ decimal l.size
     ++ codes "\">" ++ words_text l.words ++ codes "</text>\n"
@@ -122,5 +122,5 @@ mark_text (mark.Sample x y how) = sample_text x y how
 mark_text (mark.Label label) = label_text label
 
 -- the text of a picture
-abbrev pub picture_text : Frame → List Mark → List ℕ
+abbrev pub picture_text : PictureSize → List Mark → List ℕ
 picture_text frame marks = head_text frame ++ flat_map mark_text marks ++ codes "</svg>\n"

@@ -12,9 +12,9 @@ use Rattle.cut_model.specs.declared.family.Sort.{Sort}
 use Rattle.cut_model.specs.Families.{rows_of}
 use Rattle.cut_model.specs.Order.{cut_order, item_with}
 use Rattle.cut_model.specs.Tree.{Forest, neighbour_count, sort_named}
-use Rattle.plan_picture.specs.declared.mark.Frame.{Frame}
-use Rattle.plan_picture.specs.declared.mark.Look.{Look}
-use Rattle.plan_picture.specs.declared.mark.Look.TheVariants as look
+use Rattle.plan_picture.specs.declared.mark.PictureSize.{PictureSize}
+use Rattle.plan_picture.specs.declared.mark.PieceLook.{PieceLook}
+use Rattle.plan_picture.specs.declared.mark.PieceLook.TheVariants as look
 use Rattle.plan_picture.specs.declared.mark.Mark.{Mark}
 use Rattle.plan_picture.specs.declared.mark.Words.{Words}
 use Rattle.plan_picture.specs.declared.mark.Words.TheVariants as words
@@ -29,7 +29,7 @@ abbrev pub stack_numbered : Problem → ℕ → Option ℕ
 stack_numbered b number = option_and_then (stack_of b.items) (item_with b.items number)
 
 -- what a piece of this sort looks like
-abbrev pub look_of : Problem → Sort → Look
+abbrev pub look_of : Problem → Sort → PieceLook
 look_of b (Sort.Item number) = look.Item number (stack_numbered b number)
 look_of b Sort.Waste = look.Waste
 look_of b Sort.Branch = look.Branch
@@ -96,7 +96,7 @@ StandApart b groups = (g h : Group) → Contains groups g → Contains groups h 
 
 -- the text is that of elements which draw the plan, and what was found of it
 pub record IsPicture (b : Problem) (plan : Forest) (found : Verdict) (text : List ℕ) : Type 0 where
-  pub frame : Frame
+  pub frame : PictureSize
   pub marks : List Mark
   pub text_is : text ≡ picture_text frame marks
   -- each row of the plan once, in their order, in the group of its plate

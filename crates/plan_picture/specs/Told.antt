@@ -2,7 +2,7 @@
 use Rattle.std.specs.Prelude.{ℕ, List, [], ◌∷◌, ◌++◌, Option, Some, None}
 use Rattle.glass_base.specs.declared.item.Defect.{Defect}
 use Rattle.cut_model.specs.declared.family.Row.{Row}
-use Rattle.plan_picture.specs.declared.mark.Look.{Look}
+use Rattle.plan_picture.specs.declared.mark.PieceLook.{PieceLook}
 use Rattle.plan_picture.specs.declared.mark.Mark.{Mark}
 use Rattle.plan_picture.specs.declared.mark.Mark.TheVariants as mark
 use Rattle.plan_picture.specs.declared.mark.Words.{Words}
@@ -17,7 +17,7 @@ pub record Group : Type 0 where
 pub record Drawn : Type 0 where
   pub plate : Option ℕ
   pub row : Row
-  pub how : Look
+  pub how : PieceLook
 
 -- the plate in whose group the next element stands, the groups, and in which plate's group what is drawn, and what lines of text say
 pub record Told : Type 0 where

@@ -5,7 +5,7 @@ ghost use Rattle.plan_picture.specs.Pictures.{defects_on, part_on};
 ghost use Rattle.plan_picture.specs.Told.{tell, told};
 ghost use Rattle.plan_picture.specs.inner.Adding.{with_defects, with_outlines, with_rings, with_texts, words_in};
 
-use crate::mark::{Label, Line, Mark};
+use crate::mark::{Line, Mark, PlacedText};
 use cut_model::Row;
 use glass_base::{Defect, Instance, Memory, Run, append};
 
@@ -115,7 +115,7 @@ pub(crate) fn add_defects(
 }
 
 /// Adds texts.
-pub(crate) fn add_labels(marks: &mut Run<Mark>, labels: &[Label]) -> Result<(), Memory>
+pub(crate) fn add_labels(marks: &mut Run<Mark>, labels: &[PlacedText]) -> Result<(), Memory>
     ensures { OnOk result (told marks.new.items
         ≡ with_texts (told marks.old.items) (words_in labels.now)) }
 {

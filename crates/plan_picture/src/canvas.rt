@@ -11,7 +11,7 @@ ghost use Rattle.plan_picture.specs.inner.Sketches.{HasDrawn, closed, opened, sk
 use crate::adding::{add, add_cuts, add_defects, add_labels, add_outlines};
 use crate::mark::Mark;
 use crate::over::Over;
-use crate::sheet::Sheet;
+use crate::sheet::Subject;
 use cut_model::Family;
 use glass_base::{Memory, Run};
 use std::alloc::Global;
@@ -26,7 +26,12 @@ pub(crate) struct Canvas {
 }
 
 /// Adds what is drawn over the pieces of a plate, in its group.
-fn add_over(marks: &mut Run<Mark>, over: &Over, sheet: &Sheet<'_>, plate: u32) -> Result<(), Memory>
+fn add_over(
+    marks: &mut Run<Mark>,
+    over: &Over,
+    sheet: &Subject<'_>,
+    plate: u32,
+) -> Result<(), Memory>
     ensures { let b = sheet.now.instance.now in
         OnOk result (told marks.new.items
         ≡ with_defects (with_outlines (told marks.old.items)
@@ -55,7 +60,7 @@ impl Canvas {
     }
 
     /// Ends the group that is open, if one is: draws over its pieces, and behind the group the texts.
-    pub fn close(&mut self, alloc: Global, sheet: &Sheet<'_>) -> Result<(), Memory>
+    pub fn close(&mut self, alloc: Global, sheet: &Subject<'_>) -> Result<(), Memory>
         ensures { OnOk result (sketch self.new ≡ record {
           tells = closed sheet.now.instance.now sheet.now.broken
               (sketch self.old);
@@ -75,7 +80,7 @@ impl Canvas {
     }
 
     /// Begins the group of a plate. None is open, and nothing is noted.
-    fn open(&mut self, sheet: &Sheet<'_>, plate: u32) -> Result<(), Memory>
+    fn open(&mut self, sheet: &Subject<'_>, plate: u32) -> Result<(), Memory>
         requires words { (sketch self.old).words ≡ [] }
         requires outlined { (sketch self.old).outlined ≡ [] }
         ensures { OnOk result (sketch self.new ≡ opened sheet.now.instance.now sheet.now.layout
@@ -94,7 +99,7 @@ impl Canvas {
     }
 
     /// Goes to the group of a plate: ends the one that is open and begins that of the plate, unless it is open already.
-    pub fn turn_to(&mut self, alloc: Global, sheet: &Sheet<'_>, plate: u32) -> Result<(), Memory>
+    pub fn turn_to(&mut self, alloc: Global, sheet: &Subject<'_>, plate: u32) -> Result<(), Memory>
         ensures { OnOk result (sketch self.new ≡ turned_to sheet.now.instance.now sheet.now.broken
             sheet.now.layout (sketch self.old) plate) }
     {
@@ -106,7 +111,7 @@ impl Canvas {
     }
 
     /// Draws a piece in the group that is open, and notes what is to be drawn over it.
-    pub fn draw(&mut self, sheet: &Sheet<'_>, family: &Family) -> Result<(), Memory>
+    pub fn draw(&mut self, sheet: &Subject<'_>, family: &Family) -> Result<(), Memory>
         requires small { IsSmall family.now }
         requires named { family.now.row.kind ≡ type_number family.now.sort }
         ensures { let b = sheet.now.instance.now in

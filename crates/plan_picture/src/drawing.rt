@@ -12,8 +12,8 @@ ghost use Rattle.plan_picture.specs.inner.Sketches.{HasShown, IsShown, sketch};
 use crate::canvas::Canvas;
 use crate::layout::Layout;
 use crate::legend::{Counts, add_legend};
-use crate::mark::{Frame, Mark};
-use crate::sheet::{Sheet, broken_in};
+use crate::mark::{Mark, PictureSize};
+use crate::sheet::{Subject, broken_in};
 use crate::survey::survey_of;
 use crate::writing::text_of;
 use cut_model::{Family, Plan, Verdict, Visitor, plates_used, walk};
@@ -24,7 +24,7 @@ use std::alloc::Global;
 #[derive(Drop)]
 struct Drawing<'a> {
     alloc: Global,
-    sheet: &'a Sheet<'a>,
+    sheet: &'a Subject<'a>,
     canvas: Canvas,
 }
 
@@ -44,7 +44,7 @@ impl<'a> Visitor for Drawing<'a> {
 }
 
 /// The elements of a picture up to the end of its last plate.
-fn draw(alloc: Global, sheet: &Sheet<'_>, plan: &Plan) -> Result<Run<Mark>, Memory>
+fn draw(alloc: Global, sheet: &Subject<'_>, plan: &Plan) -> Result<Run<Mark>, Memory>
     requires { Fits (tree plan.now) }
     ensures { let b = sheet.now.instance.now in
         IfOk result (λ marks. IsShown b sheet.now.broken sheet.now.layout (told marks.items)
@@ -63,7 +63,7 @@ fn draw(alloc: Global, sheet: &Sheet<'_>, plan: &Plan) -> Result<Run<Mark>, Memo
 /// The sizes of a picture and its elements.
 #[derive(Drop)]
 struct Elements {
-    frame: Frame,
+    frame: PictureSize,
     marks: Run<Mark>,
 }
 
@@ -81,7 +81,7 @@ fn elements_of(
     let survey = survey_of(instance, plan);
     let layout = Layout::new(survey.widest, instance.params().height);
     let stacks = stack_numbers(alloc, instance.items())?;
-    let sheet = Sheet {
+    let sheet = Subject {
         instance,
         stacks: stacks.as_slice(),
         layout,

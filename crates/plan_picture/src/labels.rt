@@ -7,8 +7,8 @@ ghost use Rattle.plan_picture.specs.declared.mark.Words.TheVariants.{Sides};
 ghost use Rattle.plan_picture.specs.inner.Adding.{AddsTrue, words_in};
 
 use crate::layout::Layout;
-use crate::mark::{Label, Words};
-use crate::sheet::Sheet;
+use crate::mark::{PlacedText, Words};
+use crate::sheet::Subject;
 use cut_model::Row;
 use glass_base::{Memory, Run, append};
 
@@ -22,7 +22,7 @@ const ENOUGH: u64 = 60;
 
 /// How a text is set in a piece: the size of its letters in mm, and whether it reads upwards.
 #[derive(Clone, Copy)]
-struct Setting {
+struct TextSetting {
     size: u64,
     upright: bool,
 }
@@ -35,24 +35,24 @@ fn size_between(along: u32, across: u32, letters: u32, lines: u32) -> u64 {
 }
 
 /// How so many lines with at most so many letters are set in a piece: to the right where they are large enough, else the larger way.
-fn fitting(layout: &Layout, row: &Row, letters: u32, lines: u32) -> Setting {
+fn fitting(layout: &Layout, row: &Row, letters: u32, lines: u32) -> TextSetting {
     let level = size_between(row.width, row.height, letters, lines);
     let steep = size_between(row.height, row.width, letters, lines);
     let upright = level < steep && level < layout.hundredths(ENOUGH);
     let size = if upright { steep } else { level };
-    Setting {
+    TextSetting {
         size: size.min(layout.hundredths(MOST)),
         upright,
     }
 }
 
 /// Whether a text is large enough to be read.
-fn is_legible(layout: &Layout, setting: Setting) -> bool {
+fn is_legible(layout: &Layout, setting: TextSetting) -> bool {
     setting.size >= layout.hundredths(LEAST)
 }
 
 /// A line of text in the middle of a piece, moved down by so many hundredths of its size, less 20.
-fn line(layout: &Layout, row: &Row, setting: Setting, down: u64, words: Words) -> Label
+fn line(layout: &Layout, row: &Row, setting: TextSetting, down: u64, words: Words) -> PlacedText
     ensures { result.words ≡ words }
 {
     let (x, y) = layout.middle(row);
@@ -64,7 +64,7 @@ fn line(layout: &Layout, row: &Row, setting: Setting, down: u64, words: Words) -
     } else {
         (x, y.saturating_sub(from).saturating_add(to))
     };
-    Label {
+    PlacedText {
         x,
         y,
         size,
@@ -95,7 +95,7 @@ fn letters_of_sides(row: &Row) -> u32
 }
 
 /// Adds a line of text.
-pub(crate) fn add_line(labels: &mut Run<Label>, label: Label) -> Result<(), Memory>
+pub(crate) fn add_line(labels: &mut Run<PlacedText>, label: PlacedText) -> Result<(), Memory>
     ensures { OnOk result (words_in labels.new.items
         ≡ words_in labels.old.items ++ label.words ∷ []) }
 {
@@ -104,10 +104,10 @@ pub(crate) fn add_line(labels: &mut Run<Label>, label: Label) -> Result<(), Memo
 
 /// Adds a name and under it the sides of the piece.
 fn add_two_lines(
-    labels: &mut Run<Label>,
+    labels: &mut Run<PlacedText>,
     layout: &Layout,
     row: &Row,
-    setting: Setting,
+    setting: TextSetting,
     name: Words,
 ) -> Result<(), Memory>
     ensures { OnOk result (words_in labels.new.items
@@ -120,8 +120,8 @@ fn add_two_lines(
 
 /// Adds the number of an item and its sides: one over the other or in one line, where they fit, else the number alone, where it fits.
 pub(crate) fn add_item(
-    labels: &mut Run<Label>,
-    sheet: &Sheet<'_>,
+    labels: &mut Run<PlacedText>,
+    sheet: &Subject<'_>,
     row: &Row,
     number: u32,
 ) -> Result<(), Memory>
@@ -156,8 +156,8 @@ pub(crate) fn add_item(
 
 /// Adds that a piece is the residual, and its sides, where they fit.
 pub(crate) fn add_residual(
-    labels: &mut Run<Label>,
-    sheet: &Sheet<'_>,
+    labels: &mut Run<PlacedText>,
+    sheet: &Subject<'_>,
     row: &Row,
 ) -> Result<(), Memory>
     requires { row.now.kind ≡ type_number TheResidual }

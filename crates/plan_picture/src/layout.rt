@@ -3,7 +3,7 @@
 ghost use Rattle.std.specs.Prelude.{◌≡◌, ◌+◌, ◌*◌, ◌≤◌};
 ghost use Rattle.plan_picture.specs.inner.Layouts.{IsLayout};
 
-use crate::mark::{Frame, Label, Words};
+use crate::mark::{PictureSize, PlacedText, Words};
 use cut_model::Row;
 use glass_base::limits::MOST_SIDE;
 
@@ -84,8 +84,8 @@ impl Layout {
     }
 
     /// The sizes of a picture of so many plates.
-    pub fn frame(&self, plates: u64) -> Frame {
-        Frame {
+    pub fn frame(&self, plates: u64) -> PictureSize {
+        PictureSize {
             width: self.size * WIDTH,
             height: (self.size * self.lines).saturating_mul(plates.max(1)),
             size: self.size,
@@ -94,10 +94,10 @@ impl Layout {
     }
 
     /// The text above a plate.
-    pub fn heading(&self, number: u32, width: u32) -> Label
+    pub fn heading(&self, number: u32, width: u32) -> PlacedText
         ensures { result.words ≡ Plate number width self.now.height }
     {
-        Label {
+        PlacedText {
             x: self.left(),
             y: self.top(number).saturating_sub(self.hundredths(50)),
             size: self.size,

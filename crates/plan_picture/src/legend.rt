@@ -8,16 +8,22 @@ ghost use Rattle.plan_picture.specs.inner.Adding.{key_words, with_texts};
 
 use crate::adding::add;
 use crate::layout::Layout;
-use crate::mark::{Fill, Key, Label, Line, Mark, Words};
+use crate::mark::{Fill, Key, Line, Mark, PlacedText, Words};
 use cut_model::Verdict;
 use glass_base::{Instance, Memory, Run};
 
-/// What the lines of a legend stand on, in hundredths of the size of plain text: the verdict, the counts, the key.
-const VERDICT: u64 = 140;
+/// A line of the legend: what its words stand on and how large they are, in hundredths of the size of plain text.
+#[derive(Clone, Copy)]
+struct LegendLine {
+    y: u64,
+    size: u64,
+}
 
-const COUNTS: u64 = 270;
+const VERDICT: LegendLine = LegendLine { y: 140, size: 120 };
 
-const KEY: u64 = 400;
+const COUNTS: LegendLine = LegendLine { y: 270, size: 100 };
+
+const KEY: LegendLine = LegendLine { y: 400, size: 100 };
 
 /// How many stacks have a colour of their own.
 const COLOURS: usize = 7;
@@ -37,21 +43,20 @@ fn thousandths(loss: u64, area: u64) -> u64
     ((u128::from(loss) * 1000 + glass / 2) / glass) as u64
 }
 
-/// Adds a text. Its place and its size are given in hundredths of the size of plain text.
+/// Adds a text to a line of the legend, from x on, in hundredths of the size of plain text.
 fn add_words(
     marks: &mut Run<Mark>,
     layout: &Layout,
     x: u64,
-    y: u64,
-    size: u64,
+    line: LegendLine,
     words: Words,
 ) -> Result<(), Memory>
     ensures { OnOk result (told marks.new.items ≡ with_texts (told marks.old.items) (words ∷ [])) }
 {
-    let label = Label {
+    let label = PlacedText {
         x: layout.hundredths(x),
-        y: layout.hundredths(y),
-        size: layout.hundredths(size),
+        y: layout.hundredths(line.y),
+        size: layout.hundredths(line.size),
         upright: false,
         words,
     };
@@ -63,7 +68,7 @@ fn add_key(marks: &mut Run<Mark>, layout: &Layout, x: u64, key: Key) -> Result<(
     ensures { OnOk result (told marks.new.items
         ≡ with_texts (told marks.old.items) (KeyOf key ∷ [])) }
 {
-    add_words(marks, layout, x, KEY, 100, Words::Key(key))
+    add_words(marks, layout, x, KEY, Words::Key(key))
 }
 
 /// Adds a spot of the key.
@@ -72,7 +77,7 @@ fn add_sample(marks: &mut Run<Mark>, layout: &Layout, x: u64, fill: Fill) -> Res
 {
     let sample = Mark::Sample {
         x: layout.hundredths(x),
-        y: layout.hundredths(KEY - 35),
+        y: layout.hundredths(KEY.y - 35),
         fill,
     };
     add(marks, sample)
@@ -96,9 +101,9 @@ fn add_cut(marks: &mut Run<Mark>, layout: &Layout, level: u32) -> Result<(), Mem
     let line = Line {
         level,
         x1: x,
-        y1: layout.hundredths(KEY - 80),
+        y1: layout.hundredths(KEY.y - 80),
         x2: x,
-        y2: layout.hundredths(KEY + 10),
+        y2: layout.hundredths(KEY.y + 10),
     };
     add(marks, Mark::Cut(line))
 }
@@ -143,11 +148,11 @@ fn add_verdict(
     match *verdict {
         Verdict::Lawful(loss) => {
             let words = Words::Loss(loss, thousandths(loss, instance.area()));
-            add_words(marks, layout, 200, VERDICT, 120, words)
+            add_words(marks, layout, 200, VERDICT, words)
         }
         Verdict::Broken(broken) => {
-            add_words(marks, layout, 200, VERDICT, 120, Words::Unlawful(broken))?;
-            add_words(marks, layout, 1600, COUNTS, 100, Words::Reason(broken.rule))
+            add_words(marks, layout, 200, VERDICT, Words::Unlawful(broken))?;
+            add_words(marks, layout, 1600, COUNTS, Words::Reason(broken.rule))
         }
     }
 }
@@ -167,6 +172,6 @@ pub(crate) fn add_legend(
 {
     add_verdict(marks, layout, instance, verdict)?;
     let words = Words::Counts(counts.plates, counts.items);
-    add_words(marks, layout, 200, COUNTS, 100, words)?;
+    add_words(marks, layout, 200, COUNTS, words)?;
     add_keys(marks, layout)
 }

@@ -15,4 +15,4 @@ mod words;
 mod writing;
 
 pub use drawing::picture;
-pub use mark::{Fill, Frame, Key, Label, Line, Look, Mark, Words};
+pub use mark::{Fill, Key, Line, Mark, PictureSize, PieceLook, PlacedText, Words};

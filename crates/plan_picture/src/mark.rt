@@ -9,7 +9,7 @@ pub enum Mark {
     /// The beginning of the group of a plate: its number, and where its lower left corner stands.
     Plate { number: u32, x: u64, y: u64 },
     /// The rectangle of a row.
-    Piece(Row, Look),
+    Piece(Row, PieceLook),
     /// A cut.
     Cut(Line),
     /// A defect.
@@ -23,12 +23,12 @@ pub enum Mark {
     /// A round spot of the legend.
     Sample { x: u64, y: u64, fill: Fill },
     /// A line of text.
-    Label(Label),
+    Label(PlacedText),
 }
 
 /// The sizes of a picture.
 #[derive(Clone, Copy)]
-pub struct Frame {
+pub struct PictureSize {
     pub width: u64,
     pub height: u64,
     /// The size of its plain text, from which the widths of its lines follow.
@@ -39,7 +39,7 @@ pub struct Frame {
 
 /// What a piece looks like.
 #[derive(Clone, Copy)]
-pub enum Look {
+pub enum PieceLook {
     /// An item, by its number, and its stack, counted from 0 by the first appearance of the stacks in the batch. An item that the
     /// batch does not have has none.
     Item(u32, Option<usize>),
@@ -71,7 +71,7 @@ pub enum Fill {
 
 /// A line of text, and where its base line stands: its left end, or its middle where it belongs to a piece.
 #[derive(Clone, Copy)]
-pub struct Label {
+pub struct PlacedText {
     pub x: u64,
     pub y: u64,
     pub size: u64,

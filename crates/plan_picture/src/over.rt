@@ -8,8 +8,8 @@ ghost use Rattle.plan_picture.specs.Texts.{heading};
 ghost use Rattle.plan_picture.specs.inner.Adding.{AddsTrue, words_in};
 
 use crate::labels::{add_item, add_line, add_residual};
-use crate::mark::{Label, Line};
-use crate::sheet::Sheet;
+use crate::mark::{Line, PlacedText};
+use crate::sheet::Subject;
 use cut_model::{Along, Family, Row, Sort};
 use glass_base::{Memory, Run, append};
 use std::alloc::Global;
@@ -18,7 +18,7 @@ use std::alloc::Global;
 #[derive(Drop)]
 pub(crate) struct Over {
     pub cuts: Run<Line>,
-    pub labels: Run<Label>,
+    pub labels: Run<PlacedText>,
     /// The pieces that are outlined: the one that breaks a rule, if it is on this plate.
     pub outlined: Run<Row>,
 }
@@ -57,7 +57,7 @@ fn add_cut(cuts: &mut Run<Line>, family: &Family) -> Result<(), Memory>
 }
 
 /// Adds a row, if it is the piece that breaks a rule.
-fn add_breach(outlined: &mut Run<Row>, sheet: &Sheet<'_>, row: Row) -> Result<(), Memory>
+fn add_breach(outlined: &mut Run<Row>, sheet: &Subject<'_>, row: Row) -> Result<(), Memory>
     ensures { OnOk result (outlined.new.items
         ≡ outlined.old.items ++ filter (is_breach sheet.now.broken) (row ∷ [])) }
 {
@@ -69,7 +69,11 @@ fn add_breach(outlined: &mut Run<Row>, sheet: &Sheet<'_>, row: Row) -> Result<()
 }
 
 /// Adds the texts in a piece, as far as they fit.
-fn add_words(labels: &mut Run<Label>, sheet: &Sheet<'_>, family: &Family) -> Result<(), Memory>
+fn add_words(
+    labels: &mut Run<PlacedText>,
+    sheet: &Subject<'_>,
+    family: &Family,
+) -> Result<(), Memory>
     requires { family.now.row.kind ≡ type_number family.now.sort }
     ensures { OnOk result (AddsTrue sheet.now.instance.now family.now.row labels.old.items
         labels.new.items) }
@@ -95,7 +99,7 @@ impl Over {
     }
 
     /// Notes the text above a plate.
-    pub fn begin(&mut self, sheet: &Sheet<'_>, plate: u32) -> Result<(), Memory>
+    pub fn begin(&mut self, sheet: &Subject<'_>, plate: u32) -> Result<(), Memory>
         ensures labels { OnOk result (words_in self.new.labels.items
             ≡ words_in self.old.labels.items ++ heading sheet.now.instance.now plate ∷ []) }
         ensures outlined { self.new.outlined.items ≡ self.old.outlined.items }
@@ -105,7 +109,7 @@ impl Over {
     }
 
     /// Notes what is drawn over a piece.
-    pub fn note(&mut self, sheet: &Sheet<'_>, family: &Family) -> Result<(), Memory>
+    pub fn note(&mut self, sheet: &Subject<'_>, family: &Family) -> Result<(), Memory>
         requires small { IsSmall family.now }
         requires named { family.now.row.kind ≡ type_number family.now.sort }
         ensures labels { OnOk result (AddsTrue sheet.now.instance.now family.now.row

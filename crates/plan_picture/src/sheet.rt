@@ -7,13 +7,13 @@ ghost use Rattle.plan_picture.specs.Pictures.{breach_by, breach_of, is_breach, l
 ghost use Rattle.plan_picture.specs.Texts.{is_turned_from};
 
 use crate::layout::Layout;
-use crate::mark::Look;
+use crate::mark::PieceLook;
 use cut_model::{Broken, Row, Rule, Sort, Verdict, item_numbered};
 use glass_base::{Defect, Instance, Item};
 
 /// What a plan is drawn for.
 #[derive(Clone, Copy)]
-pub(crate) struct Sheet<'a> {
+pub(crate) struct Subject<'a> {
     pub instance: &'a Instance,
     /// The numbers of the stacks, by their first appearance.
     pub stacks: &'a [u32],
@@ -61,7 +61,7 @@ fn is_turned(row: &Row, item: Option<Item>) -> bool
     }
 }
 
-impl<'a> Sheet<'a> {
+impl<'a> Subject<'a> {
     /// The stack of the item of this number, counted from 0 by the first appearance of the stacks, if the batch has the item.
     fn stack(&self, number: u32) -> Option<usize>
         ensures { result ≡ stack_numbered self.now.instance.now number }
@@ -73,14 +73,14 @@ impl<'a> Sheet<'a> {
     }
 
     /// What a piece of this sort looks like.
-    pub fn look(&self, sort: Sort) -> Look
+    pub fn look(&self, sort: Sort) -> PieceLook
         ensures { result ≡ look_of self.now.instance.now sort }
     {
         match sort {
-            Sort::Item(number) => Look::Item(number, self.stack(number)),
-            Sort::Waste => Look::Waste,
-            Sort::Branch => Look::Branch,
-            Sort::Residual => Look::Residual,
+            Sort::Item(number) => PieceLook::Item(number, self.stack(number)),
+            Sort::Waste => PieceLook::Waste,
+            Sort::Branch => PieceLook::Branch,
+            Sort::Residual => PieceLook::Residual,
         }
     }
 

@@ -7,7 +7,7 @@ ghost use Rattle.plan_picture.specs.Marks.{cut_text, defect_text, fill_class, he
 ghost use Rattle.cut_model.specs.Words.{breach_text};
 ghost use Rattle.plan_picture.specs.Words.{number_text, share_text, sides_text, words_text};
 
-use crate::mark::{Fill, Frame, Label, Line, Look, Mark, Words};
+use crate::mark::{Fill, Line, Mark, PictureSize, PieceLook, PlacedText, Words};
 use crate::words::{class_of, key_word, reason};
 use cut_model::{Broken, Row};
 use glass_base::{Defect, Memory, Run};
@@ -47,7 +47,7 @@ line.hatch{stroke:#888;stroke-width:.05em}
 ";
 
 /// Writes the beginning of a picture.
-fn write_head(text: &mut String, frame: &Frame) -> Result<(), Memory>
+fn write_head(text: &mut String, frame: &PictureSize) -> Result<(), Memory>
     ensures { OnOk result (string_bytes text.new ≡ string_bytes text.old ++ head_text frame.now) }
 {
     let (width, height) = (frame.width, frame.height);
@@ -88,14 +88,14 @@ fn write_place(text: &mut String, x: u32, y: u32, width: u32, height: u32) -> Re
 }
 
 /// Writes the name of a piece.
-fn write_name(text: &mut String, look: &Look) -> Result<(), Memory>
+fn write_name(text: &mut String, look: &PieceLook) -> Result<(), Memory>
     ensures { OnOk result (string_bytes text.new ≡ string_bytes text.old ++ name_text look.now) }
 {
     match *look {
-        Look::Item(number, _) => write!(text, "item {number}")?,
-        Look::Waste => text.push_str("waste")?,
-        Look::Branch => text.push_str("branch")?,
-        Look::Residual => text.push_str("residual")?,
+        PieceLook::Item(number, _) => write!(text, "item {number}")?,
+        PieceLook::Waste => text.push_str("waste")?,
+        PieceLook::Branch => text.push_str("branch")?,
+        PieceLook::Residual => text.push_str("residual")?,
     }
     Ok(())
 }
@@ -110,21 +110,21 @@ fn write_stack_class(text: &mut String, stack: usize) -> Result<(), Memory>
 }
 
 /// Writes the class by which a piece is filled.
-fn write_look_class(text: &mut String, look: &Look) -> Result<(), Memory>
+fn write_look_class(text: &mut String, look: &PieceLook) -> Result<(), Memory>
     ensures { OnOk result (string_bytes text.new ≡ string_bytes text.old ++ look_class look.now) }
 {
     match *look {
-        Look::Item(_, Some(stack)) => write_stack_class(text, stack)?,
-        Look::Item(_, None) => text.push_str("item")?,
-        Look::Waste => text.push_str("waste")?,
-        Look::Branch => text.push_str("branch")?,
-        Look::Residual => text.push_str("residual")?,
+        PieceLook::Item(_, Some(stack)) => write_stack_class(text, stack)?,
+        PieceLook::Item(_, None) => text.push_str("item")?,
+        PieceLook::Waste => text.push_str("waste")?,
+        PieceLook::Branch => text.push_str("branch")?,
+        PieceLook::Residual => text.push_str("residual")?,
     }
     Ok(())
 }
 
 /// Writes what a browser shows where the pointer rests on a piece.
-fn write_title(text: &mut String, row: &Row, look: &Look) -> Result<(), Memory>
+fn write_title(text: &mut String, row: &Row, look: &PieceLook) -> Result<(), Memory>
     ensures { OnOk result (string_bytes text.new
         ≡ string_bytes text.old ++ title_text row.now look.now) }
 {
@@ -138,7 +138,7 @@ fn write_title(text: &mut String, row: &Row, look: &Look) -> Result<(), Memory>
 }
 
 /// Writes the class of a row.
-fn write_row_class(text: &mut String, row: &Row, look: &Look) -> Result<(), Memory>
+fn write_row_class(text: &mut String, row: &Row, look: &PieceLook) -> Result<(), Memory>
     ensures { OnOk result (string_bytes text.new
         ≡ string_bytes text.old ++ row_class row.now look.now) }
 {
@@ -150,7 +150,7 @@ fn write_row_class(text: &mut String, row: &Row, look: &Look) -> Result<(), Memo
 }
 
 /// Writes the rectangle of a row.
-fn write_rect(text: &mut String, row: &Row, look: &Look) -> Result<(), Memory>
+fn write_rect(text: &mut String, row: &Row, look: &PieceLook) -> Result<(), Memory>
     ensures { OnOk result (string_bytes text.new
         ≡ string_bytes text.old ++ rect_text row.now look.now) }
 {
@@ -162,7 +162,7 @@ fn write_rect(text: &mut String, row: &Row, look: &Look) -> Result<(), Memory>
 }
 
 /// Writes a piece.
-fn write_piece(text: &mut String, row: &Row, look: &Look) -> Result<(), Memory>
+fn write_piece(text: &mut String, row: &Row, look: &PieceLook) -> Result<(), Memory>
     ensures { OnOk result (string_bytes text.new
         ≡ string_bytes text.old ++ piece_text row.now look.now) }
 {
@@ -349,7 +349,7 @@ fn write_spot(text: &mut String, upright: bool, x: u64, y: u64) -> Result<(), Me
 }
 
 /// Writes a text.
-fn write_label(text: &mut String, label: &Label) -> Result<(), Memory>
+fn write_label(text: &mut String, label: &PlacedText) -> Result<(), Memory>
     ensures { OnOk result (string_bytes text.new ≡ string_bytes text.old ++ label_text label.now) }
 {
     let class = class_of(&label.words);
@@ -391,7 +391,7 @@ fn write_marks(text: &mut String, marks: &[Mark]) -> Result<(), Memory>
 }
 
 /// The text of a picture with these elements. It fails only where memory runs out.
-pub(crate) fn text_of(alloc: Global, frame: &Frame, marks: &[Mark]) -> Result<Run<u8>, Memory>
+pub(crate) fn text_of(alloc: Global, frame: &PictureSize, marks: &[Mark]) -> Result<Run<u8>, Memory>
     ensures { IfOk result (λ text. text.items ≡ picture_text frame.now marks.now) }
 {
     let mut text = String::new(alloc);

@@ -1,7 +1,6 @@
 //! Steps of a trace, one after another, with what the rules read of them.
 
 ghost use Rattle.std.specs.Prelude.{◌≡◌, ◌+◌, ◌<◌, ◌≤◌, ◌^◌, true};
-ghost use Rattle.glass_base.specs.Problem.{IsProblem, item_at};
 ghost use Rattle.cut_model.specs.Steps.{plates_after};
 ghost use Rattle.plan_trace.specs.Marks.{begins, cell_width, drawn as drawn_of, item_height, item_width, level_of as level_that};
 ghost use Rattle.plan_trace.specs.TraceRules.{is_last_band as last_band, is_last_cell as last_cell, is_last_in_cell as last_in_cell, is_last_strip as last_strip};
@@ -52,18 +51,6 @@ fn drawn(before: &[Step], stack: u32) -> usize
         }
     }
     count
-}
-
-/// The next item of a stack, behind these steps.
-fn next_item(instance: &Instance, before: &[Step], stack: u32) -> Option<Item>
-    ensures value { result ≡ item_at instance.now stack (drawn_of (draws_of before.now) stack) }
-    ensures rules { IsProblem instance.now }
-{
-    if stack >= instance.stacks() {
-        return None;
-    }
-    let place = *instance.stack(stack).get(drawn(before, stack))?;
-    instance.items().get(place as usize).copied()
 }
 
 /// The side along x of an item in this turn.
@@ -130,17 +117,7 @@ impl Laid {
     {
         Laid {
             level: Level::NewPlate,
-            step: Step {
-                stack: 0,
-                turn: 0,
-                kind: 0,
-                lift: 0,
-                a: 0,
-                b: 0,
-                c: 0,
-                d: 0,
-                e: 0,
-            },
+            step: Step::NONE,
             plates: 0,
             item: None,
             w: 0,
@@ -156,7 +133,7 @@ impl Laid {
         ensures rules { IsProblem instance.now }
     {
         let level = level_behind(before, step.kind);
-        let item = next_item(instance, before, step.stack);
+        let item = instance.item_of(step.stack, drawn(before, step.stack));
         let w = width_in(step.turn, item);
         Laid {
             level,

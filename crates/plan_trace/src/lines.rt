@@ -1,23 +1,12 @@
 //! The rules of a trace on defects, each as a test of one step that is in its place.
 
 ghost use Rattle.std.specs.Prelude.{◌≡◌, ◌↔◌, ◌+◌, ◌-◌, ◌<◌, ◌≤◌, IsTrue};
-ghost use Rattle.defect_map.specs.Queries.{HitsNone};
 ghost use Rattle.plan_trace.specs.inner.Laid.{BandClear, CellClear, cut_of, IsFitted, LowerClear, StripClear, UpperClear};
 ghost use Rattle.plan_trace.specs.TraceRules.{LiftLine, TR8, TR9, bottom as bottom_of};
 
 use crate::laid::Laid;
 use crate::level::Level;
 use defect_map::Ground;
-
-/// Whether the inside of a rectangle meets no defect of the plate.
-#[tactic(auto, using(defect_map::proofs::Clear::none_passes))]
-fn is_clear(ground: Ground<'_>, plate: u32, x0: u32, y0: u32, x1: u32, y1: u32) -> bool
-    requires wide { x0 < x1 }
-    requires high { y0 < y1 }
-    ensures { IsTrue result ↔ HitsNone ground.entry.instance.now.defects plate x0 y0 x1 y1 }
-{
-    !ground.map.hits(plate, x0, y0, x1, y1)
-}
 
 /// The lower side of a step's item.
 fn bottom(s: &Laid) -> u32
@@ -41,8 +30,7 @@ pub fn keeps8(ground: Ground<'_>, s: &Laid) -> bool
     ensures { IsTrue result ↔ TR8 ground.entry.instance.now.defects s.now.level (cut_of s.now) }
 {
     let y = bottom(s);
-    is_clear(
-        ground,
+    ground.is_clear(
         s.plates.saturating_sub(1),
         s.step.e,
         y,

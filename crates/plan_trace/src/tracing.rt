@@ -73,15 +73,19 @@ fn take_step(
     items: &[Item],
     stacks: &[u32],
     here: Here,
-    width: u32,
-    sort: Sort,
+    family: &Family,
 ) -> Result<(), Memory>
     requires { length stacks.now ≤ MOST_ITEMS }
     ensures { OnOk result (steps.new.items ≡ steps.old.items
-        ++ tell items.now stacks.now here width sort []) }
+        ++ tell items.now stacks.now here family.now.row.width family.now.sort []) }
 {
-    match sort {
-        Sort::Item(number) => append(steps, step_at(items, stacks, here, width, number)),
+    match family.sort {
+        Sort::Item(number) => {
+            append(
+                steps,
+                step_at(items, stacks, here, family.row.width, number),
+            )
+        }
         Sort::Waste => Ok(()),
         Sort::Branch => Ok(()),
         Sort::Residual => Ok(()),
@@ -109,14 +113,7 @@ impl<'a> Visitor for Tracing<'a> {
 
     fn visit(&mut self, family: &Family) -> Result<(), Memory> {
         let here = place_at(self.here, family);
-        take_step(
-            &mut self.steps,
-            self.items,
-            self.stacks,
-            here,
-            family.row.width,
-            family.sort,
-        )?;
+        take_step(&mut self.steps, self.items, self.stacks, here, family)?;
         self.here = place_behind(here, family.sort);
         Ok(())
     }

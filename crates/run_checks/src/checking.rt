@@ -18,10 +18,9 @@ use cert_check::{Verdict, Why, check_cert, reasoned};
 use cert_log::{BadCert, Certificate, read_cert, write_cert};
 use command_line::Product;
 use cut_model::Plan;
-use defect_map::{DefectMap, Ground};
+use defect_map::Ground;
 use front_bound::losses::FrontSearch;
-use front_bound::watch::Watch;
-use glass_base::{Instance, Memory, Role, Run};
+use glass_base::{Instance, Listener, Memory, Role, Run};
 use loss_area::loss;
 use run_frame::{
     Notice, Refusal, Reply, Status, Stop, bad_input, limit, numbered, one_output, reply_at,
@@ -145,12 +144,12 @@ fn loss_of_plan(instance: &Instance, plan: &Option<Plan>) -> Option<u64>
 }
 
 /// Goes on where a certificate is right for the box of all plans and for this loss.
-pub(crate) fn check_cert_in<W: Watch>(
+pub(crate) fn check_cert_in<L: Listener>(
     alloc: Global,
     ground: Ground<'_>,
     loss: Option<u64>,
     certificate: &Certificate,
-    search: &FrontSearch<'_, W>,
+    search: &FrontSearch<'_, L>,
 ) -> Result<(), Stop>
     requires tree { IsTree certificate.now.nodes.items }
     requires version { HasVersion certificate.now }
@@ -181,12 +180,12 @@ pub struct Checked {
 /// The certificate that a text says, where it is right for the loss of the plan that another one says, and this is
 /// lawful, with this plan; or what is told of the first that fails: the text of the plan, that of the certificate, the
 /// plan, the certificate. Its floor is shown by this search over fronts.
-pub fn accepted_texts<W: Watch>(
+pub fn accepted_texts<L: Listener>(
     alloc: Global,
     ground: Ground<'_>,
     plan_text: Option<&[u8]>,
     cert_text: &[u8],
-    search: &FrontSearch<'_, W>,
+    search: &FrontSearch<'_, L>,
 ) -> Result<Checked, Stop>
     ensures accepted { let b = ground.entry.instance.now in
         MatchResult result (λ a. IsAccepted b
@@ -205,28 +204,18 @@ pub fn accepted_texts<W: Watch>(
 }
 
 /// The reply to the texts of a plan, or none, and of a certificate: its bound and its number of open boxes, or a refusal.
-pub(crate) fn verify_texts<W: Watch>(
+pub(crate) fn verify_texts<L: Listener>(
     alloc: Global,
-    instance: &Instance,
+    ground: Ground<'_>,
     plan_text: Option<&[u8]>,
     cert_text: &[u8],
-    search: &FrontSearch<'_, W>,
+    search: &FrontSearch<'_, L>,
 ) -> Result<Reply, Memory>
     ensures { IfOk result (λ r. (name : Product → List ℕ)
-        → Verifies instance.now (option_map (λ bytes. bytes.now) plan_text.entry) cert_text.now
-        (answer_in name r)) }
+        → Verifies ground.entry.instance.now (option_map (λ bytes. bytes.now) plan_text.entry)
+        cert_text.now (answer_in name r)) }
 {
-    let map = DefectMap::new(alloc, instance)?;
-    match accepted_texts(
-        alloc,
-        Ground {
-            instance,
-            map: &map,
-        },
-        plan_text,
-        cert_text,
-        search,
-    ) {
+    match accepted_texts(alloc, ground, plan_text, cert_text, search) {
         Ok(texts) => Ok(reply_with(alloc, accepted(alloc, &texts.certificate)?)),
         Err(stop) => reply_at(alloc, stop),
     }
@@ -281,24 +270,19 @@ fn convert(alloc: Global, ground: Ground<'_>, certificate: &Certificate) -> Resu
     reply_with_cert(alloc, &named)
 }
 
-/// The reply to the texts of a plan, or none, and of a certificate: the certificate is stored with its causes named, or refused as by
-/// [`verify_texts`], or where what comes could not be read again.
-pub fn convert_texts<W: Watch>(
+/// The reply to the texts of a plan, or none, and of a certificate: the certificate is stored with its causes named, or
+/// refused as by [`verify_texts`], or where what comes could not be read again.
+pub fn convert_texts<L: Listener>(
     alloc: Global,
-    instance: &Instance,
+    ground: Ground<'_>,
     plan_text: Option<&[u8]>,
     cert_text: &[u8],
-    search: &FrontSearch<'_, W>,
+    search: &FrontSearch<'_, L>,
 ) -> Result<Reply, Memory>
     ensures { IfOk result (λ r. (name : Product → List ℕ)
-        → Converts instance.now (option_map (λ bytes. bytes.now) plan_text.entry) cert_text.now
-        (name Product.Certificate) (answer_in name r)) }
+        → Converts ground.entry.instance.now (option_map (λ bytes. bytes.now) plan_text.entry)
+        cert_text.now (name Product.Certificate) (answer_in name r)) }
 {
-    let map = DefectMap::new(alloc, instance)?;
-    let ground = Ground {
-        instance,
-        map: &map,
-    };
     let accepted = match accepted_texts(alloc, ground, plan_text, cert_text, search) {
         Ok(accepted) => accepted,
         Err(stop) => return reply_at(alloc, stop),

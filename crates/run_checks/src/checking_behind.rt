@@ -16,14 +16,13 @@ use crate::lines::line_with_bound;
 use cert_log::Certificate;
 use command_line::Product;
 use cut_model::{Plan, plates_used};
-use defect_map::{DefectMap, Ground};
+use defect_map::Ground;
 use front_bound::losses::FrontSearch;
-use front_bound::watch::Watch;
-use glass_base::{Instance, Memory, Role};
+use glass_base::{Listener, Memory, Role};
 use loss_area::loss;
 use plan_freeze::{frozen_loss, rest};
 use run_frame::{Notice, Reply, Status, Stop, numbered, reply_at, reply_with, stop_at};
-use run_plans::{lawful, read_plan_of};
+use run_plans::{Grounded, lawful, read_plan_of};
 use std::alloc::Global;
 
 /// What is told of a plan that has no more than `k` plates.
@@ -49,30 +48,27 @@ pub fn leaves_some(alloc: Global, plan: &Plan, k: u32) -> Result<(), Stop>
 }
 
 /// Goes on where a certificate is right for the instance that is left behind the first `k` plates, and for what the plan loses there.
-fn check_behind<W: Watch>(
+fn check_behind<L: Listener>(
     alloc: Global,
-    instance: &Instance,
+    ground: Ground<'_>,
     plan: &Plan,
     k: u32,
     certificate: &Certificate,
-    search: &FrontSearch<'_, W>,
+    search: &FrontSearch<'_, L>,
 ) -> Result<(), Stop>
     requires fits { Fits (tree plan.now) }
-    requires lawful { IsLawful instance.now (tree plan.now) }
+    requires lawful { IsLawful ground.instance.now (tree plan.now) }
     requires fewer { k < neighbour_count (tree plan.now) }
     requires tree { IsTree certificate.now.nodes.items }
     requires version { HasVersion certificate.now }
-    ensures { MatchResult result (λ _. IsRightBehind instance.now (tree plan.now) k certificate.now)
-        (OnTold (IsWrongBehind instance.now (tree plan.now) k certificate.now)) }
+    ensures { let b = ground.entry.instance.now in
+        MatchResult result (λ _. IsRightBehind b (tree plan.now) k certificate.now)
+        (OnTold (IsWrongBehind b (tree plan.now) k certificate.now)) }
 {
-    let (left, tail) = rest(alloc, instance, plan, k)?;
-    let map = DefectMap::new(alloc, &left)?;
+    let (left, tail) = rest(alloc, ground.instance, plan, k)?;
     let lost = loss(&left, &tail);
-    let ground = Ground {
-        instance: &left,
-        map: &map,
-    };
-    check_cert_in(alloc, ground, Some(lost), certificate, search)
+    let behind = Grounded::new(alloc, left)?;
+    check_cert_in(alloc, behind.ground(), Some(lost), certificate, search)
 }
 
 /// A lawful plan, and a certificate that is right behind its first plates.
@@ -85,13 +81,13 @@ struct CheckedBehind {
 /// The certificate that a text says, where it is right behind the first `k` plates of the plan that another one says, and this is lawful and has
 /// more of them, with this plan; or what is told of the first that fails: the text of the plan, that of the certificate, the plan, its number of
 /// plates, the certificate.
-fn accepted_behind<W: Watch>(
+fn accepted_behind<L: Listener>(
     alloc: Global,
     ground: Ground<'_>,
     plan_text: &[u8],
     cert_text: &[u8],
     k: u32,
-    search: &FrontSearch<'_, W>,
+    search: &FrontSearch<'_, L>,
 ) -> Result<CheckedBehind, Stop>
     ensures accepted { let b = ground.entry.instance.now in
         MatchResult result (λ a. IsAcceptedBehindFor b k plan_text.now cert_text.now
@@ -102,7 +98,7 @@ fn accepted_behind<W: Watch>(
     let certificate = read_cert_in(alloc, cert_text)?;
     lawful(alloc, ground, &plan)?;
     leaves_some(alloc, &plan, k)?;
-    check_behind(alloc, ground.instance, &plan, k, &certificate, search)?;
+    check_behind(alloc, ground, &plan, k, &certificate, search)?;
     Ok(CheckedBehind { plan, certificate })
 }
 
@@ -129,35 +125,25 @@ fn accepted_with(alloc: Global, certificate: &Certificate, more: u64) -> Result<
     })
 }
 
-/// The reply to the texts of a plan, of which the first `k` plates are cut already, and of a certificate: the bound with what these plates lose,
-/// and the number of open boxes, or a refusal.
-fn verify_behind<W: Watch>(
+/// The reply to the texts of a plan, of which the first `k` plates are cut already, and of a certificate: the bound with what
+/// these plates lose, and the number of open boxes, or a refusal.
+fn verify_behind<L: Listener>(
     alloc: Global,
-    instance: &Instance,
+    ground: Ground<'_>,
     plan_text: &[u8],
     cert_text: &[u8],
     k: u32,
-    search: &FrontSearch<'_, W>,
+    search: &FrontSearch<'_, L>,
 ) -> Result<Reply, Memory>
     ensures { IfOk result (λ r. (name : Product → List ℕ)
-        → VerifiesBehind instance.now k plan_text.now cert_text.now (answer_in name r)) }
+        → VerifiesBehind ground.entry.instance.now k plan_text.now cert_text.now
+        (answer_in name r)) }
 {
     // Read for its rules.
-    let _items = instance.items();
-    let map = DefectMap::new(alloc, instance)?;
-    match accepted_behind(
-        alloc,
-        Ground {
-            instance,
-            map: &map,
-        },
-        plan_text,
-        cert_text,
-        k,
-        search,
-    ) {
+    let _items = ground.instance.items();
+    match accepted_behind(alloc, ground, plan_text, cert_text, k, search) {
         Ok(checked) => {
-            let more = frozen_loss(instance, &checked.plan, k);
+            let more = frozen_loss(ground.instance, &checked.plan, k);
             let notice = accepted_with(alloc, &checked.certificate, more)?;
             Ok(reply_with(alloc, notice))
         }
@@ -175,22 +161,22 @@ fn or_empty(text: Option<&[u8]>) -> &[u8]
     }
 }
 
-/// The reply to the texts of a plan, or none, and of a certificate: its bound and its number of open boxes, or a refusal. The first `k` plates of
-/// the plan are cut already.
-pub fn verify_from<W: Watch>(
+/// The reply to the texts of a plan, or none, and of a certificate: its bound and its number of open boxes, or a refusal. The
+/// first `k` plates of the plan are cut already.
+pub fn verify_from<L: Listener>(
     alloc: Global,
-    instance: &Instance,
+    ground: Ground<'_>,
     plan_text: Option<&[u8]>,
     cert_text: &[u8],
     k: u32,
-    search: &FrontSearch<'_, W>,
+    search: &FrontSearch<'_, L>,
 ) -> Result<Reply, Memory>
     ensures { IfOk result (λ r. (name : Product → List ℕ)
-        → VerifiesFrom k instance.now (option_map
+        → VerifiesFrom k ground.entry.instance.now (option_map
         (λ bytes. bytes.now) plan_text.entry) cert_text.now (answer_in name r)) }
 {
     if k == 0 {
-        return verify_texts(alloc, instance, plan_text, cert_text, search);
+        return verify_texts(alloc, ground, plan_text, cert_text, search);
     }
-    verify_behind(alloc, instance, or_empty(plan_text), cert_text, k, search)
+    verify_behind(alloc, ground, or_empty(plan_text), cert_text, k, search)
 }

@@ -2,7 +2,7 @@
 use Rattle.std.proofs.Common.{◌≡◌, ℕ, List, map, refl, subst, inl, inr}
 use Rattle.std.specs.String.{string_bytes}
 use Rattle.glass_io.specs.Told.{Paper, SameFaults, Shelf, WriteFailed}
-use Rattle.command_line.specs.declared.grammar.Product.{Product}
+use Rattle.command_line.specs.declared.kinds.Product.{Product}
 use Rattle.run_frame.specs.Deliveries.{Delivers, Ends}
 use Rattle.run_frame.specs.Forms.{answer_in, store_in}
 use Rattle.run_frame.specs.Runs.{CutShort, Stands, StandsInPart, world}

@@ -5,7 +5,7 @@ use Rattle.glass_io.specs.Told.{Contents, Paper, ReadFailed, SameContents, SameF
 use Rattle.run_frame.specs.Answers.{Answer}
 use Rattle.run_frame.specs.Codes.{IsAnswered}
 use Rattle.run_frame.specs.Deliveries.{Delivers, Ends, HasStored}
-use Rattle.command_line.specs.Grammar.{Line, files_of}
+use Rattle.command_line.specs.Grammar.{LineOf, files_of}
 use Rattle.run_frame.specs.Runs.{Answering, AnswersTold, Completes, CutShort, FailsToRead, IsUntouched, LineRun, ReachesTold, Stands, StandsInPart, PrintRun, World, read_fault_line, world}
 use Rattle.run_frame.specs.Texts.{Reaches}
 use Rattle.run_frame.specs.declared.status.Status.{Status}
@@ -33,11 +33,11 @@ pub unprinted_ends : (lines : List ℕ) (wanted : Status) (shelf : Shelf) (p : P
 unprinted_ends lines wanted shelf p = (untouched shelf, inr (inr (refl, inl refl)))
 
 -- memory ran out before there was a reply
-pub stops_early : (Answers : Answering) (line : Line) (a b : Shelf) (p : Paper) → SameContents a.contents b.contents → SameFaults a b → LineRun Answers line (world a p) (world b p) status.Memory
+pub stops_early : {V : Type 0} (Answers : Answering V) (line : LineOf V) (a b : Shelf) (p : Paper) → SameContents a.contents b.contents → SameFaults a b → LineRun Answers line (world a p) (world b p) status.Memory
 stops_early Answers line a b p same faults = inl (inl (record { contents = same; faults = faults }, refl))
 
 -- a read failed
-pub fault_ends : (Answers : Answering) (line : Line) (a b : Shelf) (p q : Paper) (of : Role) (result : Status) → FailsToRead line (world a p) (world b q) of → Ends (read_fault_line of) status.ReadFault p q result →
+pub fault_ends : {V : Type 0} (Answers : Answering V) (line : LineOf V) (a b : Shelf) (p q : Paper) (of : Role) (result : Status) → FailsToRead line (world a p) (world b q) of → Ends (read_fault_line of) status.ReadFault p q result →
     LineRun Answers line (world a p) (world b q) result
 fault_ends Answers line a b p q of result fails h =
     let P : Status → Type 0 = λ r. LineRun Answers line (world a p) (world b q) r in
@@ -49,20 +49,20 @@ fault_ends Answers line a b p q of result fails h =
       ]
     ]
 
-reaches_told : (told : Option Contents) (of : Role) (line : Line) → IfSome told (λ contents. Reaches contents of (files_of line)) → ReachesTold told of line
+reaches_told : {V : Type 0} (told : Option Contents) (of : Role) (line : LineOf V) → IfSome told (λ contents. Reaches contents of (files_of line)) → ReachesTold told of line
 reaches_told None of line h = tt
 reaches_told (Some contents) of line h = h
 
-pub fails_to_read : (line : Line) (a b : Shelf) (p q : Paper) (of : Role) → IfSome a.contents (λ contents. Reaches contents of (files_of line)) → SameContents a.contents b.contents → ReadFailed of a b →
+pub fails_to_read : {V : Type 0} (line : LineOf V) (a b : Shelf) (p q : Paper) (of : Role) → IfSome a.contents (λ contents. Reaches contents of (files_of line)) → SameContents a.contents b.contents → ReadFailed of a b →
     FailsToRead line (world a p) (world b q) of
 fails_to_read line a b p q of reached same failed = record { reached = reaches_told a.contents of line reached; contents = same; counted = failed }
 
-pub answers_told : (Answers : Answering) (told : Option Contents) (line : Line) (answer : Answer) → IfSome told (λ contents. Answers contents line answer) → AnswersTold Answers told line answer
+pub answers_told : {V : Type 0} (Answers : Answering V) (told : Option Contents) (line : LineOf V) (answer : Answer) → IfSome told (λ contents. Answers contents line answer) → AnswersTold Answers told line answer
 answers_told Answers None line answer h = tt
 answers_told Answers (Some contents) line answer h = h
 
 -- a run that completes has a status that an answer has
-completed : (Answers : Answering) (line : Line) (old new : World) (result : Status) → IsAnswered result → Completes Answers line old new result → LineRun Answers line old new result
+completed : {V : Type 0} (Answers : Answering V) (line : LineOf V) (old new : World) (result : Status) → IsAnswered result → Completes Answers line old new result → LineRun Answers line old new result
 completed Answers line old new status.Optimal is h = h
 completed Answers line old new status.Stopped is h = h
 completed Answers line old new status.Infeasible is h = h
@@ -79,7 +79,7 @@ completed Answers line old new status.WriteFault is h = cc is
 completed Answers line old new status.Done is h = h
 
 -- an answer was stored and printed, as far as nothing failed
-pub delivery_ends : (Answers : Answering) (line : Line) (a b c : Shelf) (p q : Paper) (answer : Answer) (result : Status) → SameContents a.contents b.contents → SameFaults a b → AnswersTold Answers a.contents line answer →
+pub delivery_ends : {V : Type 0} (Answers : Answering V) (line : LineOf V) (a b c : Shelf) (p q : Paper) (answer : Answer) (result : Status) → SameContents a.contents b.contents → SameFaults a b → AnswersTold Answers a.contents line answer →
     IsAnswered answer.status → Delivers answer (world b p) (world c q) result → LineRun Answers line (world a p) (world c q) result
 delivery_ends Answers line a b c p q answer result same faults answers is h =
     let P : Status → Type 0 = λ r. LineRun Answers line (world a p) (world c q) r in

@@ -12,7 +12,7 @@ use Rattle.glass_base.specs.declared.role.Role.TheVariants as role
 use Rattle.run_frame.specs.declared.refusals.Refusal.{Refusal}
 use Rattle.run_frame.specs.declared.status.Status.{Status}
 use Rattle.run_frame.specs.declared.status.Status.TheVariants as status
-use Rattle.command_line.specs.Grammar.{role_word}
+use Rattle.command_line.specs.Words.{role_word}
 
 -- a file that is stored
 pub record Store : Type 0 where

@@ -1,5 +1,5 @@
--- The codes that a program ends with, and the statuses of answers.
-use Rattle.std.specs.Prelude.{◌≡◌, ℕ, Bool, true, false}
+-- The codes that a program ends with, the words of searches, and the statuses of answers.
+use Rattle.std.specs.Prelude.{◌≡◌, ℕ, List, [], Bool, true, false, codes}
 use Rattle.run_frame.specs.declared.status.Status.{Status}
 use Rattle.run_frame.specs.declared.status.Status.TheVariants as status
 
@@ -18,6 +18,13 @@ code_of status.Refused = 10
 code_of status.NoDraft = 11
 code_of status.WriteFault = 12
 code_of status.Done = 0
+
+-- the word that is printed for how a search ended; the other statuses have none
+abbrev pub word_of : Status → List ℕ
+word_of status.Optimal = codes "optimal"
+word_of status.Stopped = codes "stopped"
+word_of status.Infeasible = codes "infeasible"
+word_of _ = []
 
 -- whether a status is that of an answer: not of wrong words, of a fault, or of want of memory
 abbrev pub is_answered : Status → Bool

@@ -4,7 +4,7 @@ use Rattle.std.specs.String.{string_bytes}
 use Rattle.glass_base.specs.declared.role.Role.{Role}
 use Rattle.glass_base.specs.Run.{Listed}
 use Rattle.glass_io.specs.Told.{ReadFailed, SameFaults, Shelf}
-use Rattle.command_line.specs.declared.grammar.Product.{Product}
+use Rattle.command_line.specs.declared.kinds.Product.{Product}
 use Rattle.run_frame.specs.declared.fetching.NoReply.{NoReply}
 use Rattle.run_frame.specs.declared.fetching.NoReply.TheVariants as no_reply
 use Rattle.run_frame.specs.declared.fetching.Wanted.{Wanted}

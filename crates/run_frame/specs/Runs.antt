@@ -4,7 +4,8 @@ use Rattle.std.specs.Str.{bytes_eq}
 use Rattle.glass_base.specs.declared.role.Role.{Role}
 use Rattle.glass_io.specs.Told.{Appended, AppendedPrefix, Contents, Counted, HoldsPrefix, Paper, ReadFailed, SameBytes, SameContents, SameFaults, Shelf, WhereTold, WriteFailed}
 use Rattle.run_frame.specs.Answers.{Answer, Store}
-use Rattle.command_line.specs.Grammar.{Line, files_of, role_word}
+use Rattle.command_line.specs.Grammar.{LineOf, files_of}
+use Rattle.command_line.specs.Words.{role_word}
 use Rattle.command_line.specs.Manual.{answer_of}
 use Rattle.command_line.specs.declared.questions.Program.{Program}
 use Rattle.command_line.specs.declared.questions.Question.{Question}
@@ -92,22 +93,22 @@ abbrev pub OtherRun : Program → Option Question → World → World → Status
 OtherRun of (Some question) = PrintRun (answer_of of question) status.Done
 OtherRun of None = PrintRun usage_line status.Usage
 
--- which answers of a line to what the files hold are right
-abbrev pub Answering : Type 1
-Answering = Contents → Line → Answer → Type 0
+-- which answers of a line to what the files hold are right; a program tells its commands apart by V
+abbrev pub Answering : Type 0 → Type 1
+Answering V = Contents → LineOf V → Answer → Type 0
 
 -- a right answer to what the files hold, where that is told
-abbrev pub AnswersTold : Answering → Option Contents → Line → Answer → Type 0
+abbrev pub AnswersTold : {V : Type 0} → Answering V → Option Contents → LineOf V → Answer → Type 0
 AnswersTold Answers None line answer = Unit {0}
 AnswersTold Answers (Some contents) line answer = Answers contents line answer
 
 -- a file of this role is fetched, and all files before it were whole
-abbrev pub ReachesTold : Option Contents → Role → Line → Type 0
+abbrev pub ReachesTold : {V : Type 0} → Option Contents → Role → LineOf V → Type 0
 ReachesTold None of line = Unit {0}
 ReachesTold (Some contents) of line = Reaches contents of (files_of line)
 
 -- a run that did what its answer says: all is stored, the lines are printed, and no fault was counted
-pub record Completes (Answers : Answering) (line : Line) (old new : World) (result : Status) : Type 0 where
+pub record Completes {V : Type 0} (Answers : Answering V) (line : LineOf V) (old new : World) (result : Status) : Type 0 where
   pub answer : Answer
   pub answers : AnswersTold Answers old.shelf.contents line answer
   pub status_is : result ≡ answer.status
@@ -116,13 +117,13 @@ pub record Completes (Answers : Answering) (line : Line) (old new : World) (resu
   pub prints : Prints answer.lines old.paper new.paper
 
 -- a read of one of the files failed, which was counted; nothing is stored
-pub record FailsToRead (line : Line) (old new : World) (of : Role) : Type 0 where
+pub record FailsToRead {V : Type 0} (line : LineOf V) (old new : World) (of : Role) : Type 0 where
   pub reached : ReachesTold old.shelf.contents of line
   pub contents : SameContents old.shelf.contents new.shelf.contents
   pub counted : ReadFailed of old.shelf new.shelf
 
 -- a store failed, which was counted: the files before it are whole, and nothing is printed or was to be
-pub record FailsToStore (Answers : Answering) (line : Line) (old new : World) : Type 0 where
+pub record FailsToStore {V : Type 0} (Answers : Answering V) (line : LineOf V) (old new : World) : Type 0 where
   pub answer : Answer
   pub answers : AnswersTold Answers old.shelf.contents line answer
   pub stored : CutShort answer.stores old.shelf.contents new.shelf.contents
@@ -130,7 +131,7 @@ pub record FailsToStore (Answers : Answering) (line : Line) (old new : World) : 
   pub silent : new.paper ≡ old.paper
 
 -- the write failed, which was counted: all is stored, and a front of the lines is printed
-pub record FailsToPrint (Answers : Answering) (line : Line) (old new : World) : Type 0 where
+pub record FailsToPrint {V : Type 0} (Answers : Answering V) (line : LineOf V) (old new : World) : Type 0 where
   pub answer : Answer
   pub answers : AnswersTold Answers old.shelf.contents line answer
   pub stored : Stands answer.stores old.shelf.contents new.shelf.contents
@@ -139,12 +140,12 @@ pub record FailsToPrint (Answers : Answering) (line : Line) (old new : World) : 
 
 -- memory ran out before there was an answer; or a read failed, which was counted, and the write that was to tell it
 -- found no memory
-abbrev pub StopsEarly : Line → World → World → Type 0
+abbrev pub StopsEarly : {V : Type 0} → LineOf V → World → World → Type 0
 StopsEarly line old new =
     (IsUntouched old.shelf new.shelf × (new.paper ≡ old.paper)) ⊎ ((of : Role) × FailsToRead line old new of × PrintsInVain old.paper new.paper)
 
 -- memory ran out while the answer was stored or printed: some files are stored, and the others are as before
-pub record StopsLate (Answers : Answering) (line : Line) (old new : World) : Type 0 where
+pub record StopsLate {V : Type 0} (Answers : Answering V) (line : LineOf V) (old new : World) : Type 0 where
   pub answer : Answer
   pub answers : AnswersTold Answers old.shelf.contents line answer
   pub stored : StandsInPart answer.stores old.shelf.contents new.shelf.contents
@@ -152,7 +153,7 @@ pub record StopsLate (Answers : Answering) (line : Line) (old new : World) : Typ
   pub unprinted : IsUnprinted old.paper new.paper
 
 -- a run of a command line, by its status; every status that is not named here is that of an answer
-abbrev pub LineRun : Answering → Line → World → World → Status → Type 0
+abbrev pub LineRun : {V : Type 0} → Answering V → LineOf V → World → World → Status → Type 0
 LineRun Answers line old new status.Usage = ⊥
 LineRun Answers line old new status.ReadFault = (of : Role) × FailsToRead line old new of × Prints (read_fault_line of) old.paper new.paper
 LineRun Answers line old new status.Memory = StopsEarly line old new ⊎ StopsLate Answers line old new
@@ -161,6 +162,6 @@ LineRun Answers line old new status.WriteFault =
 LineRun Answers line old new result = Completes Answers line old new result
 
 -- a run of a program, by its words as a command line, and as a question where they are none
-abbrev pub RunsTo : Answering → Program → Option Line → Option Question → World → World → Status → Type 0
+abbrev pub RunsTo : {V : Type 0} → Answering V → Program → Option (LineOf V) → Option Question → World → World → Status → Type 0
 RunsTo Answers of (Some line) asked old new result = LineRun Answers line old new result
 RunsTo Answers of None asked old new result = OtherRun of asked old new result

@@ -7,7 +7,7 @@ ghost use Rattle.run_frame.specs.Runs.{OtherRun, world};
 use crate::delivering::print;
 use crate::lines::USAGE_LINE;
 use crate::status::Status;
-use command_line::{Program, Question, Verb, answer_to, usage_line};
+use command_line::{Program, Question, Verb, answer_to, picture_usage_line, usage_line};
 use glass_base::Memory;
 use glass_io::Sink;
 use std::alloc::Global;
@@ -34,19 +34,19 @@ pub fn answer_otherwise<S: Sink>(
     }
 }
 
-/// What is told of words that are wrong: the line of the command that they begin with, or all that there is.
+/// What is told of words that are wrong: the line of the command that they begin with, or all that there is. The program
+/// that draws has one line, with which no word begins.
 fn usage_text(alloc: Global, program: Program, command: Option<Verb>) -> Result<String, Memory> {
-    match command {
-        None => answer_to(alloc, program, Question::Help),
-        Some(verb) => {
-            let line = usage_line(alloc, verb)?;
-            Ok(format!(in alloc; "usage: {line}\n")?)
-        }
-    }
+    let line = match (program, command) {
+        (Program::Picture, _) => picture_usage_line(alloc)?,
+        (Program::Glass, Some(verb)) => usage_line(alloc, verb)?,
+        (Program::Glass, None) => return answer_to(alloc, program, Question::Help),
+    };
+    Ok(format!(in alloc; "usage: {line}\n")?)
 }
 
-/// Tells on standard error which words are right: those of the command that wrong words begin with, or of all. That
-/// they cannot be told changes nothing of a run.
+/// Tells on standard error which words are right: those of the command of `glass` that wrong words begin with, or of all
+/// its commands, or those of the program that draws. That they cannot be told changes nothing of a run.
 pub fn tell_usage(rt: &impl Eprint, alloc: Global, program: Program, command: Option<Verb>) {
     if let Ok(text) = usage_text(alloc, program, command) {
         let _told = eprint!(rt; "{text}");

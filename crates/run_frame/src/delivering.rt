@@ -15,9 +15,9 @@ use command_line::CommandLine;
 use glass_io::{Files, Sink, Trouble};
 
 /// Stores outputs one after another, each under the name that the line has for what it is.
-fn store_all<F: Files>(
+fn store_all<F: Files, V>(
     files: &mut F,
-    line: &CommandLine<'_>,
+    line: &CommandLine<'_, V>,
     outputs: &[Output],
 ) -> Result<(), Trouble>
     ensures stands { OnOk result (Stands (map (store_in (stored_as (line_in line.now))) outputs.now)
@@ -51,10 +51,10 @@ pub fn print<S: Sink>(out: &mut S, lines: &str, status: Status) -> Status
 }
 
 /// Stores what a reply has to store, and then prints its lines.
-pub fn deliver<F: Files, S: Sink>(
+pub fn deliver<F: Files, S: Sink, V>(
     files: &mut F,
     out: &mut S,
-    line: &CommandLine<'_>,
+    line: &CommandLine<'_, V>,
     reply: &Reply,
 ) -> Status
     ensures delivers { Delivers (answer_in (stored_as (line_in line.now)) reply.now)

@@ -41,9 +41,9 @@ pub struct Wanted<'a> {
 }
 
 /// Appends the file of this role, if the line names it.
-fn append_wanted<'a>(
+fn append_wanted<'a, V>(
     wanted: &mut Run<Wanted<'a>>,
-    line: &CommandLine<'a>,
+    line: &CommandLine<'a, V>,
     role: Role,
 ) -> Result<(), Memory>
     ensures { OnOk result (map file_in wanted.new.items
@@ -56,7 +56,7 @@ fn append_wanted<'a>(
 }
 
 /// The files that a line reads, in the order in which they are fetched.
-fn files_wanted<'a>(alloc: Global, line: &CommandLine<'a>) -> Result<Run<Wanted<'a>>, Memory>
+fn files_wanted<'a, V>(alloc: Global, line: &CommandLine<'a, V>) -> Result<Run<Wanted<'a>>, Memory>
     ensures { IfOk result (λ wanted. map file_in wanted.items ≡ files_of (line_in line.now)) }
 {
     let mut wanted = Run::new(alloc);
@@ -117,10 +117,10 @@ fn fetch_texts<F: Files>(
 }
 
 /// The texts of a line's files, or the notice of the first that gives none.
-pub fn fetch_files<F: Files>(
+pub fn fetch_files<F: Files, V>(
     alloc: Global,
     files: &mut F,
-    line: &CommandLine<'_>,
+    line: &CommandLine<'_, V>,
 ) -> Result<Result<Run<Text>, Notice>, NoReply>
     ensures same { SameContents (F.shelf files.old).contents (F.shelf files.new).contents }
     ensures fetched { IfOk result (λ r. IfSome (F.shelf files.old).contents

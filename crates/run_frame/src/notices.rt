@@ -1,7 +1,7 @@
 //! Replies that only print, and why a command has none.
 
 ghost use Rattle.std.specs.Prelude.{◌≡◌, ℕ, List, IfOk};
-ghost use Rattle.command_line.specs.declared.grammar.Product.{Product as ProductOf};
+ghost use Rattle.command_line.specs.declared.kinds.Product.{Product as ProductOf};
 ghost use Rattle.run_frame.specs.Answers.{Refused, absent as absent_of, bad_input as bad_input_of, too_long as too_long_of};
 ghost use Rattle.run_frame.specs.Forms.{OnTold, Tells, answer_in, notice_in};
 ghost use Rattle.run_frame.specs.declared.notices.Stop.TheVariants.{Memory as OutOfReach};

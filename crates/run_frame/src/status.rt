@@ -1,7 +1,7 @@
 //! How a run ends.
 
 ghost use Rattle.std.specs.Prelude.{◌≡◌};
-ghost use Rattle.run_frame.specs.Codes.{code_of};
+ghost use Rattle.run_frame.specs.Codes.{code_of, word_of};
 
 /// How a run ended.
 #[derive(Clone, Copy, Debug, PartialEq, Eq)]
@@ -56,6 +56,18 @@ impl Status {
             Status::NoDraft => 11,
             Status::WriteFault => 12,
             Status::Done => 0,
+        }
+    }
+
+    /// The word that is printed for how a search ended; the other statuses have none.
+    pub fn word(&self) -> &'static str
+        ensures { result.now ≡ word_of self.now }
+    {
+        match self {
+            Status::Optimal => "optimal",
+            Status::Stopped => "stopped",
+            Status::Infeasible => "infeasible",
+            _ => "",
         }
     }
 }

@@ -11,7 +11,7 @@ ghost use Rattle.run_frame.specs.Forms.{answer_in, notice_in};
 use crate::lines::{no_draft_line, summary_lines};
 use command_line::Product;
 use cut_model::{Plan, plates_used};
-use defect_map::DefectMap;
+use defect_map::Ground;
 use glass_base::{Instance, Memory};
 use loss_area::loss;
 use plan_csv::write_plan;
@@ -46,16 +46,16 @@ fn reply_with_plan(alloc: Global, instance: &Instance, plan: &Plan) -> Result<Re
 }
 
 /// The plan of the draft, or the number of the first item without a place.
-fn draft_plan(alloc: Global, instance: &Instance) -> Result<Result<Plan, u32>, Memory>
-    ensures drafted { IfOk result (λ drafted. MatchResult drafted
-        (λ plan. IsDraftPlan instance.now (tree plan)) (HasNoDraft instance.now)) }
+fn draft_plan(alloc: Global, ground: Ground<'_>) -> Result<Result<Plan, u32>, Memory>
+    ensures drafted { let b = ground.entry.instance.now in
+        IfOk result (λ drafted. MatchResult drafted
+        (λ plan. IsDraftPlan b (tree plan)) (HasNoDraft b)) }
     ensures good { IfOk result (λ drafted. IfOk drafted
-        (λ plan. IsGoodPlan instance.now (tree plan))) }
+        (λ plan. IsGoodPlan ground.entry.instance.now (tree plan))) }
 {
-    let map = DefectMap::new(alloc, instance)?;
-    match draft(alloc, instance, &map)? {
+    match draft(alloc, ground.instance, ground.map)? {
         Ok(trace) => {
-            let plan = plan_of(alloc, instance, &trace)?;
+            let plan = plan_of(alloc, ground.instance, &trace)?;
             Ok(Ok(plan))
         }
         Err(number) => Ok(Err(number)),
@@ -63,12 +63,12 @@ fn draft_plan(alloc: Global, instance: &Instance) -> Result<Result<Plan, u32>, M
 }
 
 /// The reply to an instance: the plan of its draft, which is lawful, or the first item without a place.
-pub fn draft_instance(alloc: Global, instance: &Instance) -> Result<Reply, Memory>
+pub fn draft_instance(alloc: Global, ground: Ground<'_>) -> Result<Reply, Memory>
     ensures { IfOk result (λ r. (name : Product → List ℕ)
-        → Drafts instance.now (name Product.Plan) (answer_in name r)) }
+        → Drafts ground.entry.instance.now (name Product.Plan) (answer_in name r)) }
 {
-    match draft_plan(alloc, instance)? {
-        Ok(plan) => reply_with_plan(alloc, instance, &plan),
+    match draft_plan(alloc, ground)? {
+        Ok(plan) => reply_with_plan(alloc, ground.instance, &plan),
         Err(number) => Ok(reply_with(alloc, no_draft(alloc, number)?)),
     }
 }

@@ -13,7 +13,7 @@ ghost use Rattle.run_plans.specs.Judgements.{Judges, JudgesText, lawful as lawfu
 use crate::lines::{lawful_line, unlawful_line};
 use cut_model::{Broken, Plan, Verdict};
 use cut_rules::judge_cuts;
-use defect_map::{DefectMap, Ground};
+use defect_map::Ground;
 use glass_base::{Instance, Memory, Role};
 use loss_area::loss;
 use plan_csv::{BadPlan, read_plan};
@@ -84,41 +84,33 @@ pub(crate) fn first_breach(
 }
 
 /// What is found of a plan: its loss, or its first breach.
-pub fn verdict_on(alloc: Global, instance: &Instance, plan: &Plan) -> Result<Verdict, Memory>
+pub fn verdict_on(alloc: Global, ground: Ground<'_>, plan: &Plan) -> Result<Verdict, Memory>
     requires { Fits (tree plan.now) }
-    ensures { IfOk result (IsVerdict instance.now (tree plan.now)) }
+    ensures { IfOk result (IsVerdict ground.entry.instance.now (tree plan.now)) }
 {
-    let map = DefectMap::new(alloc, instance)?;
-    match first_breach(
-        alloc,
-        Ground {
-            instance,
-            map: &map,
-        },
-        plan,
-    )? {
-        None => Ok(Verdict::Lawful(loss(instance, plan))),
+    match first_breach(alloc, ground, plan)? {
+        None => Ok(Verdict::Lawful(loss(ground.instance, plan))),
         Some(broken) => Ok(Verdict::Broken(broken)),
     }
 }
 
 /// The notice of a plan: its loss, or its first breach.
-fn judge_plan(alloc: Global, instance: &Instance, plan: &Plan) -> Result<Notice, Memory>
+fn judge_plan(alloc: Global, ground: Ground<'_>, plan: &Plan) -> Result<Notice, Memory>
     requires { Fits (tree plan.now) }
-    ensures { IfOk result (λ n. Judges instance.now (tree plan.now) (notice_in n)) }
+    ensures { IfOk result (λ n. Judges ground.entry.instance.now (tree plan.now) (notice_in n)) }
 {
-    match verdict_on(alloc, instance, plan)? {
+    match verdict_on(alloc, ground, plan)? {
         Verdict::Lawful(loss) => lawful_notice(alloc, loss),
         Verdict::Broken(broken) => unlawful_notice(alloc, &broken),
     }
 }
 
 /// The notice of the text of a plan of this instance.
-pub fn judge_text(alloc: Global, instance: &Instance, bytes: &[u8]) -> Result<Notice, Memory>
-    ensures { IfOk result (λ n. JudgesText instance.now bytes.now (notice_in n)) }
+pub fn judge_text(alloc: Global, ground: Ground<'_>, bytes: &[u8]) -> Result<Notice, Memory>
+    ensures { IfOk result (λ n. JudgesText ground.entry.instance.now bytes.now (notice_in n)) }
 {
-    match read_plan(alloc, instance, bytes) {
-        Ok(plan) => judge_plan(alloc, instance, &plan),
+    match read_plan(alloc, ground.instance, bytes) {
+        Ok(plan) => judge_plan(alloc, ground, &plan),
         Err(reason) => refused(alloc, plan_refusal(reason)),
     }
 }

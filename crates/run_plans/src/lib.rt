@@ -3,6 +3,7 @@
 #![tactic(auto)]
 
 pub mod drafting;
+pub mod grounded;
 pub mod instances;
 pub mod judging;
 pub mod lines;
@@ -11,6 +12,7 @@ pub mod replaying;
 pub mod sheeting;
 
 pub use drafting::draft_instance;
+pub use grounded::Grounded;
 pub use instances::instance_of;
 pub use judging::{judge_text, verdict_on};
 pub use lines::{lawful_line, unlawful_line};

@@ -13,7 +13,7 @@ use crate::reading::{lawful, read_plan_of};
 use command_line::Product;
 use cut_model::Plan;
 use cut_sheet::{sheet_of, write_sheet};
-use defect_map::{DefectMap, Ground};
+use defect_map::Ground;
 use glass_base::{Instance, Memory};
 use run_frame::{Reply, Status, Stop, one_output, reply_at};
 use std::alloc::Global;
@@ -49,15 +49,10 @@ fn store_sheet_of(alloc: Global, ground: Ground<'_>, bytes: &[u8]) -> Result<Rep
 }
 
 /// The reply to the text of a plan of this instance: its sheet is stored where it is lawful.
-pub fn sheet_text(alloc: Global, instance: &Instance, bytes: &[u8]) -> Result<Reply, Memory>
+pub fn sheet_text(alloc: Global, ground: Ground<'_>, bytes: &[u8]) -> Result<Reply, Memory>
     ensures { IfOk result (λ r. (name : Product → List ℕ)
-        → SheetsText instance.now (name Product.Sheet) bytes.now (answer_in name r)) }
+        → SheetsText ground.entry.instance.now (name Product.Sheet) bytes.now (answer_in name r)) }
 {
-    let map = DefectMap::new(alloc, instance)?;
-    let ground = Ground {
-        instance,
-        map: &map,
-    };
     match store_sheet_of(alloc, ground, bytes) {
         Ok(reply) => Ok(reply),
         Err(stop) => reply_at(alloc, stop),

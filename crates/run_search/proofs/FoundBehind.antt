@@ -24,12 +24,9 @@ use Rattle.cert_log.specs.Texts.{cert_text, head_of}
 use Rattle.cert_log.proofs.Covers.{bounds_each_plan}
 use Rattle.cert_log.proofs.Versions.{has_version}
 use Rattle.run_frame.specs.Answers.{Answer}
-use Rattle.run_frame.specs.Forms.{OnTold, notice_in}
-use Rattle.run_frame.specs.declared.notices.Stop.{Stop}
-use Rattle.run_frame.specs.declared.notices.Stop.TheVariants as stop
 use Rattle.run_search.specs.Freezes.{Freezes, FreezesPlan, FreezesSaid, IsFoundFrom, frozen_if_short}
-use Rattle.run_search.specs.Freezes.FreezesPlan.{broken_plan}
-use Rattle.run_plans.specs.Judgements.{TellsBreach}
+use Rattle.run_plans.specs.Judgements.{TellsNoPlan}
+use Rattle.plan_csv.specs.PlanTexts.{plan_said}
 use Rattle.run_search.specs.Plans.{HasLoss}
 use Rattle.run_checks.specs.Checks.{root_ranges}
 use Rattle.run_checks.specs.Said.{SayBoth}
@@ -141,9 +138,6 @@ freezes b plan k budget more fronts c best whole out cert answer rules lawful fe
 pub said_plan : (b : Problem) (plan : Forest) (k budget : ℕ) (fronts : Bool) (said : Result Forest BadPlan) (out cert : List ℕ) (answer : Answer) → said ≡ Ok plan → FreezesPlan b k budget fronts plan out cert answer → FreezesSaid b k budget fronts said out cert answer
 said_plan b plan k budget fronts said out cert answer is h = rw is h
 
--- what is told of one that breaks a rule
-pub broken_told : (b : Problem) (plan : Forest) (k budget : ℕ) (fronts : Bool) (said : Result Forest BadPlan) (s : Stop) → said ≡ Ok plan → OnTold (TellsBreach b plan) s →
-    OnTold (λ answer. (out cert : List ℕ) → FreezesSaid b k budget fronts said out cert answer) s
-broken_told b plan k budget fronts said stop.Memory is told = tt
-broken_told b plan k budget fronts said (stop.Told notice) is told =
-    λ out cert. said_plan b plan k budget fronts said out cert (notice_in notice) is (broken_plan told.0 told.1 told.2 told.3)
+-- the answer to a text that says no plan
+pub refused_plan : (b : Problem) (k budget : ℕ) (fronts : Bool) (text out cert : List ℕ) (answer : Answer) → TellsNoPlan b text answer → FreezesSaid b k budget fronts (plan_said b text) out cert answer
+refused_plan b k budget fronts text out cert answer told = rw told.1 told.2

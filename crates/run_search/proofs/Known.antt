@@ -1,5 +1,5 @@
 -- What a search begins with, where a plan is known before.
-use Rattle.std.proofs.Common.{◌≡◌, ℕ, ◌<◌, ◌≤◌, ◌+◌, ◌*◌, List, arith, refl, sym, ◌∙◌, subst, inr, Bool, false, Option, Some, None, is_some}
+use Rattle.std.proofs.Common.{◌≡◌, ℕ, ◌<◌, ◌≤◌, ◌+◌, ◌*◌, arith, refl, sym, ◌∙◌, subst, Bool, false, Option, Some, None, is_some}
 use Rattle.std.specs.Prelude.{IfSome, IsSome, option_map}
 use Rattle.std.proofs.Math.Nat.{mul-le-mul_left}
 use Rattle.glass_base.specs.Items.{area_of}
@@ -14,13 +14,9 @@ use Rattle.cert_log.specs.Lawful.{IsLawful, no_loss}
 use Rattle.cert_resume.specs.Joins.{IsAtMost}
 use Rattle.first_plan.specs.FirstPlans.{IsImproved, IsNoWorse}
 use Rattle.box_workers.specs.Runs.{first_loss}
-use Rattle.run_frame.specs.Answers.{Answer}
-use Rattle.run_frame.specs.Forms.{OnTold, Tells}
-use Rattle.run_frame.specs.declared.notices.Stop.{Stop}
-use Rattle.run_frame.specs.declared.notices.Stop.TheVariants as stop
-use Rattle.run_checks.specs.Checks.{NoLawfulPlan, loss_in}
-use Rattle.run_search.specs.Plans.{PlansFrom, course}
-use Rattle.run_search.specs.inner.Searches.{IsHistoryFrom}
+use Rattle.run_checks.specs.Checks.{loss_in}
+use Rattle.run_search.specs.Plans.{course}
+use Rattle.run_search.specs.inner.Searches.{IsHistoryFrom, IsHistoryOf, all_plans}
 
 -- a trace that is no worse than one loses no more than the plan that this one tells of
 pub at_most_known : (b : Problem) (plan : Option Plan) (known first : Option Trace) → is_some known ≡ is_some plan → IsAtMost (Some (first_loss b known)) (loss_in b (option_map tree plan)) → IsNoWorse b known first
@@ -49,22 +45,16 @@ improved_no_worse b None first better no_worse improved = tt
 improved_no_worse b (Some known) first better no_worse improved = omega (arith, no_worse, improved.no_longer)
 
 -- a history that begins with what is no worse than the trace of a plan
-pub behind_known : (b : Problem) (plan : Forest) (budget : ℕ) (fronts : Bool) (known : Trace) (first : Option Trace) (loss floor : ℕ) (h : History)
-    → b.params.height * length_of b known.steps.items ≤ plan_loss b plan + area_of b.items → IsNoWorse b (Some known) first → loss ≡ first_loss b first → IfSome first (λ _. loss < no_loss) → (fronts ≡ false → floor ≡ 0)
-    → IsLawful b (course b (first_loss b first) budget floor) h → IsHistoryFrom b plan budget fronts h
-behind_known b plan budget fronts known None loss floor h long no_worse is small unasked lawful = absurd no_worse
-behind_known b plan budget fronts known (Some first) loss floor h long no_worse is small unasked lawful =
+pub behind_known : (b : Problem) (plan : Forest) (budget : ℕ) (fronts : Bool) (known : Trace) (first : Option Trace) (floor : ℕ) (h : History)
+    → b.params.height * length_of b known.steps.items ≤ plan_loss b plan + area_of b.items → IsNoWorse b (Some known) first → (fronts ≡ false → floor ≡ 0)
+    → IsHistoryOf b (all_plans b) first budget floor h → IsHistoryFrom b plan budget fronts h
+behind_known b plan budget fronts known None floor h long no_worse unasked is = absurd no_worse
+behind_known b plan budget fronts known (Some first) floor h long no_worse unasked is =
     let longer : b.params.height * length_of b first.steps.items ≤ b.params.height * length_of b known.steps.items = mul-le-mul_left b.params.height no_worse in
     record {
       to_beat = first_loss b (Some first);
-      lawful = subst (λ (n : ℕ). IsLawful b (course b (first_loss b (Some first)) budget n) h) (sym lawful.floor_is) lawful;
+      lawful = subst (λ (n : ℕ). IsLawful b (course b (first_loss b (Some first)) budget n) h) (sym is.lawful.floor_is) is.lawful;
       no_greater = omega (arith, longer, long);
-      known = subst (λ (n : ℕ). n < no_loss) is small;
-      unasked = λ asked. lawful.floor_is ∙ unasked asked;
+      known = is.known;
+      unasked = λ asked. is.lawful.floor_is ∙ unasked asked;
     }
-
--- the answer where the text of a plan says no lawful one
-pub plans_none : (b : Problem) (budget : ℕ) (watch fronts : Bool) (text : Option (List ℕ)) (out cert : List ℕ) (answer : Answer) (s : Stop) → OnTold (NoLawfulPlan b text) s → Tells s answer →
-    PlansFrom b budget watch fronts text out cert answer
-plans_none b budget watch fronts text out cert answer stop.Memory refused is = absurd is
-plans_none b budget watch fronts text out cert answer (stop.Told notice) refused is = inr (subst (λ (a : Answer). NoLawfulPlan b text a) (sym is) refused)

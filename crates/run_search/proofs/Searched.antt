@@ -36,7 +36,7 @@ use Rattle.cert_log.proofs.Versions.{has_version, two_or_three}
 use Rattle.box_workers.specs.Runs.{first_loss}
 use Rattle.run_search.specs.Plans.{AreTold, HasLoss, IsOfSearch, course, handled}
 use Rattle.run_checks.specs.Checks.{root_ranges}
-use Rattle.run_search.specs.inner.Searches.{AreWatched, Certifies, IsHistory, IsNoGreater, IsSaidByItsText, IsShortToo, IsToldFound, IsWatchedHistory}
+use Rattle.run_search.specs.inner.Searches.{AreWatched, Certifies, IsHistory, IsHistoryOf, IsNoGreater, IsSaidByItsText, IsShortToo, IsToldFound, IsWatchedHistory, all_plans}
 use Rattle.run_search.proofs.StoredTexts.{both_said, cert_short, is_text}
 use Rattle.glass_base.specs.declared.limits.TheConstants.{MOST_BUDGET}
 
@@ -191,14 +191,13 @@ from_both (Ok x) P Q R p q f = f x p q
 from_both (Err e) P Q R p q f = tt
 
 -- a lawful history that goes on from the first plan, and its improvements
-pub from_first : (b : Problem) (budget : ℕ) (watch : Bool) (first : Option Trace) (loss floor : ℕ) (h : History) (list : Option (Listed Entry)) → IfSome first (λ t. IsFirstPlan b t.steps.items)
-    → IfNone first ((number : ℕ) × HasNoDraft b number) → loss ≡ first_loss b first → IfSome first (λ _. loss < no_loss) → IsLawful b (course b (first_loss b first) budget floor) h
-    → AreWatched b (first_loss b first) h.best watch list → IsWatchedHistory b budget watch h list
-from_first b budget watch first loss floor h list plan none is small lawful watched = record {
+pub from_first : (b : Problem) (budget : ℕ) (watch : Bool) (first : Option Trace) (floor : ℕ) (h : History) (list : Option (Listed Entry)) → IfSome first (λ t. IsFirstPlan b t.steps.items)
+    → IfNone first ((number : ℕ) × HasNoDraft b number) → IsHistoryOf b (all_plans b) first budget floor h → AreWatched b (first_loss b first) h.best watch list → IsWatchedHistory b budget watch h list
+from_first b budget watch first floor h list plan none is watched = record {
   history = record {
     to_beat = first_loss b first;
-    lawful = subst (λ (n : ℕ). IsLawful b (course b (first_loss b first) budget n) h) (sym lawful.floor_is) lawful;
-    no_greater = no_greater b first plan none (subst (λ (n : ℕ). IfSome first (λ _. n < no_loss)) is small);
+    lawful = subst (λ (n : ℕ). IsLawful b (course b (first_loss b first) budget n) h) (sym is.lawful.floor_is) is.lawful;
+    no_greater = no_greater b first plan none is.known;
   };
   watched = watched;
 }

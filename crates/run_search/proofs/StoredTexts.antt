@@ -29,7 +29,8 @@ use Rattle.cert_log.proofs.Naming.{good_steps}
 use Rattle.cert_log.proofs.ShortTexts.{short_texts}
 use Rattle.cert_log.proofs.Whole.{written_is_read}
 use Rattle.run_checks.specs.Checks.{IsAccepted, IsLawfulToo, loss_in, root_ranges}
-use Rattle.run_search.specs.Plans.{HasLoss, handled, most_work}
+use Rattle.run_search.specs.Plans.{HasLoss, handled}
+use Rattle.run_search.specs.declared.work.TheConstants.{MOST_WORK}
 use Rattle.run_checks.specs.Said.{IsPlanIn, SayBoth}
 use Rattle.run_frame.specs.Texts.{limit_of}
 use Rattle.glass_base.specs.declared.limits.TheConstants.{MOST_BUDGET, MOST_ITEMS}
@@ -86,7 +87,7 @@ is_text_of b c problem good version few head = record {
 }
 
 -- so is that of one that tells of few boxes
-pub is_text : (b : Problem) (c : Certificate) → IsProblem b → IsGood b (root_ranges b) c.loss c → HasVersion c → handled c ≤ most_work → IsHead (head_of c) → IsTextOf (cert_text c) c
+pub is_text : (b : Problem) (c : Certificate) → IsProblem b → IsGood b (root_ranges b) c.loss c → HasVersion c → handled c ≤ MOST_WORK → IsHead (head_of c) → IsTextOf (cert_text c) c
 is_text b c problem good version few head =
     let counts = good_counts b (root_ranges b) c.loss c good in let left = good_left b (root_ranges b) c.loss c good in
     is_text_of b c problem good version (omega arith) head

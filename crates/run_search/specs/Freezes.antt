@@ -17,7 +17,8 @@ use Rattle.plan_freeze.specs.Frozen.{first_plates, joined, later_plates}
 use Rattle.plan_freeze.specs.Rests.{IsRest, frozen_loss}
 use Rattle.run_frame.specs.Answers.{Answer, bad_input}
 use Rattle.run_plans.specs.Judgements.{IsFirstBroken, PlanRefused, unlawful}
-use Rattle.run_search.specs.Plans.{IsOfSearch, both_stores, ending, handled, most_work, search_summary}
+use Rattle.run_search.specs.Plans.{IsOfSearch, both_stores, ending, handled, search_summary}
+use Rattle.run_search.specs.declared.work.TheConstants.{MOST_WORK}
 use Rattle.run_checks.specs.Checks.{root_ranges, too_long_to_store}
 use Rattle.run_checks.specs.FrozenChecks.{all_frozen, raised}
 use Rattle.run_checks.specs.Said.{SayBoth}
@@ -89,5 +90,5 @@ FreezesSaid b k budget fronts (Err reason) out cert answer = PlanRefused reason 
 -- the answer to the text of a plan, or a refusal where the search would be too much work
 abbrev pub FreezesWithin : Problem → ℕ → ℕ → Bool → List ℕ → List ℕ → List ℕ → Answer → Type 0
 FreezesWithin b k budget fronts text out cert answer =
-    ((length b.items * budget ≤ most_work) × FreezesSaid b k budget fronts (plan_said b text) out cert answer)
-    ⊎ ((most_work < length b.items * budget) × (answer ≡ bad_input role.Batch 9 (length b.items) budget))
+    ((length b.items * budget ≤ MOST_WORK) × FreezesSaid b k budget fronts (plan_said b text) out cert answer)
+    ⊎ ((MOST_WORK < length b.items * budget) × (answer ≡ bad_input role.Batch 9 (length b.items) budget))

@@ -20,11 +20,12 @@ use Rattle.plan_csv.specs.Solutions.{solution_text}
 use Rattle.run_frame.specs.declared.status.Status.{Status}
 use Rattle.run_frame.specs.declared.status.Status.TheVariants as status
 use Rattle.run_frame.specs.Answers.{Answer, Store, bad_input}
+use Rattle.run_frame.specs.Codes.{word_of}
 use Rattle.cert_resume.specs.Joins.{IsAtMost}
 use Rattle.run_checks.specs.Checks.{IsLawfulPlanIn, NoLawfulPlan, loss_in, root_ranges}
 use Rattle.run_checks.specs.Said.{SayBoth}
 use Rattle.run_frame.specs.Texts.{limit_of}
-use Rattle.run_search.specs.declared.planning.TheConstants.{MOST_WORK}
+use Rattle.run_search.specs.declared.work.TheConstants.{MOST_WORK}
 
 -- how many boxes a certificate tells of that were closed or split
 abbrev pub handled : Certificate → ℕ
@@ -85,10 +86,6 @@ pub record IsFound (b : Problem) (budget : ℕ) (c : Certificate) (plan : Option
 abbrev pub ending : Certificate → Status
 ending c = if c.left == 0 then (if is_some c.loss then status.Optimal else status.Infeasible) else status.Stopped
 
--- the word for how a search ended
-abbrev pub ending_word : Certificate → List ℕ
-ending_word c = if c.left == 0 then (if is_some c.loss then codes "optimal" else codes "infeasible") else codes "stopped"
-
 -- how a search ended, its loss and its bound; what there is none of is `none`
 abbrev pub ended_lines : List ℕ → Option ℕ → Option ℕ → List ℕ
 ended_lines how loss bound = codes "status " ++ how ++ codes "\nloss " ++ loss_text loss ++ codes "\nbound " ++ loss_text bound ++ codes "\n"
@@ -99,7 +96,7 @@ counted_lines plates boxes left = codes "plates " ++ loss_text plates ++ codes "
 
 -- the six lines that are printed of a search
 abbrev pub search_summary : Certificate → Option ℕ → List ℕ
-search_summary c plates = ended_lines (ending_word c) c.loss c.bound ++ counted_lines plates (handled c) c.left
+search_summary c plates = ended_lines (word_of (ending c)) c.loss c.bound ++ counted_lines plates (handled c) c.left
 
 -- the loss of the first of these, if there is one
 abbrev pub first_of : List ℕ → Option ℕ
@@ -158,10 +155,6 @@ planned b out cert c plan told = record {
   lines = search_lines c (option_map neighbour_count plan) told;
 }
 
--- the most that the number of items times the budget may be
-abbrev pub most_work : ℕ
-most_work = MOST_WORK
-
 -- what a search found is stored under these names and told, with its improvements where they are watched; where fronts are not asked, it has
 -- no floor; where a plan was known before, what is found loses no more
 pub record Plans (b : Problem) (budget : ℕ) (watch fronts : Bool) (before : Option Forest) (out cert : List ℕ) (answer : Answer) : Type 0 where
@@ -182,5 +175,5 @@ PlansFrom b budget watch fronts text out cert answer =
 -- the answer to an instance, or a refusal where the search would be too much work
 abbrev pub PlansWithin : Problem → ℕ → Bool → Bool → Option (List ℕ) → List ℕ → List ℕ → Answer → Type 0
 PlansWithin b budget watch fronts text out cert answer =
-    ((length b.items * budget ≤ most_work) × PlansFrom b budget watch fronts text out cert answer)
-    ⊎ ((most_work < length b.items * budget) × (answer ≡ bad_input role.Batch 9 (length b.items) budget))
+    ((length b.items * budget ≤ MOST_WORK) × PlansFrom b budget watch fronts text out cert answer)
+    ⊎ ((MOST_WORK < length b.items * budget) × (answer ≡ bad_input role.Batch 9 (length b.items) budget))

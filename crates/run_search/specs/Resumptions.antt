@@ -17,7 +17,8 @@ use Rattle.cert_resume.specs.OpenBoxes.{left_boxes_of}
 use Rattle.plan_csv.specs.Solutions.{solution_text}
 use Rattle.run_frame.specs.Answers.{Answer, bad_input}
 use Rattle.run_checks.specs.Checks.{IsAccepted, IsConverted, NotAccepted, loss_in, root_ranges}
-use Rattle.run_search.specs.Plans.{HasLoss, course_from, handled, most_work, planned}
+use Rattle.run_search.specs.Plans.{HasLoss, course_from, handled, planned}
+use Rattle.run_search.specs.declared.work.TheConstants.{MOST_WORK}
 use Rattle.run_checks.specs.Said.{SayBoth}
 use Rattle.run_frame.specs.Texts.{limit_of}
 
@@ -74,8 +75,8 @@ pub record GoesOn (b : Problem) (budget : ℕ) (fronts : Bool) (plan : Option Fo
 -- the answer to a certificate that is accepted, or a refusal where its open boxes and the budget would be too much work
 abbrev pub GoesOnWithin : Problem → ℕ → Bool → Option Forest → Certificate → List ℕ → List ℕ → Answer → Type 0
 GoesOnWithin b budget fronts plan c out new answer =
-    ((length b.items * (budget + c.left) ≤ most_work) × GoesOn b budget fronts plan c out new answer)
-    ⊎ ((most_work < length b.items * (budget + c.left)) × (answer ≡ bad_input role.Cert 15 (length b.items) (budget + c.left)))
+    ((length b.items * (budget + c.left) ≤ MOST_WORK) × GoesOn b budget fronts plan c out new answer)
+    ⊎ ((MOST_WORK < length b.items * (budget + c.left)) × (answer ≡ bad_input role.Cert 15 (length b.items) (budget + c.left)))
 
 -- the answer of `resume`
 abbrev pub Resumes : Problem → Option (List ℕ) → List ℕ → ℕ → Bool → List ℕ → List ℕ → Answer → Type 0

@@ -2,7 +2,8 @@
 
 ghost use Rattle.std.specs.Prelude.{◌≡◌, ◌++◌, IfOk, OnOk, map};
 ghost use Rattle.std.specs.String.{string_bytes};
-ghost use Rattle.run_search.specs.Plans.{counted_lines as counted_lines_of, ended_lines as ended_lines_of, ending_word, entry_lines, handled, history_lines, search_lines as search_lines_of};
+ghost use Rattle.run_frame.specs.Codes.{word_of};
+ghost use Rattle.run_search.specs.Plans.{counted_lines as counted_lines_of, ended_lines as ended_lines_of, ending as ending_of, entry_lines, handled, history_lines, search_lines as search_lines_of};
 ghost use Rattle.run_search.specs.inner.Searches.{losses_in};
 
 use best_board::Entry;
@@ -105,7 +106,7 @@ pub(crate) fn search_lines(
     boxes: u64,
     improvements: &Option<Run<Entry>>,
 ) -> Result<String, Memory>
-    requires ending { ending.now ≡ ending_word certificate.now }
+    requires ending { ending.now ≡ word_of (ending_of certificate.now) }
     requires boxes { boxes ≡ handled certificate.now }
     ensures { IfOk result (λ lines. string_bytes lines
         ≡ search_lines_of certificate.now plates (losses_in improvements.now)) }

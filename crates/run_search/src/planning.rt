@@ -1,6 +1,6 @@
 //! What `plan` and `gen` answer to an instance.
 
-ghost use Rattle.std.specs.Prelude.{◌≡◌, ◌≤◌, ◌*◌, ◌++◌, ◌∷◌, [], ℕ, List, All, IfNone, IfOk, IfSome, OnOk, false, length, map, option_map};
+ghost use Rattle.std.specs.Prelude.{◌≡◌, ◌≤◌, ◌*◌, ◌++◌, ◌∷◌, [], ℕ, List, IfOk, IfSome, MatchResult, OnOk, false, length, map, option_map};
 ghost use Rattle.cut_model.specs.Tree.{count, neighbour_count, tree};
 ghost use Rattle.plan_box.specs.Frames.{frame_of};
 ghost use Rattle.plan_box.specs.Ranges.{PlainBox};
@@ -12,65 +12,61 @@ ghost use Rattle.box_workers.specs.Runs.{IsFirst, first_loss as first_loss_of};
 ghost use Rattle.first_plan.specs.FirstPlans.{IsFirstPlan};
 ghost use Rattle.plan_draft.specs.Drafts.{HasNoDraft};
 ghost use Rattle.cert_resume.specs.Joins.{IsAtMost};
-ghost use Rattle.run_search.specs.Plans.{HasLoss, Plans, PlansFrom, PlansWithin, course, course_from, ending as ending_of, ending_word as ending_word_of, handled as handled_of, plan_stores, planned};
-ghost use Rattle.run_frame.specs.Forms.{answer_in, store_in};
+ghost use Rattle.run_search.specs.Plans.{HasLoss, Plans, PlansWithin, course, ending as ending_of, handled as handled_of, plan_stores, planned};
+ghost use Rattle.run_frame.specs.Forms.{OnTold, answer_in, store_in};
 ghost use Rattle.run_search.specs.inner.Searches.{AreWatched, Certifies, IsSaidByItsText, IsShortToo, IsToldFound, IsWatchedHistory, losses_in};
 ghost use Rattle.run_checks.specs.Checks.{FitsToo, IsLawfulToo, loss_in};
 
 use crate::lines::search_lines;
-use crate::searching::{Searched, search_from};
-use crate::starting::{Opening, first_trace, start_of};
+use crate::searching::{Searched, search_all_plans};
+use crate::starting::{first_trace, start_of};
+use crate::work::within_work;
 use crate::workforce::Workforce;
 use best_board::Entry;
-use box_workers::{Gate, first_loss};
+use box_workers::Gate;
 use cert_log::{Certificate, History, Node, assemble, write_cert};
 use command_line::Product;
 use cut_model::{Plan, plates_used};
-use defect_map::{DefectMap, Ground};
+use defect_map::Ground;
 use glass_base::{Instance, Memory, Role, Run, append};
 use plan_csv::write_plan;
 use plan_trace::plan_of;
 use run_checks::lawful_plan_in;
-use run_frame::{Output, Reply, Status, bad_input, reply_at, reply_with};
+use run_frame::{Output, Reply, Status, Stop, reply_at};
 use std::alloc::Global;
 use std::sync::Wait;
 use std::thread::Threads;
 
-/// The most that the number of items times the budget may be. Below it a run keeps to some 7 GB.
-pub(crate) const MOST_WORK: u64 = 160_000_000;
-
 /// What a search found.
 #[derive(Drop)]
-pub(crate) struct Found {
+pub(crate) struct FoundPlan {
     pub(crate) certificate: Certificate,
     pub(crate) plan: Option<Plan>,
     /// Where they are watched.
     pub(crate) improvements: Option<Run<Entry>>,
 }
 
-/// A search that begins with what is known before it, and with a lawful plan, if there is one.
-fn search_with<R: Threads + Wait + Sync, G: Gate + Sync>(
+/// A search that begins with what is found before it, which is no worse than this lawful plan, if there is one.
+fn search_from_plan<R: Threads + Wait + Sync, G: Gate + Sync>(
     alloc: Global,
     workforce: &Workforce<'_, R, G>,
     ground: Ground<'_>,
     before: &Option<Plan>,
-    watch: bool,
-    opening: Opening,
 ) -> Result<Searched, Memory>
     requires fits { FitsToo before.now }
     requires lawful { IsLawfulToo ground.instance.now (option_map tree before.now) }
-    ensures history { IfOk result (λ s. IsWatchedHistory ground.entry.instance.now
-        workforce.now.budget watch s.history s.improvements) }
-    ensures unasked { IfOk result (λ s. opening.fronts ≡ false → s.history.floor ≡ 0) }
+    ensures history { let options = workforce.now.options in
+        IfOk result (λ s. IsWatchedHistory ground.entry.instance.now
+        options.budget options.watch s.history s.improvements) }
+    ensures unasked { IfOk result (λ s. workforce.now.options.fronts ≡ false
+        → s.history.floor ≡ 0) }
     ensures no_worse { let b = ground.entry.instance.now in
         IfOk result (λ s. IsAtMost (known_loss s.history.best)
         (loss_in b (option_map tree before.now))) }
 {
     let known = first_trace(alloc, ground.instance, before)?;
-    let start = start_of(alloc, workforce, ground, known, opening)?;
-    // Read for its range.
-    let _loss = first_loss(ground.instance, &start.first);
-    search_from(alloc, workforce, ground, start, watch)
+    let start = start_of(alloc, workforce, ground, known)?;
+    search_all_plans(alloc, workforce, ground, start)
 }
 
 /// The certificate of a history.
@@ -121,20 +117,19 @@ pub(crate) fn best_plan(
 }
 
 /// What a search finds that may close or split so many boxes, where this lawful plan is known before, if there is one.
-fn find<R: Threads + Wait + Sync, G: Gate + Sync>(
+fn find_plan<R: Threads + Wait + Sync, G: Gate + Sync>(
     alloc: Global,
     workforce: &Workforce<'_, R, G>,
     ground: Ground<'_>,
     before: &Option<Plan>,
-    watch: bool,
-    opening: Opening,
-) -> Result<Found, Memory>
+) -> Result<FoundPlan, Memory>
     requires fits { FitsToo before.now }
     requires lawful { IsLawfulToo ground.instance.now (option_map tree before.now) }
-    ensures found { IfOk result (λ found. IsToldFound ground.entry.instance.now
-        workforce.now.budget watch found.certificate (option_map tree found.plan)
-        (losses_in found.improvements)) }
-    ensures unasked { IfOk result (λ found. opening.fronts ≡ false → found.certificate.floor ≡ 0) }
+    ensures found { let options = workforce.now.options in
+        IfOk result (λ found. IsToldFound ground.entry.instance.now options.budget options.watch
+        found.certificate (option_map tree found.plan) (losses_in found.improvements)) }
+    ensures unasked { IfOk result (λ found. workforce.now.options.fronts ≡ false
+        → found.certificate.floor ≡ 0) }
     ensures no_worse { let b = ground.entry.instance.now in
         IfOk result (λ found. IsAtMost found.certificate.loss
         (loss_in b (option_map tree before.now))) }
@@ -142,14 +137,14 @@ fn find<R: Threads + Wait + Sync, G: Gate + Sync>(
 {
     // Read for its rules.
     let _items = ground.instance.items();
-    let searched = search_with(alloc, workforce, ground, before, watch, opening)?;
+    let searched = search_from_plan(alloc, workforce, ground, before)?;
     let certificate = certificate_of(alloc, ground.instance, &searched.history)?;
     let plan = best_plan(alloc, ground.instance, &searched.history)?;
     let Searched {
         history: _,
         improvements,
     } = searched;
-    Ok(Found {
+    Ok(FoundPlan {
         certificate,
         plan,
         improvements,
@@ -178,19 +173,6 @@ pub(crate) fn ending(certificate: &Certificate) -> Status
         Status::Optimal
     } else {
         Status::Infeasible
-    }
-}
-
-/// The word for how a search ended.
-pub(crate) fn ending_word(certificate: &Certificate) -> &'static str
-    ensures { result.now ≡ ending_word_of certificate.now }
-{
-    if certificate.left > 0 {
-        "stopped"
-    } else if certificate.loss.is_some() {
-        "optimal"
-    } else {
-        "infeasible"
     }
 }
 
@@ -261,7 +243,7 @@ fn plates_of(plan: &Option<Plan>) -> Option<u64>
 pub(crate) fn reply_with_text(
     alloc: Global,
     instance: &Instance,
-    found: &Found,
+    found: &FoundPlan,
     text: Run<u8>,
 ) -> Result<Reply, Memory>
     requires text { text.items ≡ cert_text found.now.certificate }
@@ -272,23 +254,24 @@ pub(crate) fn reply_with_text(
         (losses_in found.now.improvements)) }
 {
     let certificate = &found.certificate;
+    let status = ending(certificate);
     let lines = search_lines(
         alloc,
-        ending_word(certificate),
+        status.word(),
         certificate,
         plates_of(&found.plan),
         handled(certificate) as u64,
         &found.improvements,
     )?;
     Ok(Reply {
-        status: ending(certificate),
+        status,
         outputs: outputs_of(alloc, instance, &found.plan, text)?,
         lines,
     })
 }
 
 /// The reply that stores and tells what a search found.
-fn reply_with_found(alloc: Global, instance: &Instance, found: &Found) -> Result<Reply, Memory>
+fn reply_with_found(alloc: Global, instance: &Instance, found: &FoundPlan) -> Result<Reply, Memory>
     requires version { HasVersion found.now.certificate }
     requires fits { FitsToo found.now.plan }
     ensures { IfOk result (λ r. (name : Product → List ℕ)
@@ -306,64 +289,59 @@ fn plan_from<R: Threads + Wait + Sync, G: Gate + Sync>(
     workforce: &Workforce<'_, R, G>,
     ground: Ground<'_>,
     before: &Option<Plan>,
-    watch: bool,
-    opening: Opening,
 ) -> Result<Reply, Memory>
     requires fits { FitsToo before.now }
     requires lawful { IsLawfulToo ground.instance.now (option_map tree before.now) }
-    ensures { let b = ground.entry.instance.now in IfOk result (λ r. (name : Product → List ℕ)
-        → Plans b workforce.now.budget watch opening.fronts (option_map tree before.now)
+    ensures { let b = ground.entry.instance.now in let options = workforce.now.options in
+        IfOk result (λ r. (name : Product → List ℕ)
+        → Plans b options.budget options.watch options.fronts (option_map tree before.now)
         (name Product.Plan) (name Product.Certificate) (answer_in name r)) }
 {
-    let found = find(alloc, workforce, ground, before, watch, opening)?;
+    let found = find_plan(alloc, workforce, ground, before)?;
     reply_with_found(alloc, ground.instance, &found)
 }
 
-/// The reply to the text of a plan that is known before, if there is one, or what is told where it says no lawful plan.
-fn plan_from_text<R: Threads + Wait + Sync, G: Gate + Sync>(
+/// The reply to the text of a plan that is known before, if there is one; or what is told where the search would be too
+/// much work, or where the text says no lawful plan.
+fn plan_within<R: Threads + Wait + Sync, G: Gate + Sync>(
     alloc: Global,
     workforce: &Workforce<'_, R, G>,
-    instance: &Instance,
+    ground: Ground<'_>,
     text: Option<&[u8]>,
-    watch: bool,
-    opening: Opening,
-) -> Result<Reply, Memory>
-    ensures { IfOk result (λ r. (name : Product → List ℕ)
-        → PlansFrom instance.now workforce.now.budget watch opening.fronts
-        (option_map (λ bytes. bytes.now) text.entry) (name Product.Plan)
-        (name Product.Certificate) (answer_in name r)) }
+) -> Result<Reply, Stop>
+    ensures { let b = ground.entry.instance.now in let options = workforce.now.options in
+        let said = option_map (λ bytes. bytes.now) text.entry in
+        MatchResult result (λ r. (name : Product → List ℕ)
+        → PlansWithin b options.budget options.watch options.fronts said
+        (name Product.Plan) (name Product.Certificate) (answer_in name r))
+        (OnTold (λ answer. (out cert : List ℕ)
+        → PlansWithin b options.budget options.watch options.fronts said out cert answer)) }
 {
-    let map = DefectMap::new(alloc, instance)?;
-    let ground = Ground {
-        instance,
-        map: &map,
-    };
-    match lawful_plan_in(alloc, ground, text) {
-        Ok(before) => plan_from(alloc, workforce, ground, &before, watch, opening),
-        Err(stop) => reply_at(alloc, stop),
-    }
+    let items = ground.instance.items().len() as u64;
+    let boxes = u64::from(workforce.options.budget);
+    within_work(alloc, items, boxes, Role::Batch, 9)?;
+    let before = lawful_plan_in(alloc, ground, text)?;
+    Ok(plan_from(alloc, workforce, ground, &before)?)
 }
 
-/// The reply to an instance: the best plan that a search finds and its certificate, with its improvements where they are watched; or a refusal where the number of items times the
-/// budget is above 160,000,000. Where there is the text of a plan, it is judged, and what is stored loses no more. Where the opening asks fronts, the search begins with what they
-/// show: with the best of the plans that are known, and with a loss that no lawful plan is below; where it has an effort, with the best plan that wide beams find with it.
+/// The reply to an instance: the best plan that a search finds and its certificate, with its improvements where they are
+/// watched; or a refusal where the number of items times the budget is above 160,000,000. Where there is the text of a
+/// plan, it is judged, and what is stored loses no more. Where fronts are asked, the search begins with what they show:
+/// with the best of the plans that are known, and with a loss that no lawful plan is below; where there is an effort or a
+/// time, with the best plan that wide beams find with it.
 pub fn plan_instance<R: Threads + Wait + Sync, G: Gate + Sync>(
     alloc: Global,
     workforce: &Workforce<'_, R, G>,
-    instance: &Instance,
+    ground: Ground<'_>,
     text: Option<&[u8]>,
-    watch: bool,
-    opening: Opening,
 ) -> Result<Reply, Memory>
-    ensures { IfOk result (λ r. (name : Product → List ℕ)
-        → PlansWithin instance.now workforce.now.budget watch opening.fronts
+    ensures { let options = workforce.now.options in IfOk result (λ r. (name : Product → List ℕ)
+        → PlansWithin ground.entry.instance.now options.budget options.watch options.fronts
         (option_map (λ bytes. bytes.now) text.entry) (name Product.Plan)
         (name Product.Certificate) (answer_in name r)) }
 {
-    let items = instance.items().len() as u64;
-    if items * u64::from(workforce.budget) > MOST_WORK {
-        let notice = bad_input(alloc, Role::Batch, 9, items, u64::from(workforce.budget))?;
-        return Ok(reply_with(alloc, notice));
+    match plan_within(alloc, workforce, ground, text) {
+        Ok(reply) => Ok(reply),
+        Err(stop) => reply_at(alloc, stop),
     }
-    plan_from_text(alloc, workforce, instance, text, watch, opening)
 }

@@ -3,11 +3,10 @@
 ghost use Rattle.std.specs.Prelude.{◌≡◌, ◌≤◌, All, IfOk, length};
 ghost use Rattle.box_workers.specs.Runs.{IsFirst, first_loss as first_loss_of};
 ghost use Rattle.cert_log.specs.Good.{IsFloor};
-ghost use Rattle.cert_log.specs.Lawful.{IsLawful, numbered};
+ghost use Rattle.cert_log.specs.Lawful.{numbered};
 ghost use Rattle.plan_box.specs.Frames.{frame_of};
 ghost use Rattle.plan_box.specs.Ranges.{PlainBox};
-ghost use Rattle.run_search.specs.Plans.{course, course_from};
-ghost use Rattle.run_search.specs.inner.Searches.{AreWatched};
+ghost use Rattle.run_search.specs.inner.Searches.{AreWatched, IsHistoryOf, all_plans};
 
 use crate::workforce::Workforce;
 use best_board::Entry;
@@ -16,7 +15,7 @@ use cert_log::History;
 use defect_map::Ground;
 use first_plan::Start;
 use glass_base::limits::MOST_CERT_BYTES;
-use glass_base::{Instance, Memory, Run};
+use glass_base::{Memory, News, Run};
 use plan_box::PlanBox;
 use shared_best::SharedBest;
 use std::alloc::Global;
@@ -31,7 +30,7 @@ pub(crate) struct Searched {
 }
 
 /// A search of these boxes.
-fn search_of_boxes<R: Threads + Wait + Sync, G: Gate + Sync>(
+fn search_boxes<R: Threads + Wait + Sync, G: Gate + Sync>(
     alloc: Global,
     workforce: &Workforce<'_, R, G>,
     ground: Ground<'_>,
@@ -44,20 +43,22 @@ fn search_of_boxes<R: Threads + Wait + Sync, G: Gate + Sync>(
     requires frames { All (λ (x : PlainBox). x.frame ≡ frame_of ground.instance.now) boxes.items }
     requires first { IsFirst ground.instance.now start.first }
     requires floor { IsFloor ground.instance.now start.floor }
-    ensures lawful { let b = ground.entry.instance.now in
-        IfOk result (λ s. IsLawful b (course_from boxes.items
-        (first_loss_of b start.first) workforce.now.budget start.floor) s.history) }
+    ensures history { IfOk result (λ s. IsHistoryOf ground.entry.instance.now boxes.items
+        start.first workforce.now.options.budget start.floor s.history) }
     ensures watched { let b = ground.entry.instance.now in
         IfOk result (λ s. AreWatched b (first_loss_of b start.first) s.history.best watch
         s.improvements) }
 {
     let Start { first, floor } = start;
     let loss = first_loss(ground.instance, &first);
-    workforce.gate.sees(loss);
+    workforce.gate.hear(News::Loss(loss));
+    workforce.gate.hear(News::Boxes {
+        budget: workforce.options.budget,
+    });
     let (shared, mut seat) = SharedBest::with_floor(
         alloc,
         loss,
-        u64::from(workforce.budget),
+        u64::from(workforce.options.budget),
         floor,
     )?;
     if watch {
@@ -68,7 +69,7 @@ fn search_of_boxes<R: Threads + Wait + Sync, G: Gate + Sync>(
             ground.map,
             boxes,
             first,
-            workforce.workers,
+            workforce.options.workers,
             &shared,
             &mut seat,
             workforce.gate,
@@ -85,7 +86,7 @@ fn search_of_boxes<R: Threads + Wait + Sync, G: Gate + Sync>(
         ground.map,
         boxes,
         first,
-        workforce.workers,
+        workforce.options.workers,
         &shared,
         &mut seat,
         workforce.gate,
@@ -109,40 +110,45 @@ pub(crate) fn history_of_boxes<R: Threads + Wait + Sync, G: Gate + Sync>(
     requires frames { All (λ (x : PlainBox). x.frame ≡ frame_of ground.instance.now) boxes.items }
     requires first { IsFirst ground.instance.now start.first }
     requires floor { IsFloor ground.instance.now start.floor }
-    ensures { let b = ground.entry.instance.now in
-        IfOk result (λ h. IsLawful b (course_from boxes.items
-        (first_loss_of b start.first) workforce.now.budget start.floor) h) }
+    ensures { IfOk result (IsHistoryOf ground.entry.instance.now boxes.items
+        start.first workforce.now.options.budget start.floor) }
 {
     let Searched {
         history,
         improvements: _,
-    } = search_of_boxes(alloc, workforce, ground, boxes, start, false)?;
+    } = search_boxes(alloc, workforce, ground, boxes, start, false)?;
     Ok(history)
 }
 
 /// A search of all plans.
-pub(crate) fn search_from<R: Threads + Wait + Sync, G: Gate + Sync>(
+pub(crate) fn search_all_plans<R: Threads + Wait + Sync, G: Gate + Sync>(
     alloc: Global,
     workforce: &Workforce<'_, R, G>,
     ground: Ground<'_>,
     start: Start,
-    watch: bool,
 ) -> Result<Searched, Memory>
     requires first { IsFirst ground.instance.now start.first }
     requires floor { IsFloor ground.instance.now start.floor }
-    ensures lawful { let b = ground.entry.instance.now in
-        IfOk result (λ s. IsLawful b (course b
-        (first_loss_of b start.first) workforce.now.budget start.floor) s.history) }
+    ensures history { let b = ground.entry.instance.now in
+        IfOk result (λ s. IsHistoryOf b (all_plans b) start.first workforce.now.options.budget
+        start.floor s.history) }
     ensures watched { let b = ground.entry.instance.now in
-        IfOk result (λ s. AreWatched b (first_loss_of b start.first) s.history.best watch
-        s.improvements) }
+        IfOk result (λ s. AreWatched b (first_loss_of b start.first) s.history.best
+        workforce.now.options.watch s.improvements) }
 {
     let boxes = start_boxes(alloc, ground.instance)?;
-    search_of_boxes(alloc, workforce, ground, boxes, start, watch)
+    search_boxes(
+        alloc,
+        workforce,
+        ground,
+        boxes,
+        start,
+        workforce.options.watch,
+    )
 }
 
 /// The history of a search of all plans.
-pub(crate) fn history_from<R: Threads + Wait + Sync, G: Gate + Sync>(
+pub(crate) fn history_of_all_plans<R: Threads + Wait + Sync, G: Gate + Sync>(
     alloc: Global,
     workforce: &Workforce<'_, R, G>,
     ground: Ground<'_>,
@@ -151,8 +157,8 @@ pub(crate) fn history_from<R: Threads + Wait + Sync, G: Gate + Sync>(
     requires first { IsFirst ground.instance.now start.first }
     requires floor { IsFloor ground.instance.now start.floor }
     ensures { let b = ground.entry.instance.now in
-        IfOk result (λ h. IsLawful b (course b
-        (first_loss_of b start.first) workforce.now.budget start.floor) h) }
+        IfOk result (IsHistoryOf b (all_plans b) start.first workforce.now.options.budget
+        start.floor) }
 {
     let boxes = start_boxes(alloc, ground.instance)?;
     history_of_boxes(alloc, workforce, ground, boxes, start)

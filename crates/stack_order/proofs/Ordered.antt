@@ -11,7 +11,7 @@ use Rattle.glass_base.proofs.Pairs.{pairs_head, pairs_tail}
 use Rattle.glass_base.specs.declared.item.Item.{Item}
 use Rattle.glass_base.specs.Items.{DifferentPlaces}
 use Rattle.cut_model.specs.Order.{KeepsStack, KeepsStacks}
-use Rattle.stack_order.specs.declared.cuts.Cut.{Cut}
+use Rattle.stack_order.specs.declared.cuts.ItemCut.{ItemCut}
 use Rattle.stack_order.specs.Breaches.{items_of, last_of_stack}
 use Rattle.stack_order.proofs.Searches.{find_some, contained_reverse, filter_map-reverse, pair_across}
 use Rattle.std.specs.Option.{option_or}
@@ -58,15 +58,15 @@ last_is_highest (x ∷ items) (suc k) d kept lt =
     }
 
 -- the last of a stack among the cuts is that among their items
-pub last_of_items : (stack : ℕ) (cuts : List Cut) → last_of_stack stack cuts ≡ find (λ item. item.stack == stack) (reverse (items_of cuts))
-last_of_items stack cuts = ap (find (λ (item : Item). item.stack == stack)) (filter_map-reverse (λ (c : Cut). c.item) cuts)
+pub last_of_items : (stack : ℕ) (cuts : List ItemCut) → last_of_stack stack cuts ≡ find (λ item. item.stack == stack) (reverse (items_of cuts))
+last_of_items stack cuts = ap (find (λ (item : Item). item.stack == stack)) (filter_map-reverse (λ (c : ItemCut). c.item) cuts)
 
 -- no item of its stack was cut before that has a higher sequence
-abbrev pub InTime : List Cut → Cut → Type 0
+abbrev pub InTime : List ItemCut → ItemCut → Type 0
 InTime before cut = (item last : Item) → cut.item ≡ Some item → last_of_stack item.stack before ≡ Some last → last.sequence ≤ item.sequence
 
 -- an item that is not too late, and has a place of its own, keeps the stacks
-kept_push : (before : List Cut) (item : Item) → KeepsStacks (items_of before) → ((earlier : Item) → Contains (items_of before) earlier → DifferentPlaces earlier item) → ((last : Item) → last_of_stack item.stack before ≡ Some last → last.sequence ≤ item.sequence) → KeepsStacks (items_of before ++ item ∷ [])
+kept_push : (before : List ItemCut) (item : Item) → KeepsStacks (items_of before) → ((earlier : Item) → Contains (items_of before) earlier → DifferentPlaces earlier item) → ((last : Item) → last_of_stack item.stack before ≡ Some last → last.sequence ≤ item.sequence) → KeepsStacks (items_of before ++ item ∷ [])
 kept_push before item kept places intime =
     all_pairs_push KeepsStack (items_of before) item kept
     (λ k d lt same.
@@ -77,19 +77,19 @@ kept_push before item kept places intime =
     omega (arith, high, h.higher, differ))
 
 -- a cut parts the items into those before it, its own, and those behind it
-items_split : (cuts : List Cut) (i : ℕ) (cut d : Cut) → i < length cuts → cut ≡ get_or cuts i d → items_of cuts ≡ items_of (take i cuts) ++ cons_option cut.item (items_of (drop (i + 1) cuts))
+items_split : (cuts : List ItemCut) (i : ℕ) (cut d : ItemCut) → i < length cuts → cut ≡ get_or cuts i d → items_of cuts ≡ items_of (take i cuts) ++ cons_option cut.item (items_of (drop (i + 1) cuts))
 items_split cuts i cut d lt is =
-    ap items_of (sym (take-append-drop i cuts) ∙ ap (λ (l : List Cut). take i cuts ++ l) (drop_more cuts i d lt ∙ ap (λ (c : Cut). c ∷ drop (i + 1) cuts) (sym is)))
-    ∙ filter_map-append (λ (c : Cut). c.item) (take i cuts) (cut ∷ drop (i + 1) cuts)
+    ap items_of (sym (take-append-drop i cuts) ∙ ap (λ (l : List ItemCut). take i cuts ++ l) (drop_more cuts i d lt ∙ ap (λ (c : ItemCut). c ∷ drop (i + 1) cuts) (sym is)))
+    ∙ filter_map-append (λ (c : ItemCut). c.item) (take i cuts) (cut ∷ drop (i + 1) cuts)
 
 -- the items of one more cut
-items_more : (cuts : List Cut) (i : ℕ) (cut d : Cut) → i < length cuts → cut ≡ get_or cuts i d → items_of (take (i + 1) cuts) ≡ items_of (take i cuts) ++ cons_option cut.item []
+items_more : (cuts : List ItemCut) (i : ℕ) (cut d : ItemCut) → i < length cuts → cut ≡ get_or cuts i d → items_of (take (i + 1) cuts) ≡ items_of (take i cuts) ++ cons_option cut.item []
 items_more cuts i cut d lt is =
-    ap items_of (take_more cuts i d lt ∙ ap (λ (c : Cut). take i cuts ++ c ∷ []) (sym is))
-    ∙ filter_map-append (λ (c : Cut). c.item) (take i cuts) (cut ∷ [])
+    ap items_of (take_more cuts i d lt ∙ ap (λ (c : ItemCut). take i cuts ++ c ∷ []) (sym is))
+    ∙ filter_map-append (λ (c : ItemCut). c.item) (take i cuts) (cut ∷ [])
 
 -- a cut that is not too late keeps the stacks
-pub kept_more : (cuts : List Cut) (i : ℕ) (cut d : Cut) → i < length cuts → cut ≡ get_or cuts i d → AllPairs DifferentPlaces (items_of cuts) → KeepsStacks (items_of (take i cuts)) → InTime (take i cuts) cut → KeepsStacks (items_of (take (i + 1) cuts))
+pub kept_more : (cuts : List ItemCut) (i : ℕ) (cut d : ItemCut) → i < length cuts → cut ≡ get_or cuts i d → AllPairs DifferentPlaces (items_of cuts) → KeepsStacks (items_of (take i cuts)) → InTime (take i cuts) cut → KeepsStacks (items_of (take (i + 1) cuts))
 kept_more cuts i cut d lt is places kept intime =
     subst KeepsStacks (sym (items_more cuts i cut d lt is)) (by cut.item refl (subst (AllPairs DifferentPlaces) (items_split cuts i cut d lt is) places))
   where
@@ -101,7 +101,7 @@ kept_more cuts i cut d lt is places kept intime =
         (λ last last_is. intime item last e last_is)
 
 -- an item that is too late breaks the order of its stack
-pub late_breaks : (cuts : List Cut) (i : ℕ) (cut : Cut) (item last : Item) → slice_get cuts i ≡ Some cut → cut.item ≡ Some item → last_of_stack item.stack (take i cuts) ≡ Some last → item.sequence < last.sequence → ¬ KeepsStacks (items_of cuts)
+pub late_breaks : (cuts : List ItemCut) (i : ℕ) (cut : ItemCut) (item last : Item) → slice_get cuts i ≡ Some cut → cut.item ≡ Some item → last_of_stack item.stack (take i cuts) ≡ Some last → item.sequence < last.sequence → ¬ KeepsStacks (items_of cuts)
 late_breaks cuts i cut item last there item_is last_is higher kept =
     let lt : i < length cuts = slice_get_within cuts i cut there in
     let parts : items_of cuts ≡ items_of (take i cuts) ++ cons_option cut.item (items_of (drop (i + 1) cuts)) = items_split cuts i cut cut lt (sym (get_or_from_slice_get cuts i cut cut there)) in

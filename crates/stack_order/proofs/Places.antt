@@ -8,7 +8,7 @@ use Rattle.glass_base.proofs.Pairs.{pairs_nil, pairs_cons, pairs_head, pairs_tai
 use Rattle.glass_base.specs.declared.item.Item.{Item}
 use Rattle.glass_base.specs.Items.{DifferentPlaces}
 use Rattle.cut_model.specs.Order.{item_with}
-use Rattle.stack_order.specs.declared.cuts.Cut.{Cut}
+use Rattle.stack_order.specs.declared.cuts.ItemCut.{ItemCut}
 use Rattle.stack_order.specs.Cuts.{AreCuts}
 use Rattle.stack_order.specs.Breaches.{items_of}
 use Rattle.stack_order.proofs.Searches.{find_some}
@@ -38,28 +38,28 @@ found_apart items m n x y places x_is y_is differ =
     ]
 
 -- an item stands apart from the items of cuts of other numbers
-others_apart : (items : List Item) (number : ℕ) (item : Item) (cuts : List Cut) → AllPairs DifferentPlaces items → item_with items number ≡ Some item → AreCuts items cuts → All (λ c. number ≢ c.number) cuts → All (DifferentPlaces item) (items_of cuts)
+others_apart : (items : List Item) (number : ℕ) (item : Item) (cuts : List ItemCut) → AllPairs DifferentPlaces items → item_with items number ≡ Some item → AreCuts items cuts → All (λ c. number ≢ c.number) cuts → All (DifferentPlaces item) (items_of cuts)
 others_apart items number item [] places is are differ = All-nil (DifferentPlaces item)
 others_apart items number item (c ∷ cuts) places is are differ =
-    by c.item refl (others_apart items number item cuts places is (All-tail (λ (a : Cut). a.item ≡ item_with items a.number) c cuts are) (All-tail (λ (a : Cut). number ≢ a.number) c cuts differ))
+    by c.item refl (others_apart items number item cuts places is (All-tail (λ (a : ItemCut). a.item ≡ item_with items a.number) c cuts are) (All-tail (λ (a : ItemCut). number ≢ a.number) c cuts differ))
   where
     by : (o : Option Item) → c.item ≡ o → All (DifferentPlaces item) (items_of cuts) → All (DifferentPlaces item) (cons_option o (items_of cuts))
     by None e rest = rest
     by (Some other) e rest =
-        let other_is : item_with items c.number ≡ Some other = sym (All-head (λ (a : Cut). a.item ≡ item_with items a.number) c cuts are) ∙ e in
+        let other_is : item_with items c.number ≡ Some other = sym (All-head (λ (a : ItemCut). a.item ≡ item_with items a.number) c cuts are) ∙ e in
         All-cons (DifferentPlaces item) other (items_of cuts)
-        (found_apart items number c.number item other places is other_is (All-head (λ (a : Cut). number ≢ a.number) c cuts differ)) rest
+        (found_apart items number c.number item other places is other_is (All-head (λ (a : ItemCut). number ≢ a.number) c cuts differ)) rest
 
 -- where no number is cut twice, no two items that are cut have one place
-pub places_differ : (items : List Item) (cuts : List Cut) → AllPairs DifferentPlaces items → AreCuts items cuts → AllPairs (λ a c. a.number ≢ c.number) cuts → AllPairs DifferentPlaces (items_of cuts)
+pub places_differ : (items : List Item) (cuts : List ItemCut) → AllPairs DifferentPlaces items → AreCuts items cuts → AllPairs (λ a c. a.number ≢ c.number) cuts → AllPairs DifferentPlaces (items_of cuts)
 places_differ items [] places are once = pairs_nil DifferentPlaces
 places_differ items (c ∷ cuts) places are once =
-    let are_rest = All-tail (λ (a : Cut). a.item ≡ item_with items a.number) c cuts are in
-    by c.item refl are_rest (places_differ items cuts places are_rest (pairs_tail (λ (a d : Cut). a.number ≢ d.number) c cuts once))
+    let are_rest = All-tail (λ (a : ItemCut). a.item ≡ item_with items a.number) c cuts are in
+    by c.item refl are_rest (places_differ items cuts places are_rest (pairs_tail (λ (a d : ItemCut). a.number ≢ d.number) c cuts once))
   where
     by : (o : Option Item) → c.item ≡ o → AreCuts items cuts → AllPairs DifferentPlaces (items_of cuts) → AllPairs DifferentPlaces (cons_option o (items_of cuts))
     by None e are_rest rest = rest
     by (Some item) e are_rest rest =
-        let item_is : item_with items c.number ≡ Some item = sym (All-head (λ (a : Cut). a.item ≡ item_with items a.number) c cuts are) ∙ e in
+        let item_is : item_with items c.number ≡ Some item = sym (All-head (λ (a : ItemCut). a.item ≡ item_with items a.number) c cuts are) ∙ e in
         pairs_cons DifferentPlaces item (items_of cuts)
-        (others_apart items c.number item cuts places item_is are_rest (pairs_head (λ (a d : Cut). a.number ≢ d.number) c cuts once)) rest
+        (others_apart items c.number item cuts places item_is are_rest (pairs_head (λ (a d : ItemCut). a.number ≢ d.number) c cuts once)) rest

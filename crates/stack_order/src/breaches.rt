@@ -10,7 +10,7 @@ ghost use Rattle.cut_model.specs.Order.{KeepsStacks};
 ghost use Rattle.stack_order.specs.Breaches.{numbers, numbers_cut, items_of, HasItem, breach as breach_of, last_of_stack as last_of, NamesUnknown, NamesTwice, NamesMissing, NamesEmptyPlate, IsLate, NamesLate};
 ghost use Rattle.stack_order.specs.declared.order_rule.OrderRule.TheVariants.{L9Plates};
 
-use crate::cuts::Cut;
+use crate::cuts::ItemCut;
 use crate::order_rule::OrderRule;
 use cut_model::{Broken, Row, Rule};
 use glass_base::{Item, Params};
@@ -29,14 +29,14 @@ fn breach(rule: OrderRule, plate: u32, node: u64, left: u64, right: u64) -> Brok
 }
 
 /// A breach of this rule at an item that is cut.
-fn breach_at(rule: OrderRule, cut: &Cut, left: u64, right: u64) -> Broken
+fn breach_at(rule: OrderRule, cut: &ItemCut, left: u64, right: u64) -> Broken
     ensures { result ≡ breach_of rule cut.now.plate cut.now.node left right }
 {
     breach(rule, cut.plate, cut.node, left, right)
 }
 
 /// The first item that the batch does not have.
-pub fn first_unknown(cuts: &[Cut]) -> Option<Broken>
+pub fn first_unknown(cuts: &[ItemCut]) -> Option<Broken>
     ensures { MatchOption result (All (λ c. IsSome c.item) cuts.now) (NamesUnknown cuts.now) }
 {
     for cut in cuts {
@@ -48,14 +48,14 @@ pub fn first_unknown(cuts: &[Cut]) -> Option<Broken>
 }
 
 /// The first of these cuts whose item has this number.
-fn first_of_number(cuts: &[Cut], number: u32) -> Option<Cut>
+fn first_of_number(cuts: &[ItemCut], number: u32) -> Option<ItemCut>
     ensures { result ≡ find (λ c. c.number == number) cuts.now }
 {
     cuts.iter().copied().find(|c| c.number == number)
 }
 
 /// The first item that was cut before.
-pub fn first_repeat(cuts: &[Cut]) -> Option<Broken>
+pub fn first_repeat(cuts: &[ItemCut]) -> Option<Broken>
     ensures { MatchOption result (AllPairs (λ a c. a.number ≢ c.number) cuts.now)
         (NamesTwice cuts.now) }
 {
@@ -68,7 +68,7 @@ pub fn first_repeat(cuts: &[Cut]) -> Option<Broken>
 }
 
 /// The first item of the batch that is not cut.
-pub fn first_missing(items: &[Item], cuts: &[Cut]) -> Option<Broken>
+pub fn first_missing(items: &[Item], cuts: &[ItemCut]) -> Option<Broken>
     ensures { MatchOption result (All (Contains (numbers_cut cuts.now)) (numbers items.now))
         (NamesMissing items.now cuts.now) }
 {
@@ -81,7 +81,7 @@ pub fn first_missing(items: &[Item], cuts: &[Cut]) -> Option<Broken>
 }
 
 /// The first plate from which no item is cut.
-pub fn first_empty_plate(cuts: &[Cut], plates: &[Row]) -> Option<Broken>
+pub fn first_empty_plate(cuts: &[ItemCut], plates: &[Row]) -> Option<Broken>
     ensures { MatchOption result (All (HasItem cuts.now) plates.now)
         (NamesEmptyPlate cuts.now plates.now) }
 {
@@ -118,7 +118,7 @@ pub fn plates_too_many(params: &Params, plates: &[Row]) -> Option<Broken>
 }
 
 /// The last of these items that belongs to a stack.
-fn last_of_stack(cuts: &[Cut], stack: u32) -> Option<Item>
+fn last_of_stack(cuts: &[ItemCut], stack: u32) -> Option<Item>
     ensures { result ≡ last_of stack cuts.now }
 {
     cuts.iter()
@@ -128,7 +128,7 @@ fn last_of_stack(cuts: &[Cut], stack: u32) -> Option<Item>
 }
 
 /// Whether an item that is cut behind these comes too late.
-fn late(before: &[Cut], cut: &Cut) -> Option<Broken>
+fn late(before: &[ItemCut], cut: &ItemCut) -> Option<Broken>
     ensures { MatchOption result ((item last : GlassItem) → cut.now.item ≡ Some item
         → last_of item.stack before.now ≡ Some last
         → last.sequence ≤ item.sequence) (IsLate before.now cut.now) }
@@ -148,7 +148,7 @@ fn late(before: &[Cut], cut: &Cut) -> Option<Broken>
 }
 
 /// The first item that is cut after one of its stack with a higher sequence. No two items of the batch have one place in a stack.
-pub fn first_late(cuts: &[Cut]) -> Option<Broken>
+pub fn first_late(cuts: &[ItemCut]) -> Option<Broken>
     requires { AllPairs DifferentPlaces (items_of cuts.now) }
     ensures { MatchOption result (KeepsStacks (items_of cuts.now)) (NamesLate cuts.now) }
 {

@@ -13,7 +13,7 @@ use std::alloc::Global;
 
 /// An item that is cut.
 #[derive(Clone, Copy)]
-pub struct Cut {
+pub struct ItemCut {
     /// The number of its plate, from 0.
     pub plate: u32,
     /// Its node number.
@@ -26,13 +26,13 @@ pub struct Cut {
 
 /// The items and the plates told so far.
 #[derive(Drop)]
-struct Gathering<'a> {
+struct ItemsTold<'a> {
     items: &'a [Item],
-    cuts: Run<Cut>,
+    cuts: Run<ItemCut>,
     plates: Run<Row>,
 }
 
-impl<'a> Visitor for Gathering<'a> {
+impl<'a> Visitor for ItemsTold<'a> {
     type Stop = Memory;
 
     ghost has_seen = { λ start now seen.
@@ -43,7 +43,7 @@ impl<'a> Visitor for Gathering<'a> {
     fn visit(&mut self, family: &Family) -> Result<(), Memory> {
         let row = family.row;
         if let Sort::Item(number) = family.sort {
-            let cut = Cut {
+            let cut = ItemCut {
                 plate: row.plate,
                 node: row.node,
                 number,
@@ -60,26 +60,26 @@ impl<'a> Visitor for Gathering<'a> {
 
 /// What a plan cuts, in cutting order.
 #[derive(Drop)]
-pub struct Gathered {
-    pub cuts: Run<Cut>,
+pub struct CutItems {
+    pub cuts: Run<ItemCut>,
     /// The rows of its plates.
     pub plates: Run<Row>,
 }
 
 /// What a plan cuts. It fails only where memory runs out.
-pub fn gather(alloc: Global, instance: &Instance, plan: &Plan) -> Result<Gathered, Memory>
+pub fn gather(alloc: Global, instance: &Instance, plan: &Plan) -> Result<CutItems, Memory>
     requires { Fits (tree plan.now) }
     ensures cuts { let b = instance.now in IfOk result (λ g. g.cuts.items
         ≡ cuts_of b.items (rows_of b (tree plan.now))) }
     ensures plates { let b = instance.now in IfOk result (λ g. g.plates.items
         ≡ plate_rows (rows_of b (tree plan.now))) }
 {
-    let mut gathering = Gathering {
+    let mut gathering = ItemsTold {
         items: instance.items(),
         cuts: Run::new(alloc),
         plates: Run::new(alloc),
     };
     walk(&mut gathering, instance, plan)?;
-    let Gathering { cuts, plates, .. } = gathering;
-    Ok(Gathered { cuts, plates })
+    let ItemsTold { cuts, plates, .. } = gathering;
+    Ok(CutItems { cuts, plates })
 }

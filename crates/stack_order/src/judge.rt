@@ -11,13 +11,13 @@ ghost use Rattle.stack_order.specs.Cuts.{cuts_of, AreCuts};
 use crate::breaches::{
     first_empty_plate, first_late, first_missing, first_repeat, first_unknown, plates_too_many,
 };
-use crate::cuts::{Cut, gather};
+use crate::cuts::{ItemCut, gather};
 use cut_model::{Broken, Plan, Row};
 use glass_base::{Instance, Memory};
 use std::alloc::Global;
 
 /// The first rule on the order of items that is broken, at its first place.
-fn first_breach(instance: &Instance, cuts: &[Cut], plates: &[Row]) -> Option<Broken>
+fn first_breach(instance: &Instance, cuts: &[ItemCut], plates: &[Row]) -> Option<Broken>
     requires { AreCuts instance.now.items cuts.now }
     ensures { let b = instance.now in MatchOption result
         (All (KeepsOrderRule b cuts.now plates.now) order_rules) (IsBreach b cuts.now plates.now) }

@@ -4,7 +4,7 @@ use Rattle.std.specs.Prelude.{Result, Ok, Err}
 use Rattle.csv_table.specs.Readings.{◌>>=◌, each_row}
 use Rattle.glass_base.specs.declared.bad_text.BadText.{BadText}
 use Rattle.glass_base.specs.declared.bad_text.BadText.TheVariants as bad
-use Rattle.stock_csv.specs.declared.parameters.Setting.{Setting}
+use Rattle.stock_csv.specs.declared.parameters.ParameterRow.{ParameterRow}
 use Rattle.glass_base.specs.Sizes.{usual_sizes}
 use Rattle.glass_base.specs.declared.sizes.Sizes.{Sizes}
 use Rattle.stock_csv.specs.Settings.{GivesSizes, RefusesSettings, set_by, setting_at}
@@ -26,10 +26,10 @@ pub set_refused : {S X : Type 0} (set : S → X → S) (say : ℕ → List (List
 set_refused set say s row fields rest e h = rw h refl
 
 -- the sizes that rows set
-abbrev pub set_by_all : Sizes → Result (List (Option Setting)) BadText → Result Sizes BadText
+abbrev pub set_by_all : Sizes → Result (List (Option ParameterRow)) BadText → Result Sizes BadText
 set_by_all = set_all set_by
 
-pub set_by_more : (s : Sizes) (row : ℕ) (fields : List (List ℕ)) (rest : List (List (List ℕ))) (x : Option Setting)
+pub set_by_more : (s : Sizes) (row : ℕ) (fields : List (List ℕ)) (rest : List (List (List ℕ))) (x : Option ParameterRow)
     → setting_at row fields ≡ Ok x → set_by_all (set_by s x) (each_row setting_at (row + 1) rest) ≡ set_by_all s (each_row setting_at row (fields ∷ rest))
 set_by_more = set_more set_by setting_at
 
@@ -37,16 +37,16 @@ pub set_by_refused : (s : Sizes) (row : ℕ) (fields : List (List ℕ)) (rest : 
     → setting_at row fields ≡ Err e → set_by_all s (each_row setting_at row (fields ∷ rest)) ≡ Err e
 set_by_refused = set_refused set_by setting_at
 
-pub reads_sizes : (s : Sizes) (said : Result (List (Option Setting)) BadText) → Ok s ≡ set_by_all usual_sizes said → GivesSizes (Ok s) said
+pub reads_sizes : (s : Sizes) (said : Result (List (Option ParameterRow)) BadText) → Ok s ≡ set_by_all usual_sizes said → GivesSizes (Ok s) said
 reads_sizes s (Ok settings) e = cc e
 reads_sizes s (Err bad) e = cc e
 
-pub reads_refusal : (bad : BadText) (said : Result (List (Option Setting)) BadText) → Err bad ≡ set_by_all usual_sizes said → said ≡ Err bad
+pub reads_refusal : (bad : BadText) (said : Result (List (Option ParameterRow)) BadText) → Err bad ≡ set_by_all usual_sizes said → said ≡ Err bad
 reads_refusal bad (Ok settings) e = cc e
 reads_refusal bad (Err other) e = cc e
 
 -- a text that was refused
-pub refuses_text : (e : BadText) (said : Result (List (Option Setting)) BadText) → GivesSizes (Err e) said → RefusesSettings e said
+pub refuses_text : (e : BadText) (said : Result (List (Option ParameterRow)) BadText) → GivesSizes (Err e) said → RefusesSettings e said
 refuses_text e (Err other) h = h
 refuses_text bad.Memory (Ok settings) h = tt
 refuses_text (bad.Record row fields) (Ok settings) h = cc h

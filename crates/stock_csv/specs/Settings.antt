@@ -12,7 +12,7 @@ use Rattle.csv_table.specs.Numbers.{trimmed}
 use Rattle.csv_table.specs.Readings.{◌>>=◌, Fails, table, whole_in}
 use Rattle.stock_csv.specs.declared.parameters.Name.{Name}
 use Rattle.stock_csv.specs.declared.parameters.Name.TheVariants.{Plates, Width, Height, Min1, Max1, Min2, Waste}
-use Rattle.stock_csv.specs.declared.parameters.Setting.{Setting}
+use Rattle.stock_csv.specs.declared.parameters.ParameterRow.{ParameterRow}
 use Rattle.glass_base.specs.declared.limits.TheConstants.{MOST_NUMBER}
 
 -- the parameter of this name, which is compared byte by byte
@@ -32,12 +32,12 @@ abbrev pub parameter_in : Option (List ℕ) → Option Name
 parameter_in field = option_and_then (λ name. parameter_named (trimmed name)) field
 
 -- a row of another name is ignored with its value
-abbrev pub setting : ℕ → Option Name → Option (List ℕ) → Result (Option Setting) BadText
+abbrev pub setting : ℕ → Option Name → Option (List ℕ) → Result (Option ParameterRow) BadText
 setting row None value = Ok None
 setting row (Some name) value = whole_in row 2 MOST_NUMBER value >>= λ n. Ok (Some (record { name = name; value = n }))
 
 -- what a row sets, if anything: a name and its value
-unfoldable pub setting_at : ℕ → List (List ℕ) → Result (Option Setting) BadText
+unfoldable pub setting_at : ℕ → List (List ℕ) → Result (Option ParameterRow) BadText
 setting_at row fields =
     if length fields == 2 then setting row (parameter_in (field_at fields 0)) (field_at fields 1) else Err (bad.Record row (length fields))
 
@@ -51,19 +51,19 @@ set_to s Max1 n = record s { max1 = n }
 set_to s Min2 n = record s { min2 = n }
 set_to s Waste n = record s { waste = n }
 
-abbrev pub set_by : Sizes → Option Setting → Sizes
-set_by s said = option_map_or (λ (x : Setting). set_to s x.name x.value) said s
+abbrev pub set_by : Sizes → Option ParameterRow → Sizes
+set_by s said = option_map_or (λ (x : ParameterRow). set_to s x.name x.value) said s
 
 -- the usual sizes with those that are set: of a repeated name the last row counts
-abbrev pub sizes_of : List (Option Setting) → Sizes
+abbrev pub sizes_of : List (Option ParameterRow) → Sizes
 sizes_of settings = fold set_by usual_sizes settings
 
-abbrev pub settings_of : List ℕ → Result (List (Option Setting)) BadText
+abbrev pub settings_of : List ℕ → Result (List (Option ParameterRow)) BadText
 settings_of bytes = table setting_at bytes
 
 -- a reader refused the text for its first reason, or the sizes that it says for the first rule that they break, or memory ran out
-abbrev pub RefusesSettings : BadText → Result (List (Option Setting)) BadText → Type 0
-RefusesSettings e (Err said) = Fails {Y = List (Option Setting)} e (Err said)
+abbrev pub RefusesSettings : BadText → Result (List (Option ParameterRow)) BadText → Type 0
+RefusesSettings e (Err said) = Fails {Y = List (Option ParameterRow)} e (Err said)
 RefusesSettings bad.Memory (Ok settings) = Unit {0}
 RefusesSettings (bad.Params reason) (Ok settings) = RefusesSizes reason (sizes_of settings)
 RefusesSettings (bad.Record row fields) (Ok settings) = ⊥
@@ -73,12 +73,12 @@ RefusesSettings (bad.EmptyDefect row) (Ok settings) = ⊥
 RefusesSettings (bad.ZeroWidth row) (Ok settings) = ⊥
 
 -- the parameters that settings make
-abbrev pub ReadAs : Params → Result (List (Option Setting)) BadText → Type 0
+abbrev pub ReadAs : Params → Result (List (Option ParameterRow)) BadText → Type 0
 ReadAs p (Ok settings) = AreSizes p (sizes_of settings)
 ReadAs p (Err e) = ⊥
 
 -- the sizes that settings make, or the refusal of their text, or memory ran out
-abbrev pub GivesSizes : Result Sizes BadText → Result (List (Option Setting)) BadText → Type 0
+abbrev pub GivesSizes : Result Sizes BadText → Result (List (Option ParameterRow)) BadText → Type 0
 GivesSizes (Ok sizes) (Ok settings) = sizes ≡ sizes_of settings
 GivesSizes (Ok sizes) (Err e) = ⊥
 GivesSizes (Err e) said = Fails e said

@@ -6,7 +6,7 @@ ghost use Rattle.glass_base.specs.Items.{IsDefectInRange};
 ghost use Rattle.csv_table.specs.Readings.{Gives, each_row};
 ghost use Rattle.stock_csv.specs.DefectRows.{defect_at, defects_of};
 
-use crate::widening::widened;
+use crate::widening::{Rectangle, widened};
 use csv::ByteRecord;
 use csv_table::{Rows, measure_at, whole_at};
 use glass_base::limits::{MOST_NUMBER, MOST_SIDE};
@@ -33,7 +33,13 @@ pub fn defect_of(row: u64, fields: &ByteRecord) -> Result<Defect, BadText>
     let y = measure_at(row, 4, MOST_SIDE, fields)?;
     let width = measure_at(row, 5, MOST_SIDE, fields)?;
     let height = measure_at(row, 6, MOST_SIDE, fields)?;
-    widened(row, plate, x, y, width, height)
+    let written = Rectangle {
+        x,
+        y,
+        width,
+        height,
+    };
+    widened(row, plate, written)
 }
 
 /// The defects of a table in the order of its rows, or the first refusal. The first row is the header.

@@ -26,7 +26,7 @@ pub enum Name {
 
 /// A parameter and its value.
 #[derive(Clone, Copy, Debug)]
-pub struct Setting {
+pub struct ParameterRow {
     pub name: Name,
     pub value: u32,
 }
@@ -68,7 +68,7 @@ fn with_value(sizes: Sizes, name: Name, value: u32) -> Sizes
 }
 
 /// Sizes with what a row sets.
-fn with_setting(sizes: Sizes, setting: Option<Setting>) -> Sizes
+fn with_setting(sizes: Sizes, setting: Option<ParameterRow>) -> Sizes
     ensures { result ≡ set_by sizes setting }
 {
     match setting {
@@ -124,7 +124,7 @@ fn parameter_at(fields: &ByteRecord) -> Option<Name>
 /// is. `Record` comes where the row has another number of fields. Where its name is one of these, `Number` comes where
 /// the value is no whole number, and `Range` where it is above 999,999,999.
 #[tactic(auto, unfolding(crate::specs::Settings::setting_at))]
-pub fn setting_of(row: u64, fields: &ByteRecord) -> Result<Option<Setting>, BadText>
+pub fn setting_of(row: u64, fields: &ByteRecord) -> Result<Option<ParameterRow>, BadText>
     ensures { result ≡ setting_at row (fields_of fields.now) }
 {
     if fields.len() != 2 {
@@ -134,7 +134,7 @@ pub fn setting_of(row: u64, fields: &ByteRecord) -> Result<Option<Setting>, BadT
         None => Ok(None),
         Some(name) => {
             let value = whole_at(row, 2, MOST_NUMBER, fields)?;
-            Ok(Some(Setting { name, value }))
+            Ok(Some(ParameterRow { name, value }))
         }
     }
 }

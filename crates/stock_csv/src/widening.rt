@@ -33,31 +33,33 @@ fn is_zero(number: Decimal) -> bool
     number.whole == 0 && number.millionths == 0
 }
 
+/// The rectangle of a defect as it is written: its lower left corner and its sides, in mm.
+#[derive(Clone, Copy)]
+pub(crate) struct Rectangle {
+    pub x: Decimal,
+    pub y: Decimal,
+    pub width: Decimal,
+    pub height: Decimal,
+}
+
 /// The least defect with whole sides in mm that covers the written one. `EmptyDefect` comes where a side is 0.
-pub(crate) fn widened(
-    row: u64,
-    plate: u32,
-    x: Decimal,
-    y: Decimal,
-    width: Decimal,
-    height: Decimal,
-) -> Result<Defect, BadText>
-    requires x { IsAtMost MOST_SIDE x }
-    requires y { IsAtMost MOST_SIDE y }
-    requires width { IsAtMost MOST_SIDE width }
-    requires height { IsAtMost MOST_SIDE height }
-    ensures value { result ≡ widened_of row plate (millionths_in x) (millionths_in y)
-        (millionths_in width) (millionths_in height) }
+pub(crate) fn widened(row: u64, plate: u32, written: Rectangle) -> Result<Defect, BadText>
+    requires x { IsAtMost MOST_SIDE written.x }
+    requires y { IsAtMost MOST_SIDE written.y }
+    requires width { IsAtMost MOST_SIDE written.width }
+    requires height { IsAtMost MOST_SIDE written.height }
+    ensures value { result ≡ widened_of row plate (millionths_in written.x)
+        (millionths_in written.y) (millionths_in written.width) (millionths_in written.height) }
     ensures range { IfOk result IsDefectInRange }
 {
-    if is_zero(width) || is_zero(height) {
+    if is_zero(written.width) || is_zero(written.height) {
         return Err(BadText::EmptyDefect(row));
     }
     Ok(Defect {
         plate,
-        x0: floor(x),
-        y0: floor(y),
-        x1: ceiling_of_sum(x, width),
-        y1: ceiling_of_sum(y, height),
+        x0: floor(written.x),
+        y0: floor(written.y),
+        x1: ceiling_of_sum(written.x, written.width),
+        y1: ceiling_of_sum(written.y, written.height),
     })
 }

@@ -9,12 +9,12 @@ use Rattle.batch_csv.specs.Batches.{item_at}
 use Rattle.stock_csv.specs.DefectRows.{defect_at}
 use Rattle.stock_csv.specs.PlateRows.{plate_at}
 use Rattle.stock_csv.specs.Settings.{setting_at}
-use Rattle.stock_csv.specs.declared.parameters.Setting.{Setting}
-use Rattle.table_notes.specs.declared.notes.Note.{Note}
-use Rattle.table_notes.specs.declared.notes.Note.TheVariants as note
+use Rattle.stock_csv.specs.declared.parameters.ParameterRow.{ParameterRow}
+use Rattle.table_notes.specs.declared.notes.TableNote.{TableNote}
+use Rattle.table_notes.specs.declared.notes.TableNote.TheVariants as note
 
 -- a row sets a parameter
-abbrev pub sets_one : Result (Option Setting) BadText → Bool
+abbrev pub sets_one : Result (Option ParameterRow) BadText → Bool
 sets_one (Ok (Some _)) = true
 sets_one _ = false
 
@@ -54,11 +54,11 @@ has_more_lines text = list_any in_line (drop (prefix_len in_line (from_first_lin
 
 -- what is noted of a table by its rows, and by whether it has more lines than one: that the first row, which is taken for
 -- the header, is itself a row that would be read; or that all its lines are the header
-abbrev pub noted : Role → Bool → List (List (List ℕ)) → Option Note
+abbrev pub noted : Role → Bool → List (List (List ℕ)) → Option TableNote
 noted of more [] = None
 noted of more (header ∷ []) = if is_row of header then Some note.HeaderIsRow else if more then Some note.NoRow else None
 noted of more (header ∷ row ∷ rows) = if is_row of header then Some note.HeaderIsRow else None
 
 -- what is noted of the text of a file of this role
-abbrev pub note_of : Role → List ℕ → Option Note
+abbrev pub note_of : Role → List ℕ → Option TableNote
 note_of of text = if is_table of then noted of (has_more_lines text) (table_rows text) else None

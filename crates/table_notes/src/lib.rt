@@ -6,5 +6,5 @@ pub mod lines;
 pub mod notes;
 pub mod noting;
 
-pub use notes::{Note, note_on};
+pub use notes::{TableNote, note_on};
 pub use noting::NotingFiles;

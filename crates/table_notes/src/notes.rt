@@ -16,7 +16,7 @@ use stock_csv::plates::plate_of;
 
 /// What is to be noted of a table.
 #[derive(Clone, Copy, Debug, PartialEq, Eq)]
-pub enum Note {
+pub enum TableNote {
     /// Its first row, which is taken for the header, is itself a row that would be read.
     HeaderIsRow,
     /// All its lines, and it has more than one, are taken for the header: a quoted field there goes on over lines.
@@ -54,7 +54,7 @@ fn has_row(rows: &mut Rows<'_>) -> Result<bool, Memory>
 }
 
 /// What is to be noted of a table of this role whose text is this one and whose rows are these.
-fn noted(role: Role, text: &[u8], rows: &mut Rows<'_>) -> Result<Option<Note>, Memory>
+fn noted(role: Role, text: &[u8], rows: &mut Rows<'_>) -> Result<Option<TableNote>, Memory>
     ensures { IfOk result (λ note. note
         ≡ noted_of role (has_more_lines_of text.now) rows.old) }
 {
@@ -62,17 +62,17 @@ fn noted(role: Role, text: &[u8], rows: &mut Rows<'_>) -> Result<Option<Note>, M
         return Ok(None);
     };
     if is_row(role, &header) {
-        return Ok(Some(Note::HeaderIsRow));
+        return Ok(Some(TableNote::HeaderIsRow));
     }
     if !has_row(rows)? && has_more_lines(text) {
-        return Ok(Some(Note::NoRow));
+        return Ok(Some(TableNote::NoRow));
     }
     Ok(None)
 }
 
 /// What is to be noted of the text of a file of this role, if anything. Of files that are no table of items, defects,
 /// parameters or plates it is nothing.
-pub fn note_on(alloc: Global, role: Role, text: &[u8]) -> Result<Option<Note>, Memory>
+pub fn note_on(alloc: Global, role: Role, text: &[u8]) -> Result<Option<TableNote>, Memory>
     ensures { IfOk result (λ note. note ≡ note_of role text.now) }
 {
     if !is_table(role) {

@@ -1,7 +1,7 @@
 //! Files that tell on standard error what is to be noted of them.
 
 use crate::lines::first_line;
-use crate::notes::{Note, note_on};
+use crate::notes::{TableNote, note_on};
 use glass_base::{Memory, Role};
 use glass_io::{Fetched, Files, Trouble};
 use std::alloc::Global;
@@ -59,11 +59,11 @@ fn tell_note<R: Eprint>(
     };
     let line = line_of(alloc, text)?;
     let _told = match note {
-        Note::HeaderIsRow => {
+        TableNote::HeaderIsRow => {
             let is = row_said(role);
             eprintln!(rt; "note: {name}: the first line, {line}, is taken for the header and {is}")
         }
-        Note::NoRow => {
+        TableNote::NoRow => {
             let is = rows_said(role);
             eprintln!(rt;
                 "note: {name}: all its lines are taken for the header, which begins with {line}, and none {is}"

@@ -4,8 +4,7 @@ use cert_check::{Verdict, Why, check_cert};
 use cert_log::{BadCert, read_cert};
 use defect_map::DefectMap;
 use front_bound::losses::FrontSearch;
-use front_bound::watch::Nobody;
-use glass_base::{Instance, Item, Memory, Params, Run, append};
+use glass_base::{Instance, Item, Memory, Nobody, Params, Run, append};
 use plan_box::Var;
 use std::alloc::Global;
 use std::test::Fail;
@@ -44,7 +43,7 @@ fn answer(
             &cert,
             &FrontSearch {
                 labels: 1_000_000,
-                watch: &Nobody,
+                listener: &Nobody,
             },
         )?)),
         Err(bad) => Ok(Err(bad)),

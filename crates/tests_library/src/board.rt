@@ -22,15 +22,10 @@ fn empty(alloc: Global) -> Result<Entries, Fail> {
 fn lying(alloc: Global, turn: u32, width: u32, height: u32) -> Result<Trace, Memory> {
     let mut steps = Run::new(alloc);
     let step = Step {
-        stack: 0,
         turn,
-        kind: 0,
-        lift: 0,
-        a: 0,
         b: width,
-        c: 0,
         d: height,
-        e: 0,
+        ..Step::NONE
     };
     append(&mut steps, step)?;
     Ok(Trace { steps })

@@ -3,8 +3,8 @@
 
 use cut_model::{Step, Trace};
 use defect_map::{DefectMap, Ground};
-use first_plan::{Effort, Progress, Team, first_plan, improve};
-use glass_base::{Instance, Run};
+use first_plan::{Effort, Team, first_plan, improve};
+use glass_base::{Instance, Listener, News, Run};
 use glass_gen::generate;
 use std::alloc::Global;
 use std::sync::atomic::{AtomicU64, Ordering};
@@ -17,22 +17,34 @@ struct Notes {
     loss: AtomicU64,
     beams: AtomicU64,
     millions: AtomicU64,
-    /// How many milliseconds are left, whenever it is asked.
-    time: Option<u64>,
+    /// What its clock shows whenever it is asked, in milliseconds.
+    time: u64,
 }
 
-impl Progress for Notes {
-    fn spends(&self, millions: u64) {
+impl Notes {
+    /// Notes how much was spent.
+    fn note_ticks(&self, millions: u64) {
         self.millions.store(millions, Ordering::SeqCst);
     }
 
-    fn knows(&self, loss: u64) {
+    /// Notes a plan.
+    fn note_plan(&self, loss: u64) {
         self.loss.fetch_min(loss, Ordering::SeqCst);
         self.beams.fetch_add(1, Ordering::SeqCst);
     }
+}
 
-    fn left(&self) -> Option<u64> {
-        self.time
+impl Listener for Notes {
+    fn hear(&self, news: News) {
+        match news {
+            News::Ticks { spent, .. } => self.note_ticks(spent),
+            News::Loss(loss) => self.note_plan(loss),
+            _ => {}
+        }
+    }
+
+    fn elapsed(&self) -> Option<u64> {
+        Some(self.time)
     }
 }
 
@@ -53,13 +65,16 @@ fn steps_of(alloc: Global, trace: &Trace) -> Result<Vec<Step>, Fail> {
     Ok(steps)
 }
 
-/// What so much work comes to by so many threads, with so much time.
+/// A second, in milliseconds.
+const SECOND: u64 = 1_000;
+
+/// What so much work comes to by so many threads, where so many milliseconds are left whenever it is asked, 1,000 at the most.
 fn work_out_in<R: Threads + Sync>(
     rt: &R,
     alloc: Global,
     instance: &Instance,
     effort: Effort,
-    time: Option<u64>,
+    left: Option<u64>,
 ) -> Result<Outcome, Fail> {
     let map = DefectMap::new(alloc, instance)?;
     let Some(first) = first_plan(alloc, instance, &map)? else {
@@ -74,12 +89,13 @@ fn work_out_in<R: Threads + Sync>(
         loss: AtomicU64::new(u64::MAX),
         beams: AtomicU64::new(0),
         millions: AtomicU64::new(0),
-        time,
+        time: SECOND - left.unwrap_or(0),
     };
     let team = Team {
         rt,
         effort,
-        progress: &notes,
+        seconds: left.map(|_| 1),
+        listener: &notes,
     };
     let best = improve(
         alloc,

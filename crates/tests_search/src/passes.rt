@@ -1,7 +1,7 @@
 //! A search is run once: its gate is told of as many boxes as are printed.
 
 use crate::commands::{files, run};
-use glass_base::Memory;
+use glass_base::{Listener, Memory};
 use glass_run::{Gate, Status};
 use std::alloc::Global;
 use std::sync::Wait;
@@ -22,6 +22,8 @@ const OPTIMAL: &str = "status optimal\nloss 813000\nbound 813000\nplates 1\nboxe
 struct Counter {
     passed: AtomicU64,
 }
+
+impl Listener for Counter {}
 
 impl Gate for Counter {
     fn pass(&self, _worker: u32, _id: u64) {

@@ -6,7 +6,7 @@ ghost use Rattle.glass_base.specs.Items.{IsItemInRange};
 use crate::searched::{each_once, searched};
 use box_workers::{Gate, PatientGate, start_boxes};
 use glass_base::limits::{MOST_NUMBER, MOST_SIDE};
-use glass_base::{Instance, Item, Memory, Params, Run};
+use glass_base::{Instance, Item, Listener, Memory, Params, Run};
 use std::alloc::Global;
 use std::sync::Wait;
 use std::sync::atomic::{AtomicBool, AtomicU32, Ordering};
@@ -120,6 +120,8 @@ impl Muster {
 fn note(word: &AtomicU32, worker: u32) {
     word.fetch_or(1u32.wrapping_shl(worker), Ordering::SeqCst);
 }
+
+impl Listener for Muster {}
 
 impl Gate for Muster {
     fn pass(&self, worker: u32, id: u64) {

@@ -8,7 +8,7 @@ use crate::boxes::two_boxes;
 use crate::searched::{searched, small};
 use box_workers::Gate;
 use cert_log::{Act, Cause, History, Note};
-use glass_base::{Instance, Run, append};
+use glass_base::{Instance, Listener, Run, append};
 use plan_box::{PlanBox, Var};
 use std::alloc::Global;
 use std::hint::spin_loop;
@@ -91,6 +91,8 @@ impl Turns {
         self.gave_up.store(true, Ordering::SeqCst);
     }
 }
+
+impl Listener for Turns {}
 
 impl Gate for Turns {
     fn pass(&self, worker: u32, id: u64) {

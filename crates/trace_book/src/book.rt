@@ -1,7 +1,7 @@
 //! What a paragraph of the book says.
 
-use crate::boxes::var_of;
 use crate::steps::{numbers_of, step_of};
+use crate::vars::var_of;
 use anyhow::bail;
 use cut_model::Trace;
 use glass_base::{Run, append};

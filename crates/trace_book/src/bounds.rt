@@ -8,7 +8,7 @@ ghost use Rattle.plan_box.specs.Frames.{frame_of};
 use crate::steps::tell_steps;
 use box_bound::{Leasts, bound, bound_at, choose, probe, probe_at, refuted, refuted_at};
 use cut_model::{Step, Trace};
-use defect_map::DefectMap;
+use defect_map::{DefectMap, Ground};
 use glass_base::{Instance, Memory, Run, append};
 use plan_box::{PlanBox, Var};
 use std::alloc::{AllocError, Global};
@@ -30,15 +30,14 @@ fn tell_leasts(found: &mut String, word: &str, leasts: &Leasts) -> Result<(), Al
 /// Adds the bound of a box and the first reason that applies to it, and where the calls without leasts answer otherwise.
 fn tell_bounds(
     found: &mut String,
-    instance: &Instance,
-    map: &DefectMap,
+    ground: Ground<'_>,
     leasts: &Leasts,
     bx: &PlanBox,
 ) -> Result<(), AllocError>
-    requires map { map.now ≡ instance.now.defects }
-    requires instance { bx.now.frame ≡ frame_of instance.now }
-    requires leasts { IsFor instance.now bx.now leasts.now }
+    requires instance { bx.now.frame ≡ frame_of ground.instance.now }
+    requires leasts { IsFor ground.instance.now bx.now leasts.now }
 {
+    let Ground { instance, map } = ground;
     let least = bound_at(instance, leasts, bx);
     writeln!(found, "bound {least}")?;
     if bound(instance, bx) != least {
@@ -62,20 +61,7 @@ fn blank(alloc: Global, instance: &Instance) -> Result<Trace, Memory>
 {
     let mut steps = Run::new(alloc);
     for _number in 0..instance.items().len() {
-        append(
-            &mut steps,
-            Step {
-                stack: 0,
-                turn: 0,
-                kind: 0,
-                lift: 0,
-                a: 0,
-                b: 0,
-                c: 0,
-                d: 0,
-                e: 0,
-            },
-        )?;
+        append(&mut steps, Step::NONE)?;
     }
     Ok(Trace { steps })
 }
@@ -83,18 +69,17 @@ fn blank(alloc: Global, instance: &Instance) -> Result<Trace, Memory>
 /// Whether a box has another trace at its least values, or another answer, where it is asked without leasts.
 fn is_probed_otherwise(
     alloc: Global,
-    instance: &Instance,
-    map: &DefectMap,
+    ground: Ground<'_>,
     bx: &PlanBox,
     steps: &[Step],
     meets: bool,
 ) -> Result<bool, Memory>
-    requires map { map.now ≡ instance.now.defects }
-    requires instance { bx.now.frame ≡ frame_of instance.now }
+    requires instance { bx.now.frame ≡ frame_of ground.instance.now }
     requires whole { IsTrue (all_decided bx.now.ranges) }
 {
-    let mut other = blank(alloc, instance)?;
-    Ok(probe(instance, map, bx, &mut other) != meets || other.steps.as_slice() != steps)
+    let mut other = blank(alloc, ground.instance)?;
+    let meets_again = probe(ground.instance, ground.map, bx, &mut other);
+    Ok(meets_again != meets || other.steps.as_slice() != steps)
 }
 
 /// Adds the trace at the least values of a box, and whether it meets the rules.
@@ -107,21 +92,19 @@ fn tell_probed(found: &mut String, steps: &[Step], meets: bool) -> Result<(), Al
 fn tell_probe(
     alloc: Global,
     found: &mut String,
-    instance: &Instance,
-    map: &DefectMap,
+    ground: Ground<'_>,
     leasts: &Leasts,
     bx: &PlanBox,
 ) -> anyhow::Result<()>
-    requires map { map.now ≡ instance.now.defects }
-    requires instance { bx.now.frame ≡ frame_of instance.now }
-    requires leasts { IsFor instance.now bx.now leasts.now }
+    requires instance { bx.now.frame ≡ frame_of ground.instance.now }
+    requires leasts { IsFor ground.instance.now bx.now leasts.now }
     requires whole { IsTrue (all_decided bx.now.ranges) }
 {
-    let mut trace = blank(alloc, instance)?;
-    let meets = probe_at(instance, map, leasts, bx, &mut trace);
+    let mut trace = blank(alloc, ground.instance)?;
+    let meets = probe_at(ground.instance, ground.map, leasts, bx, &mut trace);
     let steps = trace.steps.as_slice();
     tell_probed(found, steps, meets)?;
-    if is_probed_otherwise(alloc, instance, map, bx, steps, meets)? {
+    if is_probed_otherwise(alloc, ground, bx, steps, meets)? {
         writeln!(found, "another probe without leasts")?;
     }
     Ok(())
@@ -160,18 +143,16 @@ fn fill_anew(alloc: Global, instance: &Instance, leasts: &mut Leasts) -> Result<
 fn tell_filled(
     alloc: Global,
     found: &mut String,
-    instance: &Instance,
-    map: &DefectMap,
+    ground: Ground<'_>,
     leasts: &Leasts,
     bx: &PlanBox,
 ) -> anyhow::Result<()>
-    requires map { map.now ≡ instance.now.defects }
-    requires instance { bx.now.frame ≡ frame_of instance.now }
-    requires leasts { IsFor instance.now bx.now leasts.now }
+    requires instance { bx.now.frame ≡ frame_of ground.instance.now }
+    requires leasts { IsFor ground.instance.now bx.now leasts.now }
 {
-    tell_bounds(found, instance, map, leasts, bx)?;
+    tell_bounds(found, ground, leasts, bx)?;
     if bx.is_decided() {
-        tell_probe(alloc, found, instance, map, leasts, bx)?;
+        tell_probe(alloc, found, ground, leasts, bx)?;
     }
     if choose(bx).is_none() != bx.is_point() {
         writeln!(found, "another choice")?;
@@ -190,5 +171,9 @@ pub fn tell_found(
 {
     let map = DefectMap::new(alloc, instance)?;
     let leasts = leasts_of(alloc, found, instance, bx)?;
-    tell_filled(alloc, found, instance, &map, &leasts, bx)
+    let ground = Ground {
+        instance,
+        map: &map,
+    };
+    tell_filled(alloc, found, ground, &leasts, bx)
 }

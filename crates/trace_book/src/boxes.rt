@@ -5,33 +5,11 @@ ghost use Rattle.plan_box.specs.Frames.{frame_of};
 
 use crate::book::Half;
 use crate::bounds::tell_found;
+use crate::vars::VARS;
 use anyhow::{bail, ensure};
 use glass_base::Instance;
-use plan_box::{PlanBox, Var};
+use plan_box::PlanBox;
 use std::alloc::{AllocError, Global};
-
-/// The variables of a step with their words in the book.
-const VARS: [(Var, &str); 9] = [
-    (Var::Stack, "stack"),
-    (Var::Turn, "turn"),
-    (Var::Kind, "kind"),
-    (Var::Lift, "lift"),
-    (Var::A, "a"),
-    (Var::B, "b"),
-    (Var::C, "c"),
-    (Var::D, "d"),
-    (Var::E, "e"),
-];
-
-/// The variable with this word.
-pub fn var_of(word: &str) -> Option<Var> {
-    for (var, name) in VARS {
-        if name == word {
-            return Some(var);
-        }
-    }
-    None
-}
 
 /// The identities of the halves of the box with this one.
 fn halves_of(id: u64) -> (u64, u64) {

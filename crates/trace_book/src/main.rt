@@ -8,6 +8,7 @@ mod bounds;
 mod boxes;
 mod steps;
 mod telling;
+mod vars;
 
 use crate::answering::answer;
 use crate::book::{heading, is_wrong, read_case};

@@ -11,9 +11,9 @@ use Rattle.cert_log.specs.Trees.{is_left}
 use Rattle.cert_log.specs.Visits.{Visit}
 use Rattle.cert_check.specs.declared.verdict.Verdict.{Verdict}
 use Rattle.cert_check.specs.declared.verdict.Why.{Why}
-use Rattle.cert_check.specs.declared.walk.Tally.{Tally}
+use Rattle.cert_check.specs.declared.walk.NodeCounts.{NodeCounts}
 use Rattle.cert_check.specs.declared.walk.Walked.{Walked}
-use Rattle.cert_check.specs.declared.walk.Place.{Place}
+use Rattle.cert_check.specs.declared.walk.TextPlace.{TextPlace}
 use Rattle.plan_box.specs.Halves.{lower_half, upper_half, half_at}
 use Rattle.cert_check.specs.Faults.{IsFloorFault, IsNodeFault}
 
@@ -46,13 +46,13 @@ MayGo rs (Node.Closed cause) = Unit {0}
 MayGo rs Node.Left = Unit {0}
 
 -- the place behind one more node
-pub record Reads (version : ℕ) (n : Node) (old new : Place) : Type 0 where
+pub record Reads (version : ℕ) (n : Node) (old new : TextPlace) : Type 0 where
   pub line : new.line ≡ cond (joins version old.after_open n) old.line (old.line + 1)
   pub after_open : new.after_open ≡ is_left n
   pub few : new.line ≤ old.line + 1
 
 -- what is counted behind one more node at its box
-pub record Counts (b : Problem) (floor : ℕ) (n : Node) (rs : List Ranges) (old new : Tally) : Type 0 where
+pub record Counts (b : Problem) (floor : ℕ) (n : Node) (rs : List Ranges) (old new : NodeCounts) : Type 0 where
   pub least : new.least ≡ fold lesser old.least (node_bounds b floor rs n)
   pub left : new.left ≡ old.left + length (node_bounds b floor rs n)
   pub few : new.left ≤ old.left + 1
@@ -63,7 +63,7 @@ pub record HasCome (root : List Ranges) (nodes : List Node) (k : ℕ) (boxes : L
   pub nodes_are : map (λ x. x.node) done ≡ take k nodes
 
 -- the first nodes are walked and may stand at their boxes, and these boxes wait
-pub record IsWalking (b : Problem) (root : List Ranges) (loss : Option ℕ) (c : Certificate) (k : ℕ) (boxes : List (List Ranges)) (place : Place) (tally : Tally) : Type 0 where
+pub record IsWalking (b : Problem) (root : List Ranges) (loss : Option ℕ) (c : Certificate) (k : ℕ) (boxes : List (List Ranges)) (place : TextPlace) (tally : NodeCounts) : Type 0 where
   pub done : List Visit
   pub come : HasCome root c.nodes.items k boxes done
   pub passed : All (Passes b c.floor loss) done
@@ -81,7 +81,7 @@ Finds b root loss c (Walked.Whole tally) =
 Finds b root loss c (Walked.Fault line why) = IsNodeFault b loss c (visits_from (root ∷ []) c.nodes.items) line why
 
 -- what is said of what was counted
-abbrev pub Closes : Certificate → Tally → Option Why → Type 0
+abbrev pub Closes : Certificate → NodeCounts → Option Why → Type 0
 Closes c tally None = (c.left ≡ tally.left) × (c.bound ≡ tally.least)
 Closes c tally (Some why) =
     ((c.left ≢ tally.left) × (why ≡ Why.WrongOpen c.left tally.left))

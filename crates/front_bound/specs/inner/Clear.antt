@@ -3,11 +3,11 @@ use Rattle.std.specs.Prelude.{◌≡◌, ℕ, ◌+◌, ◌<◌, ◌≤◌, ◌�
 use Rattle.glass_base.specs.declared.item.Defect.{Defect}
 use Rattle.glass_base.specs.Plates.{Before, Width}
 use Rattle.glass_base.specs.Problem.{Problem}
-use Rattle.front_bound.specs.declared.labels.Label.{Label}
-use Rattle.front_bound.specs.declared.places.Piece.{Piece}
-use Rattle.front_bound.specs.declared.places.Place.{Place}
-use Rattle.front_bound.specs.inner.Pools.{HeldAt}
-use Rattle.front_bound.specs.inner.Sets.{HeldTo}
+use Rattle.front_table.specs.declared.labels.FrontLabel.{FrontLabel}
+use Rattle.front_bound.specs.declared.places.PieceToPlace.{PieceToPlace}
+use Rattle.front_bound.specs.declared.places.Corner.{Corner}
+use Rattle.front_table.specs.Pools.{HeldAt}
+use Rattle.front_table.specs.Sets.{HeldTo}
 
 -- these are defects of the plate
 unfoldable pub AreHoles : Problem → ℕ → List Defect → Type 0
@@ -25,24 +25,24 @@ unfoldable pub LineClear : List Defect → ℕ → ℕ → Type 0
 LineClear holes height x = (d : Defect) → Contains holes d → d.y0 < height → 0 < d.y1 → (x ≤ d.x0) ⊎ (d.x1 ≤ x)
 
 -- a defect's inside meets that of a piece at a place
-pub record Meets (d : Defect) (p : Piece) (at : Place) : Type 0 where
+pub record Meets (d : Defect) (p : PieceToPlace) (at : Corner) : Type 0 where
   pub left : d.x0 < at.x + p.wide
   pub right : at.x < d.x1
   pub low : d.y0 < at.y + p.high
   pub top : at.y < d.y1
 
 -- the piece can lie there
-pub record IsFree (holes : List Defect) (p : Piece) (left low : ℕ) : Type 0 where
+pub record IsFree (holes : List Defect) (p : PieceToPlace) (left low : ℕ) : Type 0 where
   pub room : left + p.wide ≤ p.room
   pub height : low + p.high ≤ p.height
   pub clear : Clear holes left low (left + p.wide) (low + p.high)
 
 -- one of the places is no further right and no higher
-unfoldable pub Covered : List Place → ℕ → ℕ → Type 0
-Covered places left low = (p : Place) × Contains places p × (p.x ≤ left) × (p.y ≤ low)
+unfoldable pub Covered : List Corner → ℕ → ℕ → Type 0
+Covered places left low = (p : Corner) × Contains places p × (p.x ≤ left) × (p.y ≤ low)
 
 -- right sides of a strip behind `begin`, whose sizes and reach a label stands for, are held
-unfoldable pub EndsPlaced : Problem → List Defect → ℕ → ℕ → List (List Label) → ℕ → ℕ → ℕ → List Label → Type 0
+unfoldable pub EndsPlaced : Problem → List Defect → ℕ → ℕ → List (List FrontLabel) → ℕ → ℕ → ℕ → List FrontLabel → Type 0
 EndsPlaced b holes far most sides m plate begin strips =
     (width right : ℕ) → HeldTo strips b.params.height width right b.params.height → begin + width ≤ right → right ≤ Width b plate → (right < Width b plate → LineClear holes b.params.height right) → Before b plate + right + far ≤ most
     → HeldAt sides m right plate

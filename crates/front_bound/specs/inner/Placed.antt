@@ -3,28 +3,28 @@ use Rattle.std.specs.Prelude.{◌≡◌, ℕ, ◌+◌, ◌*◌, ◌-◌, ◌<◌
 use Rattle.front_bound.specs.declared.stretch.Stretch.{Stretch}
 use Rattle.front_bound.specs.declared.stretch.Sought.{Sought}
 use Rattle.std.specs.Coded.{Π_prop, le_prop}
-use Rattle.front_bound.specs.declared.labels.Label.{Label}
-use Rattle.front_bound.specs.declared.moves.Move.{Move}
+use Rattle.front_table.specs.declared.labels.FrontLabel.{FrontLabel}
+use Rattle.front_table.specs.declared.moves.Move.{Move}
 use Rattle.front_bound.specs.inner.Clear.{Clear}
-use Rattle.front_bound.specs.inner.Ends.{Ended, Falls}
-use Rattle.front_bound.specs.inner.Lattice.{LeadDown, area_at, moves_at}
-use Rattle.front_bound.specs.inner.Levels.{bands_at, ends_at, list_at}
-use Rattle.front_bound.specs.inner.Lists.{Rises, HasBands}
-use Rattle.front_bound.specs.inner.Pools.{row_at}
-use Rattle.front_bound.specs.inner.Sets.{Fits, HeldTo, Stands}
+use Rattle.front_table.specs.Ends.{Ended, Falls}
+use Rattle.front_table.specs.Lattice.{LeadDown, area_at, moves_at}
+use Rattle.front_table.specs.Levels.{bands_at, ends_at, list_at}
+use Rattle.front_table.specs.Lists.{Rises, HasBands}
+use Rattle.front_table.specs.Pools.{row_at}
+use Rattle.front_table.specs.Sets.{Fits, HeldTo, Stands}
 
 -- what is known of the fronts that a search looks at
 pub record IsStretch (t : Stretch) : Type 0 where
-  pub len : length t.levels.now ≡ length t.rows.now
-  pub down : LeadDown t.rows.now
+  pub len : length t.fronts.levels.now ≡ length t.fronts.rows.now
+  pub down : LeadDown t.fronts.rows.now
   pub bound : t.limits.bound ≤ t.limits.top
-  pub falls : (n : ℕ) → n < length t.levels.now → Falls (ends_at t.levels.now n)
-  pub rises : (n : ℕ) → n < length t.levels.now → Rises (list_at t.levels.now n t.limits.class)
-  pub bands : (n : ℕ) → n < length t.levels.now → HasBands t.rows.now n t.limits.top (bands_at t.levels.now n) (list_at t.levels.now n t.limits.class)
+  pub falls : (n : ℕ) → n < length t.fronts.levels.now → Falls (ends_at t.fronts.levels.now n)
+  pub rises : (n : ℕ) → n < length t.fronts.levels.now → Rises (list_at t.fronts.levels.now n t.limits.class)
+  pub bands : (n : ℕ) → n < length t.fronts.levels.now → HasBands t.fronts.rows.now n t.limits.top (bands_at t.fronts.levels.now n) (list_at t.fronts.levels.now n t.limits.class)
 
 -- cells that lead to a row, `x` wide in a band `y` high, leave no more beside and over them than the band may
 abbrev pub IsLean : Stretch → Sought → ℕ → ℕ → ℕ → Type 0
-IsLean t s to x y = x * y + area_at t.rows.now to ≤ s.slack + area_at t.rows.now s.start
+IsLean t s to x y = x * y + area_at t.fronts.rows.now to ≤ s.slack + area_at t.fronts.rows.now s.start
 
 -- a cell can come behind cells that are `x` wide and end at `right`, in a band `y` high that ends at `up`: its items have a place there
 pub record CanJoin (t : Stretch) (s : Sought) (m : Move) (x w y right up left bottom : ℕ) : Type 0 where
@@ -40,23 +40,23 @@ pub record CanJoin (t : Stretch) (s : Sought) (m : Move) (x w y right up left bo
   pub lean : IsLean t s m.to (x + w) y
 
 -- what a label stands for goes on by the cell
-unfoldable pub CellJoined : Stretch → Sought → List (List Label) → Label → Move → Type 0
+unfoldable pub CellJoined : Stretch → Sought → List (List FrontLabel) → FrontLabel → Move → Type 0
 CellJoined t s pool label m =
     (x w y right up left bottom : ℕ) → Stands label x y right up → Fits m.label w y → CanJoin t s m x w y right up left bottom → HeldTo (row_at pool m.to) (x + w) y (left + m.label.along.least) up
 
 -- the same of all that is held at a row, and each of its cells
-unfoldable pub CellsGoOn : Stretch → Sought → List (List Label) → ℕ → List Move → Type 0
+unfoldable pub CellsGoOn : Stretch → Sought → List (List FrontLabel) → ℕ → List Move → Type 0
 CellsGoOn t s pool n moves =
     (x y right up : ℕ) → HeldTo (row_at pool n) x y right up → (m : Move) → Contains moves m → (w left bottom : ℕ) → Fits m.label w y → CanJoin t s m x w y right up left bottom
     → HeldTo (row_at pool m.to) (x + w) y (left + m.label.along.least) up
 
 -- all cells of the bands that are sought
-pub record CellsPlaced (t : Stretch) (s : Sought) (cells : List (List Label)) : Type 0 where
+pub record CellsPlaced (t : Stretch) (s : Sought) (cells : List (List FrontLabel)) : Type 0 where
   pub begun : (x y right up : ℕ) → (x ≡ 0) ⊎ (0 + t.site.waste ≤ x) → t.site.least ≤ y → t.site.left ≤ right → HeldTo (row_at cells s.start) x y right up
-  pub goes_on : (n : ℕ) → n ≤ s.start → CellsGoOn t s cells n (moves_at t.rows.now n)
+  pub goes_on : (n : ℕ) → n ≤ s.start → CellsGoOn t s cells n (moves_at t.fronts.rows.now n)
 
 -- these are the cells of bands from a row on
-abbrev pub AreCells : Stretch → ℕ → List (List Label) → Sought → Type 0
+abbrev pub AreCells : Stretch → ℕ → List (List FrontLabel) → Sought → Type 0
 AreCells t n cells s = (s.start ≡ n) × CellsPlaced t s cells
 
 -- a strip `w` wide, which with a band of height `d` reaches to `right` and `up`, can still end near enough
@@ -66,7 +66,7 @@ pub record CanEnd (t : Stretch) (to x d w right up : ℕ) : Type 0 where
   pub sum : x + d ≤ t.limits.height
   pub narrow : w ≤ t.limits.bound
   pub top : up ≤ t.limits.height
-  pub ends : Ended (ends_at t.levels.now to) area far
+  pub ends : Ended (ends_at t.fronts.levels.now to) area far
   pub within : area ≤ w * (t.limits.height - up)
   pub near : w + far ≤ t.limits.most
   pub reaches : right + far ≤ t.reach
@@ -77,62 +77,62 @@ pub record CanGoOn (t : Stretch) (n to x d w right low up : ℕ) : Type 0 where
   pub down : to < n
   pub above : low + d ≤ up
   pub area : ℕ
-  pub here : Ended (ends_at t.levels.now n) area end.far
+  pub here : Ended (ends_at t.fronts.levels.now n) area end.far
   pub within : area ≤ w * (t.limits.height - low)
-  pub split : area ≤ area_at t.rows.now n - area_at t.rows.now to + end.area
+  pub split : area ≤ area_at t.fronts.rows.now n - area_at t.fronts.rows.now to + end.area
 
 -- what a label stands for goes on by a band
-unfoldable pub BandJoined : Stretch → List (List Label) → Label → ℕ → Label → Type 0
+unfoldable pub BandJoined : Stretch → List (List FrontLabel) → FrontLabel → ℕ → FrontLabel → Type 0
 BandJoined t pool label to band =
     (x d w right low up : ℕ) → Stands label x w right low → Fits band d w → band.right ≤ right → band.up ≤ up → CanEnd t to x d w right up → HeldTo (row_at pool to) (x + d) w right up
 
 -- by the bands that cells make
-unfoldable pub RunJoined : Stretch → List (List Label) → ℕ → Label → ℕ → Label → Type 0
+unfoldable pub RunJoined : Stretch → List (List FrontLabel) → ℕ → FrontLabel → ℕ → FrontLabel → Type 0
 RunJoined t pool n label to cells =
     (x d w right low up : ℕ) → Stands label x w right low → Stands cells w d right up → CanGoOn t n to x d w right low up → HeldTo (row_at pool to) (x + d) w right up
 
-unfoldable pub RunsJoined : Stretch → List (List Label) → ℕ → Label → ℕ → List Label → Type 0
+unfoldable pub RunsJoined : Stretch → List (List FrontLabel) → ℕ → FrontLabel → ℕ → List FrontLabel → Type 0
 RunsJoined t pool n label to runs =
     (x d w right low up : ℕ) → Stands label x w right low → HeldTo runs w d right up → CanGoOn t n to x d w right low up → HeldTo (row_at pool to) (x + d) w right up
 
 -- by a band from a row on that no defect is in the way of
-unfoldable pub MoveJoined : Stretch → List (List Label) → ℕ → Label → Move → Type 0
+unfoldable pub MoveJoined : Stretch → List (List FrontLabel) → ℕ → FrontLabel → Move → Type 0
 MoveJoined t pool n label m =
     (x d w right low up : ℕ) → Stands label x w right low → Fits m.label d w → CanGoOn t n m.to x d w right low up → HeldTo (row_at pool m.to) (x + d) w right up
 
 -- by the band at a place
-unfoldable pub EntryJoined : Stretch → List (List Label) → ℕ → Label → ℕ → Type 0
-EntryJoined t pool n label place = (m : Move) → slice_get (bands_at t.levels.now n) place ≡ Some m → MoveJoined t pool n label m
+unfoldable pub EntryJoined : Stretch → List (List FrontLabel) → ℕ → FrontLabel → ℕ → Type 0
+EntryJoined t pool n label place = (m : Move) → slice_get (bands_at t.fronts.levels.now n) place ≡ Some m → MoveJoined t pool n label m
 
 -- no band by which a label of a row can go on leaves more than this in the widest strip
-unfoldable pub IsSlack : Stretch → ℕ → Label → ℕ → Type 0
-IsSlack t n label slack = (to x d w right low up : ℕ) → Stands label x w right low → CanGoOn t n to x d w right low up → t.limits.top * d - (area_at t.rows.now n - area_at t.rows.now to) ≤ slack
+unfoldable pub IsSlack : Stretch → ℕ → FrontLabel → ℕ → Type 0
+IsSlack t n label slack = (to x d w right low up : ℕ) → Stands label x w right low → CanGoOn t n to x d w right low up → t.limits.top * d - (area_at t.fronts.rows.now n - area_at t.fronts.rows.now to) ≤ slack
 
 -- that is known in one way at the most
-pub IsSlack-prop : (t : Stretch) (n : ℕ) (label : Label) (slack : ℕ) → IsProp (IsSlack t n label slack)
+pub IsSlack-prop : (t : Stretch) (n : ℕ) (label : FrontLabel) (slack : ℕ) → IsProp (IsSlack t n label slack)
 unfolding IsSlack
 IsSlack-prop t n label slack = Π_prop (λ to. Π_prop (λ x. Π_prop (λ d. Π_prop (λ w. Π_prop (λ right. Π_prop (λ low. Π_prop (λ up. Π_prop (λ own. Π_prop (λ can. le_prop)))))))))
 
 -- there is no such band
-unfoldable pub NoneGoesOn : Stretch → ℕ → Label → Type 0
+unfoldable pub NoneGoesOn : Stretch → ℕ → FrontLabel → Type 0
 NoneGoesOn t n label = (to x d w right low up : ℕ) → Stands label x w right low → CanGoOn t n to x d w right low up → ⊥
 
 -- a label of a row goes on by each band, where no defect is above
-unfoldable pub MovesExtended : Stretch → List (List Label) → ℕ → Label → Type 0
-MovesExtended t pool n label = (m : Move) → Contains (bands_at t.levels.now n) m → MoveJoined t pool n label m
+unfoldable pub MovesExtended : Stretch → List (List FrontLabel) → ℕ → FrontLabel → Type 0
+MovesExtended t pool n label = (m : Move) → Contains (bands_at t.fronts.levels.now n) m → MoveJoined t pool n label m
 
 -- by each band whose items have places
-pub record RunsExtended (t : Stretch) (pool : List (List Label)) (n : ℕ) (label : Label) : Type 0 where
+pub record RunsExtended (t : Stretch) (pool : List (List FrontLabel)) (n : ℕ) (label : FrontLabel) : Type 0 where
   pub sought : Sought
-  pub cells : List (List Label)
+  pub cells : List (List FrontLabel)
   pub are : AreCells t n cells sought
   pub low : sought.low ≤ label.up
   pub slack : IsSlack t n label sought.slack
   pub joined : (to : ℕ) → to < n → RunsJoined t pool n label to (row_at cells to)
 
-abbrev pub Extended : Stretch → List (List Label) → ℕ → Label → Type 0
+abbrev pub Extended : Stretch → List (List FrontLabel) → ℕ → FrontLabel → Type 0
 Extended t pool n label = MovesExtended t pool n label ⊎ RunsExtended t pool n label
 
 -- each label of a row is
-unfoldable pub RowPlaced : Stretch → List (List Label) → ℕ → Type 0
-RowPlaced t pool n = (k : ℕ) (d : Label) → k < length (row_at pool n) → Extended t pool n (slice_index_or (row_at pool n) k d)
+unfoldable pub RowPlaced : Stretch → List (List FrontLabel) → ℕ → Type 0
+RowPlaced t pool n = (k : ℕ) (d : FrontLabel) → k < length (row_at pool n) → Extended t pool n (slice_index_or (row_at pool n) k d)

@@ -11,12 +11,12 @@ use Rattle.run_frame.specs.Forms.{answer_in, texts_in}
 -- only a command that searches asks for a search
 abbrev pub MaySearch : Line → Asked → Type 0
 MaySearch line (asked.Reply reply) = Unit {0}
-MaySearch line (asked.Search instance texts) = Searches line.verb
+MaySearch line (asked.Search grounded texts) = Searches line.verb
 
 -- its reply is a right answer; or what answers the instance is one
 abbrev pub IsAskedFor : (Answer → Type 0) → Line → Asked → Type 0
 IsAskedFor IsRight line (asked.Reply reply) = IsRight (answer_in (stored_as line) reply)
-IsAskedFor IsRight line (asked.Search instance texts) = (answer : Answer) → AnswersInstance line.verb line (texts_in texts.items) instance answer → IsRight answer
+IsAskedFor IsRight line (asked.Search grounded texts) = (answer : Answer) → AnswersInstance line.verb line (texts_in texts.items) grounded.instance answer → IsRight answer
 
 -- it comes to this with these texts
 abbrev pub IsAsked : Line → Texts → Asked → Type 0

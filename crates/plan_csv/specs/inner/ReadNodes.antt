@@ -15,7 +15,7 @@ use Rattle.plan_csv.specs.declared.bad_plan.BadPlan.TheVariants as bad
 use Rattle.csv_table.specs.Readings.{◌>>=◌}
 use Rattle.plan_csv.specs.PlanRows.{row_in}
 use Rattle.plan_csv.specs.PlanTexts.{cell_refusal, filled_by, grown, lies, names_branch, or_refusal, row_refusal}
-use Rattle.plan_csv.specs.declared.nodes.Node.{Node}
+use Rattle.plan_csv.specs.declared.nodes.KeptRow.{KeptRow}
 use Rattle.plan_csv.specs.declared.nodes.Nodes.{Nodes}
 use Rattle.glass_base.specs.declared.limits.TheConstants.{MOST_SIDE}
 
@@ -47,7 +47,7 @@ pub record IsRoot (rows : List Row) (r : Row) : Type 0 where
   pub branch : names_branch r.kind ≡ true
 
 -- what is kept of the row of this number: the row, its children, and the sum of their sizes
-pub record IsNode (rows : List Row) (number : ℕ) (n : Node) : Type 0 where
+pub record IsNode (rows : List Row) (number : ℕ) (n : KeptRow) : Type 0 where
   pub found : row_with number rows ≡ Some n.row
   pub number_is : n.row.node ≡ number
   pub children_are : n.children.items ≡ rows_in number rows
@@ -56,7 +56,7 @@ pub record IsNode (rows : List Row) (number : ℕ) (n : Node) : Type 0 where
   pub low : n.filled ≤ MOST_SIDE
 
 -- what is kept of a number: nothing, where no row has it
-abbrev pub IsNamed : List Row → ℕ → Option Node → Type 0
+abbrev pub IsNamed : List Row → ℕ → Option KeptRow → Type 0
 IsNamed rows number None = (row_with number rows ≡ None) × (rows_in number rows ≡ [])
 IsNamed rows number (Some n) = IsNode rows number n
 
@@ -87,19 +87,19 @@ pub record MayFollow (rows : List Row) (r : Row) : Type 0 where
   pub placed : IsPlaced rows r r.cut r.parent
 
 -- a node has one child more
-pub record HasGained (r : Row) (n m : Node) : Type 0 where
+pub record HasGained (r : Row) (n m : KeptRow) : Type 0 where
   pub row_is : m.row ≡ n.row
   pub children_are : m.children.items ≡ n.children.items ++ r ∷ []
   pub filled_is : m.filled ≡ n.filled + side_filled r
 
 -- this of a node, which there is
-abbrev pub Gained : Row → Option Node → Option Node → Type 0
+abbrev pub Gained : Row → Option KeptRow → Option KeptRow → Type 0
 Gained r None m = ⊥
 Gained r (Some n) None = ⊥
 Gained r (Some n) (Some m) = HasGained r n m
 
 -- the node of this number has one child more, and the others are as before
-pub record HasNewChild (r : Row) (parent : ℕ) (old new : ℕ → Option Node) : Type 0 where
+pub record HasNewChild (r : Row) (parent : ℕ) (old new : ℕ → Option KeptRow) : Type 0 where
   pub child : Gained r (old parent) (new parent)
   pub others : (number : ℕ) → number ≢ parent → new number ≡ old number
 
@@ -111,7 +111,7 @@ IsAttached r (Some parent) old new =
     (new.plates.items ≡ old.plates.items) × HasNewChild r parent (get nat_cmp old.named) (get nat_cmp new.named)
 
 -- there is a node, with room for a row
-abbrev pub HasSpace : Row → Option Node → Type 0
+abbrev pub HasSpace : Row → Option KeptRow → Type 0
 HasSpace r None = ⊥
 HasSpace r (Some n) = n.filled + side_filled r ≤ MOST_SIDE
 

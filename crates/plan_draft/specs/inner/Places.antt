@@ -7,7 +7,7 @@ use Rattle.defect_map.specs.Queries.{CrossesNoneX, CrossesNoneY, HitsNone}
 use Rattle.plan_trace.specs.Marks.{item_height, item_width}
 use Rattle.plan_trace.specs.TraceRules.{Gap}
 use Rattle.plan_draft.specs.declared.place.Band.{Band}
-use Rattle.plan_draft.specs.declared.place.Place.{Place}
+use Rattle.plan_draft.specs.declared.place.ItemPlace.{ItemPlace}
 use Rattle.plan_draft.specs.Drafts.{NotAfter}
 use Rattle.plan_draft.specs.inner.Least.{IsLeast}
 
@@ -86,18 +86,18 @@ pub record IsTurn (item : Item) (turn : ℕ) : Type 0 where
   pub square : item.length ≡ item.width → turn ≡ 0
 
 -- the numbers by which places are compared, the first that differs deciding
-abbrev pub rank_of : Place → List ℕ
+abbrev pub rank_of : ItemPlace → List ℕ
 rank_of p = p.b ∷ p.a ∷ p.c ∷ p.d ∷ p.turn ∷ []
 
 -- the place has this property, and none that has it comes before
-abbrev pub IsFirstOf : (Place → Type 0) → Place → Type 0
-IsFirstOf P p = P p × ((q : Place) → P q → NotAfter (rank_of p) (rank_of q))
+abbrev pub IsFirstOf : (ItemPlace → Type 0) → ItemPlace → Type 0
+IsFirstOf P p = P p × ((q : ItemPlace) → P q → NotAfter (rank_of p) (rank_of q))
 
-abbrev pub HasNoPlace : (Place → Type 0) → Type 0
-HasNoPlace P = (p : Place) → ¬ P p
+abbrev pub HasNoPlace : (ItemPlace → Type 0) → Type 0
+HasNoPlace P = (p : ItemPlace) → ¬ P p
 
 -- at this left side and in this turn an item of these sides may stand so
-pub record StandsSo (b : Problem) (plate a turn w h : ℕ) (p : Place) : Type 0 where
+pub record StandsSo (b : Problem) (plate a turn w h : ℕ) (p : ItemPlace) : Type 0 where
   pub a_is : p.a ≡ a
   pub turn_is : p.turn ≡ turn
   pub wide : a + b.params.min1 ≤ p.b
@@ -107,19 +107,19 @@ pub record StandsSo (b : Problem) (plate a turn w h : ℕ) (p : Place) : Type 0 
   pub top : IsTopOf b plate a p.b w h p.c p.d
 
 -- in a strip that ends here
-abbrev pub StandsTo : Problem → ℕ → ℕ → ℕ → ℕ → ℕ → ℕ → Place → Type 0
+abbrev pub StandsTo : Problem → ℕ → ℕ → ℕ → ℕ → ℕ → ℕ → ItemPlace → Type 0
 StandsTo b plate a turn w h right p = StandsSo b plate a turn w h p × (p.b ≡ right)
 
 -- with a waste beside it
-abbrev pub StandsBeside : Problem → ℕ → ℕ → ℕ → ℕ → ℕ → Place → Type 0
+abbrev pub StandsBeside : Problem → ℕ → ℕ → ℕ → ℕ → ℕ → ItemPlace → Type 0
 StandsBeside b plate a turn w h p = StandsSo b plate a turn w h p × (a + w + b.params.waste ≤ p.b)
 
 -- at this left side, in one of its turns
-abbrev pub StandsAt : Problem → ℕ → ℕ → Item → Place → Type 0
+abbrev pub StandsAt : Problem → ℕ → ℕ → Item → ItemPlace → Type 0
 StandsAt b plate a item p = IsTurn item p.turn × StandsSo b plate a p.turn (item_width p.turn (Some item)) (item_height p.turn (Some item)) p
 
 -- the item may stand so, behind what ends at `from`
-pub record IsPlace (b : Problem) (plate from : ℕ) (item : Item) (p : Place) : Type 0 where
+pub record IsPlace (b : Problem) (plate from : ℕ) (item : Item) (p : ItemPlace) : Type 0 where
   pub left : IsLeft b plate from p.a
   pub stands : StandsAt b plate p.a item p
 
@@ -130,16 +130,16 @@ not_after (n ∷ numbers) [] = false
 not_after (n ∷ numbers) (m ∷ others) = cond (n == m) (not_after numbers others) (nat_lt n m)
 
 -- the one of two places that comes first
-abbrev pub lesser : Option Place → Option Place → Option Place
+abbrev pub lesser : Option ItemPlace → Option ItemPlace → Option ItemPlace
 lesser None other = other
 lesser (Some p) None = Some p
 lesser (Some p) (Some q) = cond (not_after (rank_of p) (rank_of q)) (Some p) (Some q)
 
 -- where a strip can begin no further right: the plate's end, or the right side of a place
-abbrev pub end_of : ℕ → Option Place → ℕ
+abbrev pub end_of : ℕ → Option ItemPlace → ℕ
 end_of width None = width
 end_of width (Some p) = p.b
 
 -- this is the first of the places whose strip begins before `left`, and they end on the plate
-pub record IsBestBefore (b : Problem) (plate from : ℕ) (item : Item) (left : ℕ) (best : Option Place) : Type 0 where
+pub record IsBestBefore (b : Problem) (plate from : ℕ) (item : Item) (left : ℕ) (best : Option ItemPlace) : Type 0 where
   pub first : MatchOption best (HasNoPlace (λ p. IsPlace b plate from item p × (p.a < left))) (IsFirstOf (λ p. IsPlace b plate from item p × (p.a < left)))

@@ -3,12 +3,12 @@ use Rattle.std.specs.Prelude.{◌≡◌, ℕ, ◌-◌, ◌<◌, ◌≤◌, ◌�
 use Rattle.glass_base.specs.declared.item.Item.{Item}
 use Rattle.glass_base.specs.Problem.{Problem}
 use Rattle.cut_model.specs.declared.steps.Step.{Step}
-use Rattle.plan_draft.specs.declared.place.Place.{Place}
+use Rattle.plan_draft.specs.declared.place.ItemPlace.{ItemPlace}
 use Rattle.plan_draft.specs.Drafts.{NotAfter, StandsAlone, rank}
 use Rattle.plan_draft.specs.inner.Places.{IsPlace}
 
 -- the place of a step
-abbrev pub place_in : Step → Place
+abbrev pub place_in : Step → ItemPlace
 place_in s = record { a = s.a; b = s.b; c = s.c; d = s.d; turn = s.turn }
 
 -- on the last of the plates begun, behind what ends at `right`, or on the next plate

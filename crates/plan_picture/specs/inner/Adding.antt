@@ -5,7 +5,7 @@ use Rattle.glass_base.specs.declared.item.Defect.{Defect}
 use Rattle.glass_base.specs.Problem.{Problem}
 use Rattle.cut_model.specs.declared.family.Row.{Row}
 use Rattle.plan_picture.specs.declared.mark.Key.{Key}
-use Rattle.plan_picture.specs.declared.mark.Label.{Label}
+use Rattle.plan_picture.specs.declared.mark.PlacedText.{PlacedText}
 use Rattle.plan_picture.specs.declared.mark.Words.{Words}
 use Rattle.plan_picture.specs.declared.mark.Words.TheVariants as words
 use Rattle.plan_picture.specs.Pictures.{middle}
@@ -32,7 +32,7 @@ with_outlines t struck rows = record t {
 }
 
 -- what lines of text say
-abbrev pub words_in : List Label → List Words
+abbrev pub words_in : List PlacedText → List Words
 words_in labels = map (λ l. l.words) labels
 
 -- the key of the legend
@@ -40,7 +40,7 @@ abbrev pub key_words : List Words
 key_words = map (λ key. words.Key key) (Key.Stacks ∷ Key.Waste ∷ Key.Residual ∷ Key.Defect ∷ Key.Turned ∷ Key.Cuts ∷ [])
 
 -- lines of text to which some were added, each of which says what is true of this row
-pub record AddsTrue (b : Problem) (row : Row) (old new : List Label) : Type 0 where
+pub record AddsTrue (b : Problem) (row : Row) (old new : List PlacedText) : Type 0 where
   pub more : List Words
   pub after : words_in new ≡ words_in old ++ more
   pub are_true : All (IsTrueOf b row) more

@@ -6,7 +6,7 @@ use Rattle.cut_model.specs.declared.broken.Broken.{Broken}
 use Rattle.cut_model.specs.declared.family.Row.{Row}
 use Rattle.plan_picture.specs.declared.canvas.Canvas.{Canvas}
 use Rattle.plan_picture.specs.declared.layout.Layout.{Layout}
-use Rattle.plan_picture.specs.declared.mark.Look.{Look}
+use Rattle.plan_picture.specs.declared.mark.PieceLook.{PieceLook}
 use Rattle.plan_picture.specs.declared.mark.Mark.TheVariants as mark
 use Rattle.plan_picture.specs.declared.mark.Words.{Words}
 use Rattle.plan_picture.specs.Pictures.{defects_on, drawn, is_breach, is_plate, middle, plates_in, struck_by}
@@ -52,7 +52,7 @@ abbrev pub turned_to : Problem → Option Broken → Layout → Sketch → ℕ �
 turned_to b breach layout s plate = if is_plate s.plate plate then s else opened b layout (closed b breach s) plate
 
 -- a row was drawn, and noted what is drawn over it
-pub record HasDrawn (b : Problem) (breach : Option Broken) (row : Row) (how : Look) (old new : Sketch) : Type 0 where
+pub record HasDrawn (b : Problem) (breach : Option Broken) (row : Row) (how : PieceLook) (old new : Sketch) : Type 0 where
   pub more : List Words
   pub are_true : All (IsTrueOf b row) more
   pub after : new ≡ record old {

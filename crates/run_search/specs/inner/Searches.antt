@@ -6,6 +6,9 @@ use Rattle.glass_base.specs.declared.role.Role.TheVariants as role
 use Rattle.cut_model.specs.declared.steps.Step.{Step}
 use Rattle.cut_model.specs.Loss.{loss_of as plan_loss}
 use Rattle.cut_model.specs.Tree.{Forest, count}
+use Rattle.cut_model.specs.declared.steps.Trace.{Trace}
+use Rattle.plan_box.specs.Frames.{frame_of}
+use Rattle.plan_box.specs.Ranges.{PlainBox, root_of}
 use Rattle.plan_draft.specs.Drafts.{IsDraft}
 use Rattle.best_board.specs.declared.entry.Entry.{Entry}
 use Rattle.best_board.specs.Improvements.{AreImprovements, Found, found_in, last_loss}
@@ -16,14 +19,25 @@ use Rattle.cert_log.specs.Lawful.{IsLawful, loss_of, no_loss, trace_loss}
 use Rattle.cert_log.specs.Outcomes.{IsHead}
 use Rattle.cert_log.specs.Splits.{IsSearched}
 use Rattle.cert_log.specs.Texts.{head_of}
+use Rattle.box_workers.specs.Runs.{first_loss}
 use Rattle.plan_csv.specs.Solutions.{solution_text}
 use Rattle.plan_freeze.specs.Frozen.{later_plates}
 use Rattle.plan_freeze.specs.Rests.{IsRest}
 use Rattle.run_search.specs.Freezes.{IsFoundFrom}
-use Rattle.run_search.specs.Plans.{AreTold, IsFound, course, handled}
+use Rattle.run_search.specs.Plans.{AreTold, IsFound, course, course_from, handled}
 use Rattle.run_checks.specs.Checks.{root_ranges}
 use Rattle.run_checks.specs.Said.{IsPlanIn}
 use Rattle.run_frame.specs.Texts.{limit_of}
+
+-- the boxes that a search of all plans begins with
+abbrev pub all_plans : Problem → List PlainBox
+all_plans b = root_of (frame_of b) 0 ∷ []
+
+-- a lawful history of a search of these boxes, which may handle so many and has this floor: it was to beat the loss of the first plan,
+-- which is known where there is one
+pub record IsHistoryOf (b : Problem) (boxes : List PlainBox) (first : Option Trace) (budget floor : ℕ) (h : History) : Type 0 where
+  pub lawful : IsLawful b (course_from boxes (first_loss b first) budget floor) h
+  pub known : IfSome first (λ _. first_loss b first < no_loss)
 
 -- where there is a draft, the loss is known, and no greater than the draft's
 abbrev pub IsNoGreater : Problem → ℕ → Type 0

@@ -10,6 +10,6 @@ abbrev pub invariant-loop-i : goal.invariant-loop-i
 invariant-loop-i l = record {
   many : length l.seen.items ≡ length l.initial.seen.items;
   last : late_fixed l.last ≡ before_fixed (fixed NewPlate no_known) (map late_fixed l.steps) l.i;
-  found : IsFirstIfAny (λ reason. AmongFixed (FactOf l.ground.instance.now l.whole reason) NewPlate no_known (map late_fixed l.steps) l.i) l.found;
-  seen : AreSeen l.ground.instance.now l.whole (map late_fixed l.steps) l.seen.items l.i;
+  found : IsFirstIfAny (λ reason. AmongFixed (FactOf l.asked.ground.instance.now l.asked.whole reason) NewPlate no_known (map late_fixed l.steps) l.i) l.found;
+  seen : AreSeen l.asked.ground.instance.now l.asked.whole (map late_fixed l.steps) l.seen.items l.i;
 }

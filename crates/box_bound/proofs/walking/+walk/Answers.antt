@@ -13,12 +13,12 @@ use Rattle.box_bound.proofs.walking.+walk.Goals as goal
 pub walk-behind-requires : goal.walk-behind-requires
 walk-behind-requires t c =
     let lt : c.args.at < length c.args.ranges.now = omega (arith, c.if-at-ranges.false, c.requires.inside) in
-    let within = step_within c.args.ground.instance.now c.items-items.ensures.rules c.args.ranges.now c.args.at (c.args.at + 1) (early c.args.last.now) c.next-step.result blank.ranges lt refl c.requires.ranges c.requires.within c.next-step.ensures.value in
+    let within = step_within c.args.asked.ground.instance.now c.items-items.ensures.rules c.args.ranges.now c.args.at (c.args.at + 1) (early c.args.last.now) c.next-step.result blank.ranges lt refl c.requires.ranges c.requires.within c.next-step.ensures.value in
     (omega (arith, c.decreases, lt), (c.requires.few, (c.requires.room, (omega (arith, lt), (c.requires.ranges, within)))))
 
 pub returns-clause-first : goal.returns-clause-first
 returns-clause-first t c =
-    let b = c.args.ground.instance.now in
+    let b = c.args.asked.ground.instance.now in
     let ranges = c.args.ranges.now in
     let y = c.next-step.result in
     let one = steps_one b ranges c.args.at (early c.args.last.now) y blank.ranges (omega (arith, c.if-at-ranges.false, c.requires.inside)) c.next-step.ensures.value in
@@ -27,7 +27,7 @@ returns-clause-first t c =
 
 pub returns-clause-within : goal.returns-clause-within
 returns-clause-within t c =
-    let b = c.args.ground.instance.now in
+    let b = c.args.asked.ground.instance.now in
     let ranges = c.args.ranges.now in
     let y = c.next-step.result in
     let one = steps_one b ranges c.args.at (early c.args.last.now) y blank.ranges (omega (arith, c.if-at-ranges.false, c.requires.inside)) c.next-step.ensures.value in
@@ -37,18 +37,18 @@ returns-clause-within t c =
 
 pub returns-clause-seen : goal.returns-clause-seen
 returns-clause-seen t c =
-    let b = c.args.ground.instance.now in
+    let b = c.args.asked.ground.instance.now in
     let ranges = c.args.ranges.now in
     let y = c.next-step.result in
     let later = steps_from b ranges (c.args.at + 1) (early y) in
     let one = steps_one b ranges c.args.at (early c.args.last.now) y blank.ranges (omega (arith, c.if-at-ranges.false, c.requires.inside)) c.next-step.ensures.value in
-    seen_is (FactOf b c.args.whole) c.settled_before-here.result y c.settled_before-here.result.ends (steps_from b ranges c.args.at (early c.args.last.now)) later c.seen_behind-seen.result c.settled_before-here.ensures.ends
+    seen_is (FactOf b c.args.asked.whole) c.settled_before-here.result y c.settled_before-here.result.ends (steps_from b ranges c.args.at (early c.args.last.now)) later c.seen_behind-seen.result c.settled_before-here.ensures.ends
     (c.settled_before-here.ensures.late later c.walk-behind.ensures.first) one
     (c.seen_behind-seen.ensures later c.walk-behind.ensures.first (subst (λ (rs : List Packed). AreLevels later rs) (sym (take_rest ranges (c.args.at + 1))) (are_levels b (draws_of (take (c.args.at + 1) ranges)) (early y) (drop (c.args.at + 1) ranges))) c.walk-behind.ensures.seen)
 
 pub returns-clause-steps : goal.returns-clause-steps
 returns-clause-steps t c =
-    let b = c.args.ground.instance.now in
+    let b = c.args.asked.ground.instance.now in
     let ranges = c.args.ranges.now in
     let at = c.args.at in
     let y = c.next-step.result in

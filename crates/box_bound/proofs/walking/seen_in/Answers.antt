@@ -13,9 +13,9 @@ use Rattle.box_bound.proofs.walking.seen_in.Goals as goal
 
 pub returns-clause-seen : goal.returns-clause-seen
 returns-clause-seen c =
-    let b = c.args.ground.instance.now in
+    let b = c.args.asked.ground.instance.now in
     let ranges = c.args.ranges.now in
-    let whole = c.args.whole in
+    let whole = c.args.asked.whole in
     let none = c.before_all-before.result in
     let k : Known = early none in
     let found = c.seen_behind.ensures (steps_from b ranges 0 k) c.walk-behind.ensures.first (are_levels b [] k ranges) c.walk-behind.ensures.seen in

@@ -13,5 +13,5 @@ returns-then-workers-eq1-clause-frames g c =
 
 pub returns-then-workers-eq1-clause-begun : goal.returns-then-workers-eq1-clause-begun
 returns-then-workers-eq1-clause-begun g c =
-    let begun = begun_none c.args.desk.now.ground.instance.now c.args.desk.now.shared.now _ c.args.start.items c.args.workers c.args.seat.now c.args.hand.now c.requires.newcomer c.requires.hand.0 c.requires.hand.1 c.args.desk.now.limits.1 (search rules) in
-    subst (HasBegun c.args.desk.now.ground.instance.now c.args.desk.now.shared.now _ c.args.start.items c.args.workers c.args.seat.now c.args.seat.now c.args.hand.now c.args.hand.now) (sym c.reverse.ensures.items) begun
+    let begun = begun_none c.args.desk.now.ground.instance.now c.args.desk.now.shared.now _ c.args.start.items c.args.workers.now.count c.args.seat.now c.args.hand.now c.requires.newcomer c.requires.hand.0 c.requires.hand.1 c.args.desk.now.limits.1 (search rules) in
+    subst (HasBegun c.args.desk.now.ground.instance.now c.args.desk.now.shared.now _ c.args.start.items c.args.workers.now.count c.args.seat.now c.args.seat.now c.args.hand.now c.args.hand.now) (sym c.reverse.ensures.items) begun

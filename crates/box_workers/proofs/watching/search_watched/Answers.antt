@@ -32,7 +32,7 @@ returns-clause-seat g c = IfOk-weaker c.tell.result _ _ (λ r e. c.in_ok-history
 
 pub returns-clause-shows : goal.returns-clause-shows
 returns-clause-shows g c =
-    IfOk-weaker c.tell.result _ _ (λ r e. subst (Shows c.args.instance.now c.args.shared.now c.args.start.items c.args.workers c.search_with.new.seat.view) (sym e) c.in_ok-history.ensures.shows) c.tell.ensures.history
+    IfOk-weaker c.tell.result _ _ (λ r e. subst (Shows c.args.instance.now c.args.shared.now c.args.start.items c.args.workers c.search_posting.new.seat.view) (sym e) c.in_ok-history.ensures.shows) c.tell.ensures.history
 
 pub returns-clause-improvements : goal.returns-clause-improvements
 returns-clause-improvements g c =

@@ -11,7 +11,7 @@ use Rattle.cert_check.proofs.refuting.is_fact_at_some.Goals as goal
 
 pub loop-i-preserved : goal.loop-i-preserved
 loop-i-preserved c =
-    let R = FactOf c.args.ground.instance.now c.args.whole c.args.reason in
+    let R = FactOf c.args.asked.ground.instance.now c.args.asked.whole c.args.reason in
     let steps = c.args.steps.now in
     let k = get_or steps c.loop-i.i nothing in
     let test : IsTrue c.is_fact_at.result ↔ R c.loop-i.last.level (known_in c.loop-i.last) k.level (known_in k) (levels_in (drop (c.loop-i.i + 1) steps)) =
@@ -21,7 +21,7 @@ loop-i-preserved c =
 
 pub returns-then-is_fact_at : goal.returns-then-is_fact_at
 returns-then-is_fact_at c =
-    let R = FactOf c.args.ground.instance.now c.args.whole c.args.reason in
+    let R = FactOf c.args.asked.ground.instance.now c.args.asked.whole c.args.reason in
     let steps = c.args.steps.now in
     let k = get_or steps c.loop-i.i nothing in
     let test : IsTrue c.is_fact_at.result ↔ R c.loop-i.last.level (known_in c.loop-i.last) k.level (known_in k) (levels_in (drop (c.loop-i.i + 1) steps)) =
@@ -30,5 +30,5 @@ returns-then-is_fact_at c =
 
 pub returns : goal.returns
 returns c =
-    let R = FactOf c.args.ground.instance.now c.args.whole c.args.reason in
+    let R = FactOf c.args.asked.ground.instance.now c.args.asked.whole c.args.reason in
     (λ h. absurd (cc h), λ some. absurd (some_none R c.loop-i.last.level (known_in c.loop-i.last) c.args.steps.now c.loop-i.i (omega arith) (c.loop-i.invariant.1 some)))

@@ -8,5 +8,5 @@ use Rattle.cert_check.proofs.refuting.is_fact_at_some.Given as goal
 
 abbrev pub invariant-loop-i : goal.invariant-loop-i
 invariant-loop-i l =
-    SomeFixed (FactOf l.ground.instance.now l.whole l.reason) l.last.level (known_in l.last) (map fixed_of (drop l.i l.steps))
-    ↔ SomeFixed (FactOf l.ground.instance.now l.whole l.reason) NewPlate no_known (map fixed_of l.steps)
+    SomeFixed (FactOf l.asked.ground.instance.now l.asked.whole l.reason) l.last.level (known_in l.last) (map fixed_of (drop l.i l.steps))
+    ↔ SomeFixed (FactOf l.asked.ground.instance.now l.asked.whole l.reason) NewPlate no_known (map fixed_of l.steps)

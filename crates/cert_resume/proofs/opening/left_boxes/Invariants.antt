@@ -8,4 +8,4 @@ use Rattle.cert_resume.proofs.opening.left_boxes.Given as goal
 abbrev pub invariant-loop-node : goal.invariant-loop-node
 invariant-loop-node l =
     let f = frame_of l.instance in
-    HasCome f (numbered_from f 0 (open_from ((root_of f 0).ranges ∷ []) l.cert.nodes.items)) (drop l.node-index l.cert.nodes.items) l.waiting.items l.boxes.items
+    HasCome f (numbered_from f 0 (open_from ((root_of f 0).ranges ∷ []) l.cert.nodes.items)) (drop l.node-index l.cert.nodes.items) l.boxes.waiting.items l.boxes.left.items

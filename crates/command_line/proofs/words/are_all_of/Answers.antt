@@ -3,7 +3,7 @@ use Rattle.std.specs.String.{string_bytes}
 use Rattle.std.proofs.lemmas.Iterator.{YieldsList-from_slice}
 use Rattle.std.proofs.lemmas.Iterator.Search.{all_from_yields_List}
 use Rattle.std.proofs.lemmas.List.Folds.{list_all-map}
-use Rattle.command_line.specs.Grammar.{is_any_of}
+use Rattle.command_line.specs.Words.{is_any_of}
 use Rattle.command_line.proofs.words.are_all_of.Goals as goal
 
 pub returns : goal.returns

@@ -4,6 +4,6 @@ use Rattle.front_bound.proofs.bounds.longest.Given as goal
 
 abbrev pub invariant-loop : goal.invariant-loop
 invariant-loop g l = record {
-  shown : NoCourseShorter l.instance l.shown;
+  shown : NoCourseShorter l.fronts.instance.now l.shown;
   most : l.shown ≤ l.fn.most;
 }

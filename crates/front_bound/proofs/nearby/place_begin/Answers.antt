@@ -2,26 +2,27 @@ use Rattle.std.proofs.Common.{[], ◌∷◌, sym, ap, subst, arith}
 use Rattle.std.proofs.Math.Logic.{∥∥₁_map}
 use Rattle.glass_base.specs.declared.params.Params.{Params}
 use Rattle.front_bound.specs.inner.Clear.{AreHoles}
-use Rattle.front_bound.specs.inner.Levels.{bands_at, list_at, to_go_at}
-use Rattle.front_bound.specs.inner.Lists.{HasBands}
+use Rattle.front_table.specs.Levels.{bands_at, list_at, to_go_at}
+use Rattle.front_table.specs.Lists.{HasBands}
 use Rattle.front_bound.proofs.PlacedRuns.{placed_goes_on}
 use Rattle.front_bound.proofs.SideLemmas.{built_ready, class_none, true_false}
-use Rattle.front_bound.proofs.Fronts.{lead_down}
-use Rattle.front_bound.proofs.Known.{class_known, down_known, fronts_built}
-use Rattle.front_bound.proofs.Leasts.{fits}
+use Rattle.front_table.proofs.FrontRows.{lead_down}
+use Rattle.front_table.proofs.Known.{down_known, fronts_built}
+use Rattle.front_bound.proofs.KnownSides.{class_known}
+use Rattle.front_table.proofs.Leasts.{fits}
 use Rattle.front_bound.proofs.nearby.place_begin.Goals as goal
 
 pub returns-then-not-has-clause-goes_on : goal.returns-then-not-has-clause-goes_on
 returns-then-not-has-clause-goes_on c = λ _.
-    class_none c.args.outset.now.instance.now c.args.outset.now.fronts.rows.now (to_go_at c.args.outset.now.fronts.levels.now) c.args.outset.now.most c.args.sides.now c.args.outset.now.row c.args.begin.now c.args.class.now.plate c.args.class.now.low c.args.class.now.limits.top c.args.class.now.room
+    class_none c.args.outset.now.fronts.instance.now c.args.outset.now.fronts.rows.now (to_go_at c.args.outset.now.fronts.levels.now) c.args.outset.now.most c.args.sides.now c.args.outset.now.row c.args.begin.now c.args.class.now.plate c.args.class.now.low c.args.class.now.limits.top c.args.class.now.room
     c.args.class.now.limits.most (λ has. true_false c.has.result (c.has.ensures.1 has) c.if-not-has.true)
 
 pub placed_from-requires-clause-stretch : goal.placed_from-requires-clause-stretch
 placed_from-requires-clause-stretch c =
-    let b = c.args.outset.now.instance.now in
+    let b = c.args.outset.now.fronts.instance.now in
     let fronts = c.args.outset.now.fronts in
     let class = c.args.class.now.limits.class in
-    let built = fronts_built b fronts c.args.outset.now.built in
+    let built = fronts_built fronts c.args.outset.now.built in
     record {
       len = c.args.outset.now.even;
       down = down_known fronts.rows.now (∥∥₁_map c.args.outset.now.built (λ are. lead_down b fronts.rows.now are.lattice));
@@ -33,7 +34,7 @@ placed_from-requires-clause-stretch c =
 
 pub returns-clause-goes_on : goal.returns-clause-goes_on
 returns-clause-goes_on c = λ _.
-    let b = c.args.outset.now.instance.now in
+    let b = c.args.outset.now.fronts.instance.now in
     let fronts = c.args.outset.now.fronts in
     let row = c.args.outset.now.row in
     let most = c.args.outset.now.most in
@@ -51,7 +52,7 @@ returns-clause-goes_on c = λ _.
       bound = omega (arith, c.min-bound.ensures, c.requires.class.bound);
       placed = c.in_ok-placed_from.ensures.placed;
     })
-    class.low c.in_ok-placed_from.ensures.begun c.as_slice-3.result.now (subst (λ l. AreHoles b class.plate l) (sym c.as_slice-3.ensures.value) holes) most c.offer_placed_ends.new.sides
+    class.low c.in_ok-placed_from.ensures.begun c.as_slice.result.now (subst (λ l. AreHoles b class.plate l) (sym c.as_slice.ensures.value) holes) most c.offer_placed_ends.new.sides
     c.args.begin.now class.limits.top class.room class.limits.most (omega arith) c.width-width.ensures.value (omega (arith, c.saturating_sub-reach.ensures, c.before-2.ensures.value)) (omega (arith, c.saturating_sub.ensures, c.from.ensures))
     (λ w top most room inside. omega (arith, c.requires.class.fits w top most room, inside, c.min-bound.ensures, c.saturating_sub-2.ensures, c.width-width.ensures.value))
     c.in_ok-offer_placed_ends.ensures.held))

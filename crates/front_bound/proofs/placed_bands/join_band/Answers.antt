@@ -1,8 +1,8 @@
 use Rattle.std.proofs.Common.{◌+◌, ◌≤◌, sym, subst, arith}
-use Rattle.front_bound.specs.inner.Ends.{Ended}
+use Rattle.front_table.specs.Ends.{Ended}
 use Rattle.front_bound.specs.inner.Placed.{BandJoined}
-use Rattle.front_bound.proofs.HeldLists.{least_first}
-use Rattle.front_bound.proofs.StripTries.{less_glass}
+use Rattle.front_table.proofs.HeldLists.{least_first}
+use Rattle.front_table.proofs.StripTries.{less_glass}
 use Rattle.front_bound.proofs.placed_bands.join_band.Goals as goal
 
 pub returns-then-band-limits-clause-joined : goal.returns-then-band-limits-clause-joined

@@ -1,6 +1,6 @@
 use Rattle.std.proofs.Common.{◌∙◌, sym, subst}
 use Rattle.front_bound.specs.inner.Placed.{EntryJoined, MoveJoined}
-use Rattle.front_bound.proofs.Each.{same_some}
+use Rattle.front_table.proofs.Each.{same_some}
 use Rattle.front_bound.proofs.placed_bands.join_entry.Goals as goal
 
 pub returns-in_default-clause-joined : goal.returns-in_default-clause-joined

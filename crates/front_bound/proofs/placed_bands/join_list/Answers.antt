@@ -1,9 +1,9 @@
 use Rattle.std.proofs.Common.{get_or, subst, arith}
-use Rattle.front_bound.specs.declared.keyed.Keyed.{Keyed}
+use Rattle.front_table.specs.declared.keyed.Keyed.{Keyed}
 use Rattle.front_bound.specs.inner.Placed.{EntryJoined}
-use Rattle.front_bound.proofs.Each.{up_to, contained_each}
-use Rattle.front_bound.proofs.KeyLists.{before_high}
-use Rattle.front_bound.proofs.PoolRows.{spreads_then}
+use Rattle.front_table.proofs.Each.{up_to, contained_each}
+use Rattle.front_table.proofs.KeyLists.{before_high}
+use Rattle.front_table.proofs.PoolRows.{spreads_then}
 use Rattle.front_bound.proofs.PlacedRows.{entry_kept}
 use Rattle.front_bound.proofs.placed_bands.join_list.Goals as goal
 

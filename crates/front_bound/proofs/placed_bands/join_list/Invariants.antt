@@ -1,7 +1,7 @@
 use Rattle.std.proofs.Common.{ℕ, ◌<◌, get_or}
-use Rattle.front_bound.specs.declared.keyed.Keyed.{Keyed}
+use Rattle.front_table.specs.declared.keyed.Keyed.{Keyed}
 use Rattle.front_bound.specs.inner.Placed.{EntryJoined}
-use Rattle.front_bound.specs.inner.Pools.{Spreads}
+use Rattle.front_table.specs.Pools.{Spreads}
 use Rattle.front_bound.proofs.placed_bands.join_list.Given as goal
 
 abbrev pub invariant-loop-at : goal.invariant-loop-at

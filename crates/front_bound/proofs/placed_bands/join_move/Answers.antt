@@ -1,6 +1,6 @@
 use Rattle.std.proofs.Common.{arith}
 use Rattle.front_bound.specs.inner.Placed.{BandJoined, MoveJoined}
-use Rattle.front_bound.proofs.HeldLists.{least_first}
+use Rattle.front_table.proofs.HeldLists.{least_first}
 use Rattle.front_bound.proofs.placed_bands.join_move.Goals as goal
 
 pub returns-then-to-row-clause-joined : goal.returns-then-to-row-clause-joined

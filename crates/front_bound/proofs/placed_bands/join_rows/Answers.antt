@@ -1,8 +1,8 @@
 use Rattle.std.proofs.Common.{◌+◌, subst, arith}
 use Rattle.front_bound.specs.inner.Placed.{RunsJoined}
-use Rattle.front_bound.specs.inner.Pools.{row_at}
-use Rattle.front_bound.proofs.Each.{below_next}
-use Rattle.front_bound.proofs.PoolRows.{spreads_same, spreads_then, spreads_from}
+use Rattle.front_table.specs.Pools.{row_at}
+use Rattle.front_table.proofs.Each.{below_next}
+use Rattle.front_table.proofs.PoolRows.{spreads_same, spreads_then, spreads_from}
 use Rattle.front_bound.proofs.PlacedRows.{runs_kept, runs_none}
 use Rattle.front_bound.proofs.placed_bands.join_rows.Goals as goal
 

@@ -1,6 +1,6 @@
 use Rattle.std.proofs.Common.{ℕ, ◌<◌}
 use Rattle.front_bound.specs.inner.Placed.{RunsJoined}
-use Rattle.front_bound.specs.inner.Pools.{Spreads, row_at}
+use Rattle.front_table.specs.Pools.{Spreads, row_at}
 use Rattle.front_bound.proofs.placed_bands.join_rows.Given as goal
 
 abbrev pub invariant-loop-to : goal.invariant-loop-to

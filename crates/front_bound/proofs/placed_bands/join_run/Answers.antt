@@ -1,7 +1,7 @@
 use Rattle.std.proofs.Common.{arith}
 use Rattle.std.proofs.lemmas.Nat.{mul-le}
 use Rattle.front_bound.specs.inner.Placed.{BandJoined, RunJoined, IsSlack}
-use Rattle.front_bound.proofs.HeldLists.{least_first}
+use Rattle.front_table.proofs.HeldLists.{least_first}
 use Rattle.front_bound.proofs.placed_bands.join_run.Goals as goal
 
 pub returns-then-waste-onward-clause-joined : goal.returns-then-waste-onward-clause-joined

@@ -1,7 +1,7 @@
 use Rattle.std.proofs.Common.{◌+◌, sym, subst, arith}
 use Rattle.front_bound.specs.inner.Clear.{Covered}
 use Rattle.front_bound.specs.inner.Placed.{CellJoined}
-use Rattle.front_bound.proofs.HeldLists.{least_first}
+use Rattle.front_table.proofs.HeldLists.{least_first}
 use Rattle.front_bound.proofs.placed_cells.join_cell.Goals as goal
 
 pub returns-in_default-clause-joined : goal.returns-in_default-clause-joined

@@ -1,16 +1,16 @@
 use Rattle.std.proofs.Common.{ℕ, ◌+◌, ◌≤◌, arith}
-use Rattle.front_bound.specs.declared.places.Place.{Place}
-use Rattle.front_bound.specs.inner.Pools.{row_at}
-use Rattle.front_bound.specs.inner.Sets.{Fits, HeldTo}
-use Rattle.front_bound.proofs.Each.{up_to}
-use Rattle.front_bound.proofs.PoolRows.{spreads_then}
+use Rattle.front_bound.specs.declared.places.Corner.{Corner}
+use Rattle.front_table.specs.Pools.{row_at}
+use Rattle.front_table.specs.Sets.{Fits, HeldTo}
+use Rattle.front_table.proofs.Each.{up_to}
+use Rattle.front_table.proofs.PoolRows.{spreads_then}
 use Rattle.front_bound.proofs.PlacedRows.{covered_each}
 use Rattle.front_bound.proofs.placed_cells.join_places.Goals as goal
 
 pub loop-place-preserved : goal.loop-place-preserved
 loop-place-preserved c = record {
   spreads = spreads_then (c.args.to + 1) c.args.pool.now c.loop-place.pool c.join_place.new.pool c.loop-place.invariant.spreads c.in_ok-join_place.ensures.spreads;
-  held = up_to (λ (p : Place). (x y left low up : ℕ) → Fits c.args.joined.now x y → c.args.joined.now.up ≤ up → p.x ≤ left → p.y ≤ low → low + c.args.piece.now.high ≤ up → HeldTo (row_at c.join_place.new.pool c.args.to) x y (left + c.args.piece.now.wide) up)
+  held = up_to (λ (p : Corner). (x y left low up : ℕ) → Fits c.args.joined.now x y → c.args.joined.now.up ≤ up → p.x ≤ left → p.y ≤ low → low + c.args.piece.now.high ≤ up → HeldTo (row_at c.join_place.new.pool c.args.to) x y (left + c.args.piece.now.wide) up)
       c.args.places.now c.loop-place.place-index _ c.loop-place-test.true
       (λ k d lt x y left low up fits top beside above sum. c.in_ok-join_place.ensures.spreads.kept c.args.to x y (left + c.args.piece.now.wide) up (c.loop-place.invariant.held k d lt x y left low up fits top beside above sum))
       c.in_ok-join_place.ensures.held;

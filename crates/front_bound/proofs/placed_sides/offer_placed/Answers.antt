@@ -1,7 +1,7 @@
 use Rattle.std.proofs.Common.{◌≤◌, inr, sym, subst, arith}
 use Rattle.glass_base.specs.declared.params.Params.{Params}
 use Rattle.front_bound.specs.inner.Clear.{LineClear}
-use Rattle.front_bound.specs.inner.Sets.{Has}
+use Rattle.front_table.specs.Sets.{Has}
 use Rattle.front_bound.proofs.PlacedRows.{ends_unlike, ends_from}
 use Rattle.front_bound.proofs.SideLemmas.{true_false}
 use Rattle.front_bound.proofs.placed_sides.offer_placed.Goals as goal

@@ -8,7 +8,7 @@ join_rows-requires-clause-falls c = λ n le. c.requires.stretch.falls n (omega (
 pub returns-clause-extended : goal.returns-clause-extended
 returns-clause-extended c = inr (record {
   sought = c.in_ok-sought.sought;
-  cells = c.cells_above.new.cells;
+  cells = c.cells_above.new.cells.pool;
   are = c.in_ok-sought.ensures.are;
   low = c.in_ok-sought.ensures.low;
   slack = slack_more c.args.onward.now.stretch.now c.args.onward.now.row c.args.onward.now.label.now c.args.onward.now.slack c.in_ok-sought.sought.slack c.in_ok-sought.ensures.slack c.args.onward.now.lean;

@@ -1,5 +1,5 @@
 use Rattle.std.proofs.Common.{sym, subst, arith, Contains}
-use Rattle.front_bound.specs.inner.Lists.{Rises}
+use Rattle.front_table.specs.Lists.{Rises}
 use Rattle.front_bound.proofs.PlacedRows.{all_joined}
 use Rattle.front_bound.proofs.placed_strips.extend_freely.Goals as goal
 

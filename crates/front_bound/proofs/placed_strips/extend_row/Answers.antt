@@ -1,16 +1,16 @@
 use Rattle.std.proofs.Common.{◌≡◌, ◌+◌, ◌<◌, List, length, get_or, ◌∙◌, sym, ap, subst, arith}
-use Rattle.front_bound.specs.declared.labels.Label.{Label}
+use Rattle.front_table.specs.declared.labels.FrontLabel.{FrontLabel}
 use Rattle.front_bound.specs.inner.Placed.{Extended, RowPlaced}
-use Rattle.front_bound.specs.inner.Pools.{row_at}
-use Rattle.front_bound.proofs.Each.{up_to}
-use Rattle.front_bound.proofs.PoolRows.{spreads_then, spreads_from}
+use Rattle.front_table.specs.Pools.{row_at}
+use Rattle.front_table.proofs.Each.{up_to}
+use Rattle.front_table.proofs.PoolRows.{spreads_then, spreads_from}
 use Rattle.front_bound.proofs.PlacedRows.{extended_kept}
 use Rattle.front_bound.proofs.placed_strips.extend_row.Goals as goal
 
 pub loop-at-preserved : goal.loop-at-preserved
 loop-at-preserved c =
-    let xs : List Label = row_at c.sort.new.self c.args.row in
-    let P : Label → Type 0 = Extended c.args.stretch.now c.extend.new.pool c.args.row in
+    let xs : List FrontLabel = row_at c.sort.new.self c.args.row in
+    let P : FrontLabel → Type 0 = Extended c.args.stretch.now c.extend.new.pool c.args.row in
     let same : row_at c.loop-at.pool c.args.row ≡ xs = c.loop-at.invariant.spreads.same c.args.row (omega arith) in
     let is : c.label-label.result ≡ get_or xs c.loop-at.at c.label-label.result = c.label-label.ensures ∙ ap (λ l. get_or l c.loop-at.at c.label-label.result) same in
     let lt : c.loop-at.at < length xs = omega (arith, c.loop-at-test.true, ap length c.labels-at-end.ensures) in

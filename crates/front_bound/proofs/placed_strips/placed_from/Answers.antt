@@ -1,7 +1,7 @@
 use Rattle.std.proofs.Common.{◌≡◌, ℕ, ◌+◌, ◌-◌, ◌∙◌, inl, inr, subst, arith}
 use Rattle.std.proofs.lemmas.Bool.{cases_lt}
 use Rattle.front_bound.specs.inner.Placed.{RowPlaced}
-use Rattle.front_bound.proofs.PoolRows.{spreads_then, spreads_from}
+use Rattle.front_table.proofs.PoolRows.{spreads_then, spreads_from}
 use Rattle.front_bound.proofs.PlacedRows.{placed_kept, row_none}
 use Rattle.front_bound.proofs.placed_strips.placed_from.Goals as goal
 

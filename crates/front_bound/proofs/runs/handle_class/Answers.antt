@@ -2,40 +2,41 @@ use Rattle.std.proofs.Common.{◌≡◌, ◌+◌, ◌≤◌, ◌⊎◌, sym, sub
 use Rattle.std.proofs.Math.Logic.{∥∥₁_map}
 use Rattle.std.proofs.lemmas.List.{get_or_default}
 use Rattle.glass_base.specs.declared.params.Params.{Params}
-use Rattle.front_bound.specs.inner.Levels.{to_go_at}
-use Rattle.front_bound.specs.inner.Sides.{ClassGoesOn}
-use Rattle.front_bound.proofs.Leasts.{fits}
-use Rattle.front_bound.proofs.Known.{class_known, fronts_built}
+use Rattle.front_table.specs.Levels.{to_go_at}
+use Rattle.front_bound.specs.Sides.{ClassGoesOn}
+use Rattle.front_table.proofs.Leasts.{fits}
+use Rattle.front_table.proofs.Known.{fronts_built}
+use Rattle.front_bound.proofs.KnownSides.{class_known}
 use Rattle.front_bound.proofs.SideLemmas.{built_searchable, built_ready, class_goes_on, class_whole, class_empty, class_narrow, none_left}
-use Rattle.front_bound.proofs.PoolRows.{spreads_same}
+use Rattle.front_table.proofs.PoolRows.{spreads_same}
 use Rattle.front_bound.proofs.runs.handle_class.Goals as goal
 
 pub returns-then-bound-class-clause-goes_on : goal.returns-then-bound-class-clause-goes_on
 returns-then-bound-class-clause-goes_on c =
-    class_narrow c.args.outset.now.instance.now c.args.outset.now.fronts.rows.now (to_go_at c.args.outset.now.fronts.levels.now) c.args.outset.now.most c.args.sides.now c.args.outset.now.row c.args.begins.now c.args.class.now.plate c.args.class.now.low c.args.class.now.limits.top c.args.class.now.room
+    class_narrow c.args.outset.now.fronts.instance.now c.args.outset.now.fronts.rows.now (to_go_at c.args.outset.now.fronts.levels.now) c.args.outset.now.most c.args.sides.now c.args.outset.now.row c.args.begins.now c.args.class.now.plate c.args.class.now.low c.args.class.now.limits.top c.args.class.now.room
     c.args.class.now.limits.most c.args.class.now.limits.bound c.if-bound-class.true c.requires.class.fits
 
 pub strips_from-requires-clause-searchable : goal.strips_from-requires-clause-searchable
 strips_from-requires-clause-searchable c =
-    let b = c.args.outset.now.instance.now in
+    let b = c.args.outset.now.fronts.instance.now in
     let fronts = c.args.outset.now.fronts in
     let limits = c.args.class.now.limits in
-    built_searchable b fronts.rows.now fronts.tops.now fronts.cover fronts.levels.now (fronts_built b fronts c.args.outset.now.built) c.args.outset.now.row (omega (arith, c.args.outset.now.inside, c.args.outset.now.even)) limits c.requires.class.class
+    built_searchable b fronts.rows.now fronts.tops.now fronts.cover fronts.levels.now (fronts_built fronts c.args.outset.now.built) c.args.outset.now.row (omega (arith, c.args.outset.now.inside, c.args.outset.now.even)) limits c.requires.class.class
     (c.requires.class.top ∙ get_or_default fronts.tops.now limits.class 0 limits.top c.requires.class.class) c.requires.class.bound
 
 pub returns-then-is_empty-clause-goes_on : goal.returns-then-is_empty-clause-goes_on
 returns-then-is_empty-clause-goes_on c =
-    class_whole c.args.outset.now.instance.now c.args.outset.now.fronts.rows.now (to_go_at c.args.outset.now.fronts.levels.now) c.args.outset.now.most c.args.outset.now.row c.place_begins.new.sides c.place_begins.new.sides c.args.outset.now.row c.args.begins.now c.place_begins.new.space.clear.items c.args.class.now.plate
+    class_whole c.args.outset.now.fronts.instance.now c.args.outset.now.fronts.rows.now (to_go_at c.args.outset.now.fronts.levels.now) c.args.outset.now.most c.args.outset.now.row c.place_begins.new.sides c.place_begins.new.sides c.args.outset.now.row c.args.begins.now c.place_begins.new.space.clear.items c.args.class.now.plate
     c.args.class.now.low c.args.class.now.limits.top c.args.class.now.room c.args.class.now.limits.most (spreads_same c.args.outset.now.row c.place_begins.new.sides) c.in_ok-place_begins.ensures.goes_on
     (subst
-    (λ l. ClassGoesOn c.args.outset.now.instance.now c.args.outset.now.fronts.rows.now (to_go_at c.args.outset.now.fronts.levels.now) c.args.outset.now.most c.place_begins.new.sides c.args.outset.now.row l c.args.class.now.plate c.args.class.now.low c.args.class.now.limits.top c.args.class.now.room
+    (λ l. ClassGoesOn c.args.outset.now.fronts.instance.now c.args.outset.now.fronts.rows.now (to_go_at c.args.outset.now.fronts.levels.now) c.args.outset.now.most c.place_begins.new.sides c.args.outset.now.row l c.args.class.now.plate c.args.class.now.low c.args.class.now.limits.top c.args.class.now.room
     c.args.class.now.limits.most) c.as_slice-clear.ensures.value
-    (class_empty c.args.outset.now.instance.now c.args.outset.now.fronts.rows.now (to_go_at c.args.outset.now.fronts.levels.now) c.args.outset.now.most c.place_begins.new.sides c.args.outset.now.row c.as_slice-clear.result.now c.args.class.now.plate c.args.class.now.low c.args.class.now.limits.top
+    (class_empty c.args.outset.now.fronts.instance.now c.args.outset.now.fronts.rows.now (to_go_at c.args.outset.now.fronts.levels.now) c.args.outset.now.most c.place_begins.new.sides c.args.outset.now.row c.as_slice-clear.result.now c.args.class.now.plate c.args.class.now.low c.args.class.now.limits.top
     c.args.class.now.room c.args.class.now.limits.most (none_left _ c.if-is_empty.ensures)))
 
 pub returns-clause-goes_on : goal.returns-clause-goes_on
 returns-clause-goes_on c =
-    let b = c.args.outset.now.instance.now in
+    let b = c.args.outset.now.fronts.instance.now in
     let fronts = c.args.outset.now.fronts in
     let rows = fronts.rows.now in
     let levels = fronts.levels.now in

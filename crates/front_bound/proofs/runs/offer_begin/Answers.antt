@@ -2,8 +2,8 @@ use Rattle.std.proofs.Common.{◌≡◌, ◌∙◌, sym, ap, subst, arith}
 use Rattle.glass_base.specs.declared.params.Params.{Params}
 use Rattle.glass_base.specs.Plates.{Width}
 use Rattle.plan_trace.specs.TraceRules.{Gap}
-use Rattle.front_bound.specs.inner.Sets.{Has}
-use Rattle.front_bound.proofs.HeldLists.{keeps_held, keeps_then}
+use Rattle.front_table.specs.Sets.{Has}
+use Rattle.front_table.proofs.HeldLists.{keeps_held, keeps_then}
 use Rattle.front_bound.proofs.SideLemmas.{plate_only, true_false}
 use Rattle.front_bound.proofs.runs.offer_begin.Goals as goal
 

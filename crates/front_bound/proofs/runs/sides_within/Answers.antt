@@ -1,7 +1,7 @@
 use Rattle.std.proofs.Common.{ℕ, ◌-◌, length, refl, ◌∙◌, arith}
-use Rattle.front_bound.specs.inner.Levels.{to_go_at}
+use Rattle.front_table.specs.Levels.{to_go_at}
 use Rattle.front_bound.proofs.SideLemmas.{sides_next}
-use Rattle.front_bound.proofs.PoolRows.{kept_at}
+use Rattle.front_table.proofs.PoolRows.{kept_at}
 use Rattle.front_bound.proofs.runs.sides_within.Goals as goal
 
 pub loop-done-preserved : goal.loop-done-preserved
@@ -11,7 +11,7 @@ loop-done-preserved g c =
       space = c.in_ok-handle_row.ensures.space;
       len = c.in_ok-handle_row.ensures.spreads.len ∙ c.loop-done.invariant.len;
       held = kept_at _ _ _ c.in_ok-handle_row.ensures.spreads first 0 0 c.loop-done.invariant.held;
-      goes_on = sides_next c.args.instance.now c.args.fronts.now.rows.now (to_go_at c.args.fronts.now.levels.now) c.args.most first c.loop-done.done (first - c.loop-done.done) c.loop-done.sides c.handle_row.new.sides refl c.loop-done-test.true
+      goes_on = sides_next c.args.fronts.now.instance.now c.args.fronts.now.rows.now (to_go_at c.args.fronts.now.levels.now) c.args.most first c.loop-done.done (first - c.loop-done.done) c.loop-done.sides c.handle_row.new.sides refl c.loop-done-test.true
           c.in_ok-handle_row.ensures.spreads c.in_ok-handle_row.ensures.goes_on c.loop-done.invariant.goes_on;
     }
 

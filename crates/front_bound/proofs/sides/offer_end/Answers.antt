@@ -1,7 +1,7 @@
 use Rattle.std.proofs.Common.{◌+◌, sym, subst, arith}
 use Rattle.glass_base.specs.declared.params.Params.{Params}
 use Rattle.plan_trace.specs.TraceRules.{Gap}
-use Rattle.front_bound.proofs.HeldLists.{least_first}
+use Rattle.front_table.proofs.HeldLists.{least_first}
 use Rattle.front_bound.proofs.SideLemmas.{ends_wide, ends_far, ends_offered}
 use Rattle.front_bound.proofs.sides.offer_end.Goals as goal
 

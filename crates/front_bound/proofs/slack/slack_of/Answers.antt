@@ -1,7 +1,7 @@
 use Rattle.std.proofs.Common.{◌≤◌, sym, subst, arith}
-use Rattle.front_bound.specs.inner.Ends.{Ended, Falls}
+use Rattle.front_table.specs.Ends.{Ended, Falls}
 use Rattle.front_bound.specs.inner.Placed.{NoneGoesOn, IsSlack}
-use Rattle.front_bound.proofs.HeldLists.{least_first}
+use Rattle.front_table.proofs.HeldLists.{least_first}
 use Rattle.front_bound.proofs.PlacedRows.{can_leave, can_hold}
 use Rattle.front_bound.proofs.slack.slack_of.Goals as goal
 

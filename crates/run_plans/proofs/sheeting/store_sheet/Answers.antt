@@ -2,7 +2,7 @@ use Rattle.std.proofs.Common.{ap, ◌∙◌}
 use Rattle.cut_model.specs.Tree.{tree}
 use Rattle.cut_sheet.specs.Texts.{sheet_text}
 use Rattle.cut_sheet.proofs.Cuttables.{lawful_cuttable}
-use Rattle.command_line.specs.declared.grammar.Product.TheVariants as product
+use Rattle.command_line.specs.declared.kinds.Product.TheVariants as product
 use Rattle.run_plans.specs.Sheets.{instructions_line}
 use Rattle.run_plans.proofs.Sheeted.{sheeted_is}
 use Rattle.run_plans.proofs.sheeting.store_sheet.Goals as goal

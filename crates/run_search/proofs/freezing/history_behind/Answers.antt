@@ -5,11 +5,10 @@ use Rattle.run_search.proofs.freezing.history_behind.Goals as goal
 
 pub returns : goal.returns
 returns g c =
+    let options = c.args.workforce.now.options in
     let start = c.in_ok-start.start in
     let begun = c.in_ok-start.ensures in
-    let loss = c.first_loss-loss.ensures in
-    IfOk-weaker c.history_from.result _ _
-    (λ h lawful.
-    behind_known c.args.instance.now (tree c.args.plan.now) c.args.workforce.now.budget c.args.opening.fronts c.in_ok-known.known start.first c.first_loss-loss.result start.floor h
-    (c.in_ok-known.ensures.loss c.requires.lawful) begun.no_worse loss.loss loss.some begun.unasked lawful)
-    c.history_from.ensures
+    IfOk-weaker c.history_of_all_plans.result _ _
+    (λ h is.
+    behind_known c.args.ground.instance.now (tree c.args.plan.now) options.budget options.fronts c.in_ok-known.known start.first start.floor h (c.in_ok-known.ensures.loss c.requires.lawful) begun.no_worse begun.unasked is)
+    c.history_of_all_plans.ensures

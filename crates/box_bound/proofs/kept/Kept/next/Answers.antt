@@ -17,7 +17,7 @@ next-so_far-requires-clause-cell_h c =
     let draws = draws_of c.args.before.now in
     let d = draw_in c.draw_at-draw.result in
     let drawn_is : d ≡ draw_at (unpacked c.args.ranges.now) = c.draw_at-draw.ensures in
-    let item = subst (λ (o : Option Item). IfSome o IsItemInRange) (ap (λ (p : Place). p.item) c.next_place-place.ensures.value) c.next_place-place.ensures.item in
+    let item = subst (λ (o : Option Item). IfSome o IsItemInRange) (ap (λ (p : Place). p.item) c.next-place.ensures.value) c.next-place.ensures.item in
     let lift : d.lift ≤ 1 = omega (arith, ap (λ (x : Draw). x.lift) drawn_is, c.requires.ranges.lift) in
     let own = item_small b draws d lift item in
-    omega (arith, ap (λ (p : Place). p.cell_h) c.next_place-place.ensures.value, cell_high (begins draws d.kind) k.place.cell_h (item_height d.turn (item_at b d.stack (drawn draws d.stack)) + d.lift * b.params.waste) (omega (arith, own)))
+    omega (arith, ap (λ (p : Place). p.cell_h) c.next-place.ensures.value, cell_high (begins draws d.kind) k.place.cell_h (item_height d.turn (item_at b d.stack (drawn draws d.stack)) + d.lift * b.params.waste) (omega (arith, own)))

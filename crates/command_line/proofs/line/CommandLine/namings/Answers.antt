@@ -3,4 +3,4 @@ use Rattle.std.proofs.Common.{arith}
 use Rattle.command_line.proofs.line.CommandLine.namings.Goals as goal
 
 pub returns : goal.returns
-returns c = grind (arith, common_steps)
+returns g c = grind (arith, common_steps)

@@ -9,7 +9,7 @@ use Rattle.command_line.specs.Grammar.{is_named_once}
 use Rattle.command_line.proofs.line.CommandLine.stores_apart.Goals as goal
 
 pub returns : goal.returns
-returns c =
+returns g c =
     let once : c.all.result ≡ list_all (is_named_once (line_in c.args.self.now)) (map string_bytes c.stored.result.now) =
     rw list_all-map (all_from_yields_List (λ name. is_named_once (line_in c.args.self.now) (string_bytes name)) _ _ _ c.all.ensures.ran (YieldsList-from_slice c.stored.result.now (cc)) (λ x b q k. search (rules, tests))) in
     once ∙ ap (λ names. list_all (is_named_once (line_in c.args.self.now)) names) c.stored.ensures

@@ -1,7 +1,0 @@
-use Rattle.std.proofs.Common.{ℕ, ◌+◌, ◌<◌, ◌≤◌}
-use Rattle.front_bound.specs.inner.Levels.{to_go_at}
-use Rattle.front_bound.specs.inner.Pools.{HeldAt}
-use Rattle.front_bound.proofs.far.least_end.Given as goal
-
-abbrev pub invariant-loop-row : goal.invariant-loop-row
-invariant-loop-row l = (m w : ℕ) → m < l.row → HeldAt l.fn.pool m l.height w → l.least ≤ w + to_go_at l.levels m

@@ -1,6 +1,0 @@
-use Rattle.std.proofs.Common.{ℕ, ◌<◌}
-use Rattle.front_bound.specs.inner.Lattice.{AllPairsLed}
-use Rattle.front_bound.proofs.lattice.all_pairs_led.Given as goal
-
-abbrev pub invariant-loop-other : goal.invariant-loop-other
-invariant-loop-other l = (k : ℕ) → k < l.other → AllPairsLed l.fn.instance l.fn.rows l.fn.moves l.fn.item l.fn.mid k

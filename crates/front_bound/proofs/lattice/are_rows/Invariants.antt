@@ -1,6 +1,0 @@
-use Rattle.std.proofs.Common.{ℕ, ◌<◌}
-use Rattle.front_bound.specs.inner.Lattice.{IsRow}
-use Rattle.front_bound.proofs.lattice.are_rows.Given as goal
-
-abbrev pub invariant-loop-row : goal.invariant-loop-row
-invariant-loop-row l = (k : ℕ) → k < l.row → IsRow l.fn.instance l.fn.weights l.fn.rows k

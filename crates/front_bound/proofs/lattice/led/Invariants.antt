@@ -1,4 +1,0 @@
-use Rattle.front_bound.proofs.lattice.led.Given as goal
-
-abbrev pub invariant-loop-next : goal.invariant-loop-next
-invariant-loop-next l = Unit {0}

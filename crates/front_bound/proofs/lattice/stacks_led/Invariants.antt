@@ -1,6 +1,0 @@
-use Rattle.std.proofs.Common.{ℕ, ◌<◌}
-use Rattle.front_bound.specs.inner.Lattice.{StackLed}
-use Rattle.front_bound.proofs.lattice.stacks_led.Given as goal
-
-abbrev pub invariant-loop-stack : goal.invariant-loop-stack
-invariant-loop-stack l = (k : ℕ) → k < l.stack → StackLed l.fn.instance l.fn.rows l.fn.row k

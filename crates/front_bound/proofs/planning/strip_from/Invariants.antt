@@ -1,7 +1,0 @@
-use Rattle.std.proofs.Common.{◌≡◌, length}
-use Rattle.front_bound.proofs.planning.strip_from.Given as goal
-
-abbrev pub invariant-loop-side : goal.invariant-loop-side
-invariant-loop-side l = record {
-  len : length l.pool ≡ length l.task.fronts.rows.now;
-}

@@ -1,0 +1,9 @@
+//! A plan along the fronts: what comes of it is a guess, which is asked of the rules.
+#![tactic(auto)]
+
+mod cutting;
+mod ends_at;
+mod parts;
+mod plan_search;
+mod planning;
+pub mod plans;

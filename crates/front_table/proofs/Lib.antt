@@ -1,0 +1,14 @@
+pub mod HeldLists
+pub mod PoolRows
+pub mod Each
+pub mod Known
+pub mod RowLemmas
+pub mod FrontRows
+pub mod CellRuns
+pub mod Staircases
+pub mod Paths
+pub mod KeyLists
+pub mod StripTries
+pub mod StripRuns
+pub mod Leasts
+pub mod LevelLists

@@ -1,0 +1,25 @@
+use Rattle.std.proofs.Common.{get_or, ap, arith}
+use Rattle.std.proofs.lemmas.List.{get_or_default}
+use Rattle.glass_base.specs.declared.params.Params.{Params}
+use Rattle.front_table.specs.Levels.{to_go_at}
+use Rattle.front_table.proofs.Known.{opened_known}
+use Rattle.front_table.proofs.Leasts.{opened_searchable, fits, least_wider}
+use Rattle.front_table.proofs.far.least_in_class.Goals as goal
+
+pub least_of_class-requires-clause-searchable : goal.least_of_class-requires-clause-searchable
+least_of_class-requires-clause-searchable c =
+    let b = c.args.behind.now.fronts.instance.now in
+    let fronts = c.args.behind.now.fronts in
+    let start = c.args.behind.now.start in
+    opened_searchable b fronts.rows.now fronts.tops.now fronts.cover fronts.levels.now start (opened_known b fronts.rows.now fronts.tops.now fronts.cover fronts.levels.now start c.args.behind.now.opened) _ c.requires.class
+    (get_or_default fronts.tops.now c.args.class 0 (get_or fronts.tops.now c.args.class 0) c.requires.class) (omega (arith, c.min.ensures))
+
+pub least_of_class-requires-clause-fitting : goal.least_of_class-requires-clause-fitting
+least_of_class-requires-clause-fitting c =
+    fits c.args.behind.now.fronts.instance.now _ c.args.behind.now.fronts.cover (ap (λ (p : Params). p.height) c.params-params.ensures.value) (omega (arith, c.min.ensures, ap (λ (p : Params). p.max1) c.params-params.ensures.value)) c.args.behind.now.fronts.covered
+
+pub returns-clause-least : goal.returns-clause-least
+returns-clause-least c =
+    let fronts = c.args.behind.now.fronts in
+    least_wider c.args.behind.now.fronts.instance.now fronts.rows.now (to_go_at fronts.levels.now) c.args.behind.now.start c.args.low c.min.result (get_or fronts.tops.now c.args.class 0) c.args.most c.in_ok-least.least
+    (λ w top most. omega (arith, top, most, c.min.ensures, ap (λ (p : Params). p.max1) c.params-params.ensures.value)) c.in_ok-least.ensures.least

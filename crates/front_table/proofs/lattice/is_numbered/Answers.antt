@@ -1,0 +1,14 @@
+use Rattle.std.proofs.Common.{arith}
+use Rattle.front_table.specs.Lattice.{IsNumbered, count_at}
+use Rattle.front_table.proofs.RowLemmas.{weight_none}
+use Rattle.front_table.proofs.lattice.is_numbered.Goals as goal
+
+pub returns : goal.returns
+unfolding IsNumbered
+returns c = λ yes.
+    omega (
+      arith,
+      c.if-sum-rows.false,
+      c.loop-stack.invariant,
+      weight_none c.args.weights.now c.loop-stack.stack c.loop-stack.stack (count_at c.args.rows.now c.args.row) (omega (arith, c.requires.weights, c.loop-stack-test.false, c.stacks-stack-end.ensures.value)),
+    )

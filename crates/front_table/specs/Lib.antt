@@ -1,0 +1,9 @@
+pub mod Sets
+pub mod Pools
+pub mod Lattice
+pub mod Leads
+pub mod Ends
+pub mod Levels
+pub mod Lists
+pub mod Tries
+pub mod Ready

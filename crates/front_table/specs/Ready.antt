@@ -1,0 +1,121 @@
+-- What is known of rows, so that strips can be looked for.
+use Rattle.std.specs.Prelude.{◌≡◌, ℕ, ◌+◌, ◌*◌, ◌<◌, ◌≤◌, List, [], map, length, slice_index_or}
+use Rattle.glass_base.specs.Problem.{Problem}
+use Rattle.front_course.specs.Fronts.{Front}
+use Rattle.front_course.specs.Strips.{Band, IsStrip, after_bands}
+use Rattle.front_table.specs.declared.keyed.Keyed.{Keyed}
+use Rattle.front_table.specs.declared.levels.RowFacts.{RowFacts}
+use Rattle.front_table.specs.declared.moves.Move.{Move}
+use Rattle.front_table.specs.declared.rows.FrontRow.{FrontRow}
+use Rattle.front_table.specs.declared.strips.Limits.{Limits}
+use Rattle.front_table.specs.declared.fronts.Fronts.{Fronts}
+use Rattle.front_table.specs.declared.table.FrontTable.{FrontTable}
+use Rattle.front_table.specs.Ends.{Ended, Falls, EndsFrom, EndsBehind}
+use Rattle.front_table.specs.Lattice.{At, IsLattice}
+use Rattle.front_table.specs.Leads.{BandsLead}
+use Rattle.front_table.specs.Levels.{bands_at, ends_at, list_at, to_go_at, IsToGo}
+use Rattle.front_table.specs.Lists.{Rises, HasBands}
+
+-- what is known of the rows up to one, so that strips from it can be looked for
+pub record Ready (b : Problem) (rows : List FrontRow) (levels : List RowFacts) (cover : ℕ) (to_go : ℕ → ℕ) (start : ℕ) : Type 0 where
+  pub bands : (n : ℕ) → n ≤ start → BandsLead b rows n (bands_at levels n)
+  pub ends : (n : ℕ) → n < start → EndsFrom b rows cover to_go n (ends_at levels n)
+  pub behind : EndsBehind b rows cover to_go start (ends_at levels start)
+
+-- the limits are those of plates, and of widths that the table of ends covers
+pub record Fitting (b : Problem) (l : Limits) (cover : ℕ) : Type 0 where
+  pub height : l.height ≡ b.params.height
+  pub bound : l.bound ≤ b.params.max1
+  pub covered : l.bound * l.height ≤ cover
+
+-- a row's lists, for classes of strips that end at these widths
+pub record IsLevel (b : Problem) (rows : List FrontRow) (tops : List ℕ) (levels : List RowFacts) (n : ℕ) : Type 0 where
+  pub falls : Falls (ends_at levels n)
+  pub rises : (k : ℕ) → k < length tops → Rises (list_at levels n k)
+  pub lists : (k d : ℕ) → k < length tops → HasBands rows n (slice_index_or tops k d) (bands_at levels n) (list_at levels n k)
+  pub bands : BandsLead b rows n (bands_at levels n)
+
+-- rows of which all is known
+pub record Built (b : Problem) (rows : List FrontRow) (tops : List ℕ) (cover : ℕ) (levels : List RowFacts) : Type 0 where
+  pub each : (n : ℕ) → n < length levels → IsLevel b rows tops levels n
+  pub ends : (n : ℕ) → n < length levels → EndsFrom b rows cover (to_go_at levels) n (ends_at levels n)
+  pub to_go : (n : ℕ) → n < length levels → IsToGo b rows (to_go_at levels) n
+
+-- the same with one row more, of which it is not known what is to go from it
+pub record Opened (b : Problem) (rows : List FrontRow) (tops : List ℕ) (cover : ℕ) (levels : List RowFacts) (start : ℕ) : Type 0 where
+  pub len : length levels ≡ start + 1
+  pub each : (n : ℕ) → n ≤ start → IsLevel b rows tops levels n
+  pub ends : (n : ℕ) → n < start → EndsFrom b rows cover (to_go_at levels) n (ends_at levels n)
+  pub behind : EndsBehind b rows cover (to_go_at levels) start (ends_at levels start)
+  pub to_go : (n : ℕ) → n < start → IsToGo b rows (to_go_at levels) n
+
+-- no strip of these widths from a row, that is near enough, leaves less to go than this
+abbrev pub IsLeast : Problem → List FrontRow → (ℕ → ℕ) → ℕ → ℕ → ℕ → ℕ → ℕ → Type 0
+IsLeast b rows to_go start low bound most least =
+    (f : Front) → At b rows start f → (width : ℕ) (bands : List Band) → IsStrip b width f bands → low ≤ width → width ≤ bound → (m : ℕ) → At b rows m (after_bands f bands) → width + to_go m ≤ most → least ≤ width + to_go m
+
+-- two lists of rows know the same of a row
+pub record SameLevel (levels other : List RowFacts) (n : ℕ) : Type 0 where
+  pub bands : bands_at other n ≡ bands_at levels n
+  pub lists : (k : ℕ) → list_at other n k ≡ list_at levels n k
+  pub ends : ends_at other n ≡ ends_at levels n
+  pub to_go : to_go_at other n ≡ to_go_at levels n
+
+-- the same of the widths below one, for all that is near enough
+unfoldable pub LeastBelow : Problem → List FrontRow → (ℕ → ℕ) → ℕ → ℕ → ℕ → ℕ → Type 0
+LeastBelow b rows to_go start low most least =
+    (f : Front) → At b rows start f → (width : ℕ) (bands : List Band) → IsStrip b width f bands → width < low → (m : ℕ) → At b rows m (after_bands f bands) → width + to_go m ≤ most → least ≤ width + to_go m
+
+-- no strip from a row leaves less to go
+unfoldable pub LeavesLeast : Problem → List FrontRow → (ℕ → ℕ) → ℕ → ℕ → Type 0
+LeavesLeast b rows to_go start least =
+    (f : Front) → At b rows start f → (width : ℕ) (bands : List Band) → IsStrip b width f bands → (m : ℕ) → At b rows m (after_bands f bands) → least ≤ width + to_go m
+
+-- this is what is known of the row
+pub record IsLast (levels : List RowFacts) (n : ℕ) (level : RowFacts) : Type 0 where
+  pub bands : bands_at levels n ≡ level.bands.items
+  pub lists : (k : ℕ) → list_at levels n k ≡ slice_index_or (map (λ v. v.items) level.lists.items) k []
+  pub ends : ends_at levels n ≡ level.ends.items
+  pub to_go : to_go_at levels n ≡ level.to_go
+
+-- a row of which it is not known what is to go from it
+pub record IsOpen (b : Problem) (rows : List FrontRow) (tops : List ℕ) (cover : ℕ) (to_go : ℕ → ℕ) (n : ℕ) (level : RowFacts) : Type 0 where
+  pub falls : Falls level.ends.items
+  pub rises : (k : ℕ) → k < length tops → Rises (slice_index_or (map (λ v. v.items) level.lists.items) k [])
+  pub lists : (k d : ℕ) → k < length tops → HasBands rows n (slice_index_or tops k d) level.bands.items (slice_index_or (map (λ v. v.items) level.lists.items) k [])
+  pub bands : BandsLead b rows n level.bands.items
+  pub behind : EndsBehind b rows cover to_go n level.ends.items
+
+-- for each class up to one its list
+unfoldable pub HasLists : List FrontRow → ℕ → List ℕ → List Move → List (List Keyed) → ℕ → Type 0
+HasLists rows n tops bands lists many =
+    (length lists ≡ many) × ((k d : ℕ) → k < many → Rises (slice_index_or lists k []) × HasBands rows n (slice_index_or tops k d) bands (slice_index_or lists k []))
+
+-- the last row is the same, with itself as an end and with what is to go from it; those before it are as they were
+pub record IsClosed (levels other : List RowFacts) (far : ℕ) : Type 0 where
+  pub last : ℕ
+  pub old_len : length levels ≡ last + 1
+  pub new_len : length other ≡ last + 1
+  pub same : (n : ℕ) → n < last → SameLevel levels other n
+  pub bands : bands_at other last ≡ bands_at levels last
+  pub lists : (k : ℕ) → list_at other last k ≡ list_at levels last k
+  pub to_go : to_go_at other last ≡ far
+  pub falls : Falls (ends_at other last)
+  pub own : Ended (ends_at other last) 0 far
+  pub kept : (area to_go : ℕ) → Ended (ends_at levels last) area to_go → Ended (ends_at other last) area to_go
+
+-- all rows, with all that is known of them
+pub record IsTable (b : Problem) (table : FrontTable) : Type 0 where
+  pub lattice : IsLattice b table.rows.items
+  pub len : length table.levels.items ≡ length table.rows.items
+  pub enough : b.params.max1 * b.params.height ≤ table.cover
+  pub built : Built b table.rows.items table.tops.items table.cover table.levels.items
+  pub zero : to_go_at table.levels.items 0 ≡ 0
+
+-- all is known of the fronts
+pub record AreFronts (fronts : Fronts) : Type 0 where
+  pub lattice : IsLattice fronts.instance.now fronts.rows.now
+  pub len : length fronts.levels.now ≡ length fronts.rows.now
+  pub enough : fronts.instance.now.params.max1 * fronts.instance.now.params.height ≤ fronts.cover
+  pub built : Built fronts.instance.now fronts.rows.now fronts.tops.now fronts.cover fronts.levels.now
+  pub zero : to_go_at fronts.levels.now 0 ≡ 0

@@ -1,0 +1,56 @@
+-- What a search for strips has tried.
+use Rattle.std.specs.Prelude.{◌≡◌, ℕ, ◌+◌, ◌*◌, ◌-◌, ◌<◌, ◌≤◌, List, length, Some, Contains, slice_get}
+use Rattle.front_table.specs.declared.labels.FrontLabel.{FrontLabel}
+use Rattle.front_table.specs.declared.levels.RowFacts.{RowFacts}
+use Rattle.front_table.specs.declared.moves.Move.{Move}
+use Rattle.front_table.specs.declared.rows.FrontRow.{FrontRow}
+use Rattle.front_table.specs.declared.strips.Limits.{Limits}
+use Rattle.front_table.specs.Ends.{Ended, Falls}
+use Rattle.front_table.specs.Lattice.{area_at}
+use Rattle.front_table.specs.Levels.{bands_at, ends_at, list_at}
+use Rattle.front_table.specs.Lists.{Rises, HasBands}
+use Rattle.front_table.specs.Pools.{HeldAt}
+use Rattle.front_table.specs.Sets.{Fits}
+
+-- what a label stands for goes on by a band, where the strip can still end near enough
+unfoldable pub Tried : List RowFacts → Limits → List (List FrontLabel) → FrontLabel → Move → Type 0
+Tried levels l pool label m =
+    (x d w area to_go : ℕ) → Fits label x w → Fits m.label d w → x + d ≤ l.height → w ≤ l.bound → Ended (ends_at levels m.to) area to_go → area ≤ w * (l.height - (x + d)) → w + to_go ≤ l.most
+    → HeldAt pool m.to (x + d) w
+
+-- the same of the band at a place, where it leads down
+unfoldable pub EntryTried : List RowFacts → Limits → List (List FrontLabel) → ℕ → FrontLabel → ℕ → Type 0
+EntryTried levels l pool n label place = (m : Move) → slice_get (bands_at levels n) place ≡ Some m → m.to < n → Tried levels l pool label m
+
+-- a strip that is `x` high and `w` wide so far can go on by a band of height `d`, and end near enough
+pub record MayGoOn (rows : List FrontRow) (levels : List RowFacts) (l : Limits) (n : ℕ) (m : Move) (x d w : ℕ) : Type 0 where
+  pub to_go : ℕ
+  pub before : ℕ
+  pub behind : ℕ
+  pub down : m.to < n
+  pub here : Ended (ends_at levels n) before to_go
+  pub there : Ended (ends_at levels m.to) behind to_go
+  pub within : before ≤ w * (l.height - x)
+  pub rest : behind ≤ w * (l.height - (x + d))
+  pub split : before ≤ area_at rows n - area_at rows m.to + behind
+  pub sum : x + d ≤ l.height
+  pub narrow : w ≤ l.bound
+  pub near : w + to_go ≤ l.most
+
+-- what a label of a row stands for goes on by each band
+unfoldable pub Extended : List FrontRow → List RowFacts → Limits → List (List FrontLabel) → ℕ → FrontLabel → Type 0
+Extended rows levels l pool n label =
+    (m : Move) → Contains (bands_at levels n) m → (x d w : ℕ) → Fits label x w → Fits m.label d w → MayGoOn rows levels l n m x d w → HeldAt pool m.to (x + d) w
+
+-- what is held at a row goes on by each band
+unfoldable pub RowExtended : List FrontRow → List RowFacts → Limits → List (List FrontLabel) → ℕ → Type 0
+RowExtended rows levels l pool n =
+    (x w : ℕ) → HeldAt pool n x w → (m : Move) → Contains (bands_at levels n) m → (d : ℕ) → Fits m.label d w → MayGoOn rows levels l n m x d w → HeldAt pool m.to (x + d) w
+
+-- what a search needs of each row up to the one at which it begins
+pub record Searchable (rows : List FrontRow) (levels : List RowFacts) (l : Limits) (start : ℕ) : Type 0 where
+  pub len : start < length levels
+  pub bound : l.bound ≤ l.top
+  pub falls : (n : ℕ) → n ≤ start → Falls (ends_at levels n)
+  pub rises : (n : ℕ) → n ≤ start → Rises (list_at levels n l.class)
+  pub bands : (n : ℕ) → n ≤ start → HasBands rows n l.top (bands_at levels n) (list_at levels n l.class)
