@@ -89,7 +89,7 @@ fn work_out_in<R: Threads + Sync>(
         loss: AtomicU64::new(u64::MAX),
         beams: AtomicU64::new(0),
         millions: AtomicU64::new(0),
-        time: SECOND - left.unwrap_or(0),
+        time: SECOND.saturating_sub(left.unwrap_or(0)),
     };
     let team = Team {
         rt,
