@@ -1,12 +1,14 @@
 -- What stands before the first mark.
-use Rattle.std.proofs.Common.{◌≡◌, ℕ, ◌+◌, ◌^◌, ◌<◌, ◌≤◌, Bool, true, false, IsTrue, List, [], ◌∷◌, ◌++◌, length, take, get_or, sym, ◌∙◌, subst, refl, arith, None}
+use Rattle.std.proofs.Common.{◌≡◌, ℕ, ◌+◌, ◌^◌, ◌<◌, ◌≤◌, Bool, true, false, IsTrue, List, [], ◌∷◌, ◌++◌, length, take, get_or, sym, ◌∙◌, subst, refl, arith, Option, None, Some}
 use Rattle.std.proofs.lemmas.List.{take_more}
 use Rattle.std.proofs.lemmas.Fmt.{decimal_injective}
 use Rattle.std.specs.Prelude.{◌==◌}
 use Rattle.std.specs.Fmt.{decimal}
+use Rattle.glass_base.specs.Digits.{number_within}
+use Rattle.glass_base.proofs.NumberTexts.{read_is_text, unread_is_no_text}
 use Rattle.plan_box.specs.declared.reason.Reason.{Reason}
 use Rattle.plan_box.specs.Reasons.{reason_number}
-use Rattle.cert_log.specs.Values.{IsVersionNumber}
+use Rattle.cert_log.specs.Values.{IsNumber, IsVersionNumber}
 use Rattle.cert_log.specs.inner.Fields.{IsAny, Lacks, Tells, reason_text}
 use Rattle.cert_log.proofs.Spelling.{ends_alike}
 
@@ -33,6 +35,11 @@ lacks_more d i k xs within l n = subst (Lacks d) (sym (take_more xs i k within))
 
 pub no_true : (b : Bool) → IsTrue b → b ≡ false → ⊥
 no_true b t e = grind (arith, t, e)
+
+-- what is read of digits is the number that they say
+pub number_told : (text : List ℕ) (o : Option ℕ) → o ≡ number_within 0 18446744073709551615 text → Tells decimal IsNumber text o
+number_told text (Some n) is = let h = read_is_text 0 18446744073709551615 text n (omega arith) (sym is) in (omega (arith, h.1), h.2)
+number_told text None is = λ n small e. unread_is_no_text 0 18446744073709551615 text (omega arith) (sym is) n (omega arith) (omega (arith, small)) e
 
 pub not_empty : (text : List ℕ) → false ≡ (length text == 0) → text ≡ [] → ⊥
 not_empty text e is = let h : false ≡ (0 == 0) = subst (λ (t : List ℕ). false ≡ (length t == 0)) is e in let g : false ≡ true = h in cc

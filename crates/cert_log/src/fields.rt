@@ -6,7 +6,7 @@ ghost use Rattle.cert_log.specs.Texts.{letter, loss_text};
 ghost use Rattle.cert_log.specs.Values.{IsLoss, IsNumber, IsVersionNumber};
 ghost use Rattle.cert_log.specs.inner.Fields.{IsAny, Lacks, Takes, Tells, reason_text};
 
-use itoa::Buffer;
+use glass_base::number_within;
 use plan_box::{Reason, Var};
 
 /// Whether a text is this word.
@@ -33,14 +33,7 @@ pub(crate) fn field(text: &[u8], mark: u8) -> Option<(&[u8], &[u8])>
 pub(crate) fn number(text: &[u8]) -> Option<u64>
     ensures { Tells decimal IsNumber text.now result }
 {
-    let digits = std::str::from_utf8(text).ok()?;
-    let value = digits.parse::<u64>().ok()?;
-    let mut buffer = Buffer::new();
-    if is_word(text, buffer.format(value).as_bytes()) {
-        Some(value)
-    } else {
-        None
-    }
+    number_within(text, 0, u64::MAX)
 }
 
 /// The loss or bound that a text says.

@@ -1,10 +1,9 @@
 -- The words of a command line, each by itself: names, numbers and options.
-use Rattle.std.specs.Prelude.{◌==◌, ◌&&◌, ◌||◌, ◌++◌, ℕ, List, [], ◌∷◌, length, take, drop, count_by, nat_le, nat_lt, Bool, true, false, not, is_some, if◌then◌else◌, Option, Some, None, codes}
-use Rattle.std.specs.Char.{is_ascii_digit}
+use Rattle.std.specs.Prelude.{◌==◌, ◌&&◌, ◌++◌, ℕ, List, [], ◌∷◌, length, take, drop, count_by, nat_le, Bool, false, not, is_some, if◌then◌else◌, Option, Some, None, codes}
 use Rattle.std.specs.List.{list_all, list_any}
 use Rattle.std.specs.Option.{option_map_or}
 use Rattle.std.specs.Str.{bytes_eq}
-use Rattle.std.specs.Str.Parse.{digits_value}
+use Rattle.glass_base.specs.Digits.{number_within}
 use Rattle.glass_base.specs.declared.role.Role.{Role}
 use Rattle.glass_base.specs.declared.role.Role.TheVariants as role
 use Rattle.glass_base.specs.declared.limits.TheConstants.{MOST_BUDGET, MOST_DEFECTS, MOST_ITEMS, MOST_PLATES}
@@ -75,21 +74,6 @@ setting_of count.FrontsLimit = record { front = codes "--fronts-limit="; least =
 abbrev pub flag_word : Flag → List ℕ
 flag_word flag.Watch = codes "--watch"
 flag_word flag.Fronts = codes "--fronts"
-
--- a zero stands before other digits
-abbrev pub has_leading_zero : List ℕ → Bool
-has_leading_zero (a ∷ b ∷ rest) = a == 48
-has_leading_zero _ = false
-
--- a text is a number: one digit or more, without a sign and without a zero at the front
-abbrev pub is_number : List ℕ → Bool
-is_number text = nat_lt 0 (length text) && list_all is_ascii_digit text && not (has_leading_zero text)
-
--- the number that a text says, from the least to the greatest that it may be
-abbrev pub number_within : ℕ → ℕ → List ℕ → Option ℕ
-number_within least most text =
-    let n = digits_value 10 text in
-    if is_number text && (nat_le least n && nat_le n most) then Some n else None
 
 -- the least and the greatest number that can stand before the names
 abbrev pub lead_range : Lead → ℕ × ℕ

@@ -3,13 +3,14 @@
 ghost use Rattle.std.specs.Prelude.{◌≡◌, ◌≤◌, ◌||◌, map, count_by, option_map, option_and_then, find, nat_le, position, slice_get, IfSome};
 ghost use Rattle.std.specs.List.{list_all, list_any};
 ghost use Rattle.std.specs.String.{string_bytes};
+ghost use Rattle.glass_base.specs.Digits.{number_within as number_within_of};
 ghost use Rattle.glass_base.specs.Roles.{is_role};
 ghost use Rattle.command_line.specs.Rows.{is_lead, is_product};
-ghost use Rattle.command_line.specs.Words.{are_options as are_options_of, has_leading_zero as has_leading_zero_of, is_number as is_number_of, is_dash as is_dash_of, lead_value as lead_value_of, name_said as name_said_of, number_within as number_within_of, count_value as count_value_of, is_option_for as is_option_for_of, is_name as is_name_of, is_option as is_option_of, option_name as option_name_of, option_names as option_names_of, setting_of, is_any_of as is_any_of_these};
+ghost use Rattle.command_line.specs.Words.{are_options as are_options_of, is_dash as is_dash_of, lead_value as lead_value_of, name_said as name_said_of, count_value as count_value_of, is_option_for as is_option_for_of, is_name as is_name_of, is_option as is_option_of, option_name as option_name_of, option_names as option_names_of, setting_of, is_any_of as is_any_of_these};
 
 use crate::kinds::{Count, Lead, LineOption, Product};
 use crate::options::{flag_word, option_front};
-use glass_base::{Role, are_digits};
+use glass_base::{Role, digits};
 
 /// Whether a word is a file name: not empty, no dash alone, and without two dashes at its front.
 fn is_name(word: &str) -> bool
@@ -72,41 +73,13 @@ pub(crate) fn option_name(role: Role, word: &str) -> Option<&str>
     }
 }
 
-/// Whether a zero stands before other digits.
-fn has_leading_zero(text: &[u8]) -> bool
-    ensures { result ≡ has_leading_zero_of text.now }
-{
-    match text {
-        [first, _, ..] => *first == b'0',
-        _ => false,
-    }
-}
-
-/// Whether a text is a number: one digit or more, without a sign and without a zero at the front.
-fn is_number(text: &[u8]) -> bool
-    ensures { result ≡ is_number_of text.now }
-{
-    !text.is_empty() && are_digits(text) && !has_leading_zero(text)
-}
-
 /// The number that a text says, from the least to the greatest that it may be.
 fn number_within(least: u32, most: u32, text: &str) -> Option<u32>
     ensures value { result ≡ number_within_of least most text.now }
     ensures within { IfSome result (λ n. (least ≤ n) × (n ≤ most)) }
 {
-    if !is_number(text.as_bytes()) {
-        return None;
-    }
-    match text.parse::<u32>() {
-        Ok(number) => {
-            if least <= number && number <= most {
-                Some(number)
-            } else {
-                None
-            }
-        }
-        Err(_) => None,
-    }
+    let number = digits::number_within(text.as_bytes(), u64::from(least), u64::from(most))?;
+    Some(number as u32)
 }
 
 /// The number that a word before the names is.

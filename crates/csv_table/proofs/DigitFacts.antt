@@ -1,26 +1,20 @@
 -- How a number grows by its digits.
-use Rattle.std.proofs.Common.{◌≡◌, ◌<◌, ◌≤◌, ◌+◌, ◌*◌, ◌-◌, ◌^◌, ◌&&◌, ℕ, List, [], ◌∷◌, Bool, true, false, length, take, get_or, arith, refl}
+use Rattle.std.proofs.Common.{◌≡◌, ◌<◌, ◌≤◌, ◌+◌, ◌*◌, ◌-◌, ◌^◌, ℕ, List, [], ◌∷◌, true, length, take, get_or, arith}
 use Rattle.std.specs.Char.{is_ascii_digit}
 use Rattle.std.specs.List.{list_all}
 use Rattle.std.specs.Str.Parse.{AllDigits, digits_value}
+use Rattle.std.proofs.lemmas.Bool.{and_parts}
 use Rattle.std.proofs.lemmas.Str.{digit_value_digit}
 use Rattle.std.proofs.lemmas.Str.Parse.{digit_at, digits_value-take-le}
 use Rattle.std.proofs.lemmas.Int.Digits.{digits_value-lt, digits_value_more}
 use Rattle.std.proofs.Math.Nat.{pow-le-pow_right}
 use Rattle.std.specs.Int.{IsInRange}
-
--- a digit's code
-pub digit_code : (c : ℕ) → is_ascii_digit c ≡ true → IsInRange 48 57 c
-digit_code c e = grind (arith)
-
-both : (a b : Bool) → (a && b) ≡ true → (a ≡ true) × (b ≡ true)
-both true b e = (refl, e)
-both false b e = cc e
+use Rattle.glass_base.proofs.NumberTexts.{digit_code}
 
 pub all-digits : (ds : List ℕ) → list_all is_ascii_digit ds ≡ true → AllDigits 10 ds
 all-digits [] e = tt
 all-digits (c ∷ cs) e =
-    let k = both (is_ascii_digit c) (list_all is_ascii_digit cs) e in
+    let k = and_parts (is_ascii_digit c) (list_all is_ascii_digit cs) e in
     let v = digit_value_digit c (digit_code c k.0) in
     let r = digit_code c k.0 in
     (omega arith, all-digits cs k.1)

@@ -13,7 +13,7 @@ use Rattle.std.specs.Str.Parse.{digits_value}
 use Rattle.csv_table.specs.Numbers.{digits, is_blank, is_point, number_at, trimmed, without_front}
 use Rattle.csv.specs.Writing.{needs_byte}
 use Rattle.csv_table.specs.Lines.{IsPlain, semicolons}
-use Rattle.csv_table.proofs.DigitFacts.{digit_code}
+use Rattle.glass_base.proofs.NumberTexts.{digit_code}
 use Rattle.glass_base.specs.declared.limits.TheConstants.{MOST_NUMBER}
 
 -- bytes that all pass a test pass each weaker one

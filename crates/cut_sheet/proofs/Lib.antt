@@ -8,5 +8,4 @@ pub mod Writables
 pub mod Lying
 pub mod Putting
 pub mod Ending
-pub mod Digits
 pub mod Balances

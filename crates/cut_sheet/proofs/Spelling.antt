@@ -1,12 +1,11 @@
 -- One instruction has one line: lines end at their line feed, and are told apart by their letters and digits.
-use Rattle.std.proofs.Common.{◌≡◌, ◌≢◌, ℕ, suc, ◌+◌, ◌%◌, ◌^◌, ◌<◌, ◌≤◌, ◌⊎◌, inl, inr, List, [], ◌∷◌, ◌++◌, refl, sym, ap, ◌∙◌, subst, arith, append_assoc, All, w64}
+use Rattle.std.proofs.Common.{◌≡◌, ◌≢◌, ℕ, suc, ◌+◌, ◌%◌, ◌^◌, ◌<◌, ◌≤◌, ◌⊎◌, inl, inr, List, [], ◌∷◌, ◌++◌, refl, sym, ap, ◌∙◌, subst, arith, append_assoc}
 use Rattle.std.specs.Prelude.{ℤ, pos, negsuc}
 use Rattle.std.specs.Fmt.{decimal, signed_decimal}
-use Rattle.std.proofs.lemmas.Fmt.{decimal_injective, decimal_by_steps, signed_decimal_injective}
-use Rattle.std.specs.Int.RustNames.{FitsSigned}
+use Rattle.std.proofs.lemmas.Fmt.{decimal_digit, decimal_injective, decimal_by_steps, signed_decimal_injective}
 use Rattle.std.specs.Int.Signed.{mag}
-use Rattle.std.proofs.lemmas.Int.{ints}
 use Rattle.std.proofs.lemmas.List.Elements.{All-cons, All-head, All-nil, All-push, All-tail}
+use Rattle.glass_base.specs.declared.limits.TheConstants.{MOST_NUMBER}
 use Rattle.cut_sheet.specs.declared.instr.Instr.{Instr}
 use Rattle.cut_sheet.specs.Readings.{NoLine}
 use Rattle.cut_sheet.specs.Texts.{IsPieceType, IsWritable, instr_line}
@@ -65,16 +64,24 @@ line_ends (Instr.Off size) rest = ap (λ (t : List ℕ). 75 ∷ 59 ∷ t) (appen
 line_ends Instr.Whole rest = refl
 line_ends (Instr.Done kind) rest = ap (λ (t : List ℕ). 68 ∷ 59 ∷ t) (append_assoc (signed_decimal kind) (10 ∷ []) rest)
 
-pub mag_few : (number : ℤ) → IsPieceType number → mag number < 2 ^ 63
+mag_few : (number : ℤ) → IsPieceType number → mag number < 2 ^ 63
 mag_few (pos n) is = omega arith
 mag_few (negsuc below) is = omega (arith, below_few below is)
 
-pub fits_few : (number : ℤ) → IsPieceType number → FitsSigned w64 number
-fits_few (pos n) is = omega (arith, ints)
-fits_few (negsuc below) is = omega (arith, ints, below_few below is)
-
-pub types_alike : (y z : ℤ) → IsPieceType y → IsPieceType z → signed_decimal y ≡ signed_decimal z → y ≡ z
+types_alike : (y z : ℤ) → IsPieceType y → IsPieceType z → signed_decimal y ≡ signed_decimal z → y ≡ z
 types_alike y z is_y is_z e = signed_decimal_injective y z (mag_few y is_y) (mag_few z is_z) e
+
+pub waste_text : signed_decimal (negsuc 0) ≡ 45 ∷ 49 ∷ []
+waste_text = ap (λ (t : List ℕ). 45 ∷ t) (decimal_digit 1 (omega arith))
+
+pub residual_text : signed_decimal (negsuc 2) ≡ 45 ∷ 51 ∷ []
+residual_text = ap (λ (t : List ℕ). 45 ∷ t) (decimal_digit 3 (omega arith))
+
+-- a text that is neither of the two words and says no number says no type
+pub no_type : (text : List ℕ) → text ≢ 45 ∷ 49 ∷ [] → text ≢ 45 ∷ 51 ∷ [] → ((n : ℕ) → n ≤ MOST_NUMBER → text ≡ decimal n → ⊥) → (number : ℤ) → IsPieceType number → text ≡ signed_decimal number → ⊥
+no_type text waste residual none (pos n) is said = none n is said
+no_type text waste residual none (negsuc below) (inl is) said = waste (said ∙ ap (λ (m : ℕ). signed_decimal (negsuc m)) is ∙ waste_text)
+no_type text waste residual none (negsuc below) (inr is) said = residual (said ∙ ap (λ (m : ℕ). signed_decimal (negsuc m)) is ∙ residual_text)
 
 same_letter : {m n : ℕ} {xs ys : List ℕ} → m ∷ xs ≡ n ∷ ys → m ≡ n
 same_letter e = cc

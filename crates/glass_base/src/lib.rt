@@ -18,7 +18,7 @@ pub mod sizes;
 mod stacks;
 
 pub use bad_text::BadText;
-pub use digits::are_digits;
+pub use digits::{are_digits, number_within};
 pub use instance::{BadInstance, Instance};
 pub use item::{Defect, Item};
 pub use listener::{Listener, News, Nobody};

@@ -1,20 +1,14 @@
-use Rattle.std.proofs.Common.{◌≡◌, ◌≤◌, ℕ, sym, ◌∙◌, arith}
-use Rattle.std.specs.Prelude.{pos}
-use Rattle.std.proofs.lemmas.Int.{ints}
-use Rattle.cut_sheet.specs.Texts.{IsPieceType}
-use Rattle.cut_sheet.proofs.Spelling.{types_alike}
+use Rattle.std.proofs.Common.{sym, ◌∙◌, arith}
+use Rattle.glass_base.proofs.NumberTexts.{read_is_text, unread_is_no_text}
 use Rattle.cut_sheet.proofs.numbers.count.Goals as goal
-use Rattle.cut_sheet.proofs.numbers.count.Goals.{else-number-ge0-via-then-number-ge0+else-number-from, else-number-ge0-via-else-number-ge0}
-use Rattle.glass_base.specs.declared.limits.TheConstants.{MOST_NUMBER}
 
 pub returns-in_err-number : goal.returns-in_err-number
-returns-in_err-number c = rw c.from_residual.ensures (λ n few e. let fits : n ≤ MOST_NUMBER = omega (arith, c.requires) in c.in_err-number.ensures (pos n) fits e)
+returns-in_err-number c =
+    let none = sym (rw c.from.ensures at c.number_within.ensures.value) ∙ c.in_err-number.was in
+    rw c.from_residual.ensures (λ n few is. unread_is_no_text 0 c.args.most c.args.text.now (omega arith) none n (omega arith) few is)
 
-pub returns-else-number-ge0 : goal.returns-else-number-ge0
-returns-else-number-ge0 c = λ n few e.
-    let fits : n ≤ MOST_NUMBER = omega (arith, c.requires) in
-    let same : c.in_ok-number.number ≡ pos n = types_alike c.in_ok-number.number (pos n) c.in_ok-number.ensures.0 fits (sym c.in_ok-number.ensures.1 ∙ e) in
-    elim c.else-number-ge0.branch [
-      | else-number-ge0-via-then-number-ge0+else-number-from w ↦ omega (arith, ints, same, w.if-number-from.false, w.from.ensures)
-      | else-number-ge0-via-else-number-ge0 w ↦ omega (arith, ints, same, w.if-number-ge0.false)
-    ]
+pub returns : goal.returns
+returns c =
+    let some = sym (rw c.from.ensures at c.number_within.ensures.value) ∙ c.in_ok-number.was in
+    let read = read_is_text 0 c.args.most c.args.text.now c.in_ok-number.number (omega arith) some in
+    (read.1, read.2)
