@@ -7,22 +7,21 @@ use Rattle.glass_base.specs.Plates.{Before, Width}
 use Rattle.glass_base.specs.Problem.{Problem}
 use Rattle.front_bound.specs.declared.stretch.Stretch.{Stretch}
 use Rattle.front_bound.specs.declared.stretch.Sought.{Sought}
-use Rattle.front_table.specs.declared.keyed.Keyed.{Keyed}
 use Rattle.front_table.specs.declared.labels.FrontLabel.{FrontLabel}
 use Rattle.front_table.specs.declared.moves.Move.{Move}
 use Rattle.front_bound.specs.declared.places.PieceToPlace.{PieceToPlace}
 use Rattle.front_bound.specs.declared.places.Corner.{Corner}
 use Rattle.front_bound.specs.inner.Clear.{Clear, LineClear, Meets, IsFree, Covered, EndsPlaced}
 use Rattle.front_table.specs.Lattice.{area_at}
-use Rattle.front_table.specs.Levels.{bands_at, list_at}
-use Rattle.front_table.specs.Lists.{Listed, HasBands, waste_of}
-use Rattle.front_bound.specs.inner.Placed.{CellJoined, CellsGoOn, CanGoOn, RunJoined, RunsJoined, MoveJoined, EntryJoined, IsSlack, NoneGoesOn, MovesExtended, Extended, RowPlaced}
+use Rattle.front_table.specs.Levels.{bands_at}
+use Rattle.front_table.specs.Widths.{waste_of}
+use Rattle.front_bound.specs.inner.Placed.{CellJoined, CellsGoOn, CanGoOn, RunJoined, RunsJoined, MoveJoined, WasteJoined, IsSlack, NoneGoesOn, MovesExtended, Extended, RowPlaced}
 use Rattle.front_table.specs.Pools.{row_at, HeldAt, Spreads}
 use Rattle.front_table.specs.Sets.{Has, Fits, Held, HeldTo, Stands}
 use Rattle.front_table.proofs.Each.{contained_each}
 use Rattle.front_table.proofs.HeldLists.{least_first, held_none}
 use Rattle.front_table.proofs.PoolRows.{kept_at}
-use Rattle.front_table.proofs.StripTries.{less_glass, least_waste, at_place}
+use Rattle.front_table.proofs.StripTries.{less_glass, least_waste}
 
 -- a list of places
 pub covered_push_old : (places : List Corner) (p : Corner) (left low : ℕ) → Covered places left low → Covered (places ++ p ∷ []) left low
@@ -91,9 +90,9 @@ module _ (t : Stretch) (from : ℕ) (old new : List (List FrontLabel)) (s : Spre
   unfolding MoveJoined
   move_kept n label m joined x d w right low up own next can = s.kept m.to (x + d) w right up (joined x d w right low up own next can)
 
-  pub entry_kept : (n : ℕ) (label : FrontLabel) (place : ℕ) → EntryJoined t old n label place → EntryJoined t new n label place
-  unfolding EntryJoined
-  entry_kept n label place joined m is = move_kept n label m (joined m is)
+  pub waste_kept : (n : ℕ) (label : FrontLabel) (slack : ℕ) (m : Move) → WasteJoined t old n label slack m → WasteJoined t new n label slack m
+  unfolding WasteJoined
+  waste_kept n label slack m joined low = move_kept n label m (joined low)
 
   pub extended_kept : (n : ℕ) (label : FrontLabel) → Extended t old n label → Extended t new n label
   unfolding MovesExtended
@@ -123,16 +122,15 @@ module _ (t : Stretch) (pool : List (List FrontLabel)) (n : ℕ) where
   unfolding RowPlaced
   row_none none k d lt = absurd (omega (arith, lt, ap length none))
 
-  -- each band of the list goes on, or leaves more than it may
-  pub all_joined : (label : FrontLabel) (slack : ℕ) → t.limits.bound ≤ t.limits.top → HasBands t.fronts.rows.now n t.limits.top (bands_at t.fronts.levels.now n) (list_at t.fronts.levels.now n t.limits.class) → IsSlack t n label slack →
-      ((e : Keyed) → Contains (list_at t.fronts.levels.now n t.limits.class) e → e.key ≤ slack → EntryJoined t pool n label e.place) → Extended t pool n label
-  unfolding MovesExtended EntryJoined MoveJoined HasBands Listed IsSlack
-  all_joined label slack bound bands most joined = inl (λ m has x d w right low up own next can.
-      let listed = bands has.0 m has.1 (omega (arith, ap (λ (b : Move). b.label.across.least) has.2, least_first m.label.across w next.1, can.end.narrow, bound)) in
+  -- each band goes on, or leaves more than it may
+  pub all_joined : (label : FrontLabel) (slack : ℕ) → t.limits.bound ≤ t.limits.top → IsSlack t n label slack →
+      ((m : Move) → Contains (bands_at t.fronts.levels.now n) m → m.label.across.least ≤ t.limits.top → WasteJoined t pool n label slack m) → Extended t pool n label
+  unfolding MovesExtended WasteJoined MoveJoined IsSlack
+  all_joined label slack bound most joined = inl (λ m has x d w right low up own next can.
+      let narrow : m.label.across.least ≤ t.limits.top = omega (arith, least_first m.label.across w next.1, can.end.narrow, bound) in
       let less : t.limits.top * m.label.along.least ≤ t.limits.top * d = mul-le t.limits.top m.label.along.least t.limits.top d (omega arith) (least_first m.label.along d next.0) in
       let waste : waste_of t.fronts.rows.now n t.limits.top m ≤ slack = omega (arith, less, most m.to x d w right low up own can) in
-      let key : listed.0.key ≤ slack = omega (arith, listed.3, ap (waste_of t.fronts.rows.now n t.limits.top) has.2, waste) in
-      joined listed.0 listed.1 key m (ap (slice_get (bands_at t.fronts.levels.now n)) listed.2 ∙ at_place (bands_at t.fronts.levels.now n) m has) x d w right low up own next can)
+      joined m has narrow waste x d w right low up own next can)
 
 -- how much a band may leave
 pub slack_more : (t : Stretch) (n : ℕ) (label : FrontLabel) (slack more : ℕ) → slack ≤ more → IsSlack t n label slack → IsSlack t n label more

@@ -28,7 +28,8 @@ use Rattle.front_table.specs.Leads.{cell_height, cells_area, Moved}
 use Rattle.front_table.specs.Levels.{bands_at, ends_at}
 use Rattle.front_bound.specs.inner.Placed.{CellsGoOn, CanJoin, CanGoOn, RunsJoined, MoveJoined, MovesExtended, IsSlack, Extended, RowPlaced}
 use Rattle.front_table.specs.Pools.{row_at}
-use Rattle.front_table.specs.Ready.{Ready, Fitting}
+use Rattle.front_table.specs.Ready.{TailsBelow, Ready, Fitting}
+use Rattle.front_table.specs.Tails.{unit_in}
 use Rattle.front_table.specs.Sets.{HeldTo}
 use Rattle.front_bound.specs.Sides.{StripHeld, ClassGoesOn}
 use Rattle.front_table.proofs.CellRuns.{gap_within, gap_left}
@@ -277,14 +278,14 @@ band_step b t h plate pool start s n f le at w band is mv narrow left right from
           runs.joined mv.move.to mv.down x band.high w right from (low + band.high) stands (subst (λ k. HeldTo (row_at runs.cells k) w band.high right (low + band.high)) to r.held) can
     ]
 
-bands_placed : (b : Problem) (t : Stretch) → IsLattice b t.fronts.rows.now → (cover : ℕ) → Fitting b t.limits cover → (to_go : ℕ → ℕ) (start : ℕ) → Ready b t.fronts.rows.now t.fronts.levels.now cover to_go start → (plate : ℕ) (pool : List (List FrontLabel)) → Searched b t plate pool start →
+bands_placed : (b : Problem) (t : Stretch) → IsLattice b t.fronts.rows.now → (cover : ℕ) → Fitting b t.limits cover → (to_go : ℕ → ℕ) (start : ℕ) → Ready b t.fronts.rows.now t.fronts.levels.now cover to_go start → TailsBelow b t.fronts.rows.now t.fronts.levels.now t.limits.class t.limits.bound to_go start → (plate : ℕ) (pool : List (List FrontLabel)) → Searched b t plate pool start →
     (w : ℕ) → w ≤ t.limits.bound → (left right : ℕ) → t.site.left ≤ left → right ≤ t.site.room → (bands : List Band) (n : ℕ) (f : Front) (x from : ℕ) → n ≤ start → At b t.fronts.rows.now n f → AreBands b w f bands → BandPlaces b plate left right f from bands →
     x + bands_height bands ≡ t.limits.height → (m : ℕ) → At b t.fronts.rows.now m (after_bands f bands) → w + to_go m ≤ t.limits.most → right + to_go m ≤ t.reach → HeldTo (row_at pool n) x w right from → HeldTo (row_at pool m) t.limits.height w right b.params.height
-bands_placed b t h cover fit to_go start r plate pool s w narrow left right begin room [] n f x from le at are gap whole m to near reaches held =
+bands_placed b t h cover fit to_go start r under plate pool s w narrow left right begin room [] n f x from le at are gap whole m to near reaches held =
     let same : n ≡ m = one_row b t.fronts.rows.now h n m f at to in
     subst (λ k. HeldTo (row_at pool k) t.limits.height w right b.params.height) same
     (subst (λ k. HeldTo (row_at pool n) k w right b.params.height) (omega (arith, whole)) (held_further (row_at pool n) x w right from right b.params.height (omega arith) (gap_within b.params.waste from b.params.height gap) held))
-bands_placed b t h cover fit to_go start r plate pool s w narrow left right begin room (band ∷ bands) n f x from le at are (low, gap, cells, rest) whole m to near reaches held =
+bands_placed b t h cover fit to_go start r under plate pool s w narrow left right begin room (band ∷ bands) n f x from le at are (low, gap, cells, rest) whole m to near reaches held =
     let rows : List FrontRow = t.fronts.rows.now in
     let e : Front = after_cells f band.cells in
     let d : ℕ = band.high in
@@ -312,6 +313,9 @@ bands_placed b t h cover fit to_go start r plate pool s w narrow left right begi
         top = omega (arith, top, fit.height);
         ends = behind;
         within = there;
+        tails = λ k fits.
+            under mv.move.to (omega (arith, mv.down, le)) e mv.at w bands are.1 narrow (omega (arith, narrow, fit.bound)) (omega (arith, top)) m to k
+            (omega (arith, top, fits, fit.height, ap (λ n. (k + 1) * unit_in n) fit.height));
         near = near;
         reaches = reaches;
       };
@@ -322,16 +326,16 @@ bands_placed b t h cover fit to_go start r plate pool s w narrow left right begi
       within = here;
       split = omega (arith, left_all, left_more);
     } in
-    bands_placed b t h cover fit to_go start r plate pool s w narrow left right begin room bands mv.move.to e (x + d) (low + d) (omega (arith, mv.down, le)) mv.at are.1 rest (omega (arith, whole)) m to near reaches
+    bands_placed b t h cover fit to_go start r under plate pool s w narrow left right begin room bands mv.move.to e (x + d) (low + d) (omega (arith, mv.down, le)) mv.at are.1 rest (omega (arith, whole)) m to near reaches
     (band_step b t h plate pool start s n f le at w band are.0 mv narrow left right from low x begin room above (omega (arith, top)) cells can held)
 
 -- strips that begin behind one of a plate are held where they end
-pub placed_goes_on : (b : Problem) (t : Stretch) → IsLattice b t.fronts.rows.now → (cover : ℕ) → Fitting b t.limits cover → (to_go : ℕ → ℕ) (start : ℕ) → Ready b t.fronts.rows.now t.fronts.levels.now cover to_go start → (plate : ℕ) (pool : List (List FrontLabel)) → Searched b t plate pool start →
+pub placed_goes_on : (b : Problem) (t : Stretch) → IsLattice b t.fronts.rows.now → (cover : ℕ) → Fitting b t.limits cover → (to_go : ℕ → ℕ) (start : ℕ) → Ready b t.fronts.rows.now t.fronts.levels.now cover to_go start → TailsBelow b t.fronts.rows.now t.fronts.levels.now t.limits.class t.limits.bound to_go start → (plate : ℕ) (pool : List (List FrontLabel)) → Searched b t plate pool start →
     (low : ℕ) → ((x w right up : ℕ) → (x ≡ 0) ⊎ (0 + t.site.waste ≤ x) → low ≤ w → t.site.left ≤ right → HeldTo (row_at pool start) x w right up) → (holes : List Defect) → AreHoles b plate holes → (most : ℕ) (sides : List (List FrontLabel)) (begin : FrontLabel) (top room most_left : ℕ) →
     t.site.left ≡ begin.along.least → t.site.room ≡ Width b plate → most ≤ Before b plate + t.reach → t.reach ≤ t.site.left + t.limits.most → ((w : ℕ) → w ≤ top → w ≤ b.params.max1 → w ≤ room → t.site.left + w ≤ Width b plate → w ≤ t.limits.bound) →
     ((m : ℕ) → m < start → EndsPlaced b holes (to_go m) most sides m plate t.site.left (row_at pool m)) → ClassGoesOn b t.fronts.rows.now to_go most sides start (begin ∷ []) plate low top room most_left
 unfolding ClassGoesOn StripHeld EndsPlaced
-placed_goes_on b t h cover fit to_go start r plate pool s low begun holes are most sides begin top room most_left begins width reaches tight bound ends f at from held w bands is wide narrow fits m to near right placed gap within close =
+placed_goes_on b t h cover fit to_go start r under plate pool s low begun holes are most sides begin top room most_left begins width reaches tight bound ends f at from held w bands is wide narrow fits m to near right placed gap within close =
     let here : begin.along.least ≤ from = least_first begin.along from (one_held begin from plate held).0 in
     let sum : from + w ≤ right = gap_within b.params.waste (from + w) right gap in
     let high : ℕ = bands_height bands in
@@ -341,7 +345,7 @@ placed_goes_on b t h cover fit to_go start r plate pool s low begun holes are mo
     subst (λ k. (tall - high ≡ 0) ⊎ (0 + k ≤ tall - high)) (sym s.waste) (subst (λ k. (k - high ≡ 0) ⊎ (0 + b.params.waste ≤ k - high)) (sym fit.height) (gap_left b.params.waste high b.params.height is.fill)) in
     let left : t.site.left ≤ right - w = omega (arith, begins, here, sum) in
     let strip : HeldTo (row_at pool m) tall w right b.params.height =
-    bands_placed b t h cover fit to_go start r plate pool s w (bound w narrow is.narrow fits (omega (arith, begins, here, sum, within))) (right - w) right left (omega (arith, width, within)) bands start f (tall - high) 0 (omega arith) at is.each placed.places
+    bands_placed b t h cover fit to_go start r under plate pool s w (bound w narrow is.narrow fits (omega (arith, begins, here, sum, within))) (right - w) right left (omega (arith, width, within)) bands start f (tall - high) 0 (omega arith) at is.each placed.places
     (omega (arith, some, fit.height)) m to (omega (arith, close, reaches, tight, begins, here, sum)) (omega (arith, close, reaches)) (begun (tall - high) w right 0 none wide (omega (arith, left))) in
     ends m (strip_down b t.fronts.rows.now h f start at w bands is m to) w right (subst (λ k. HeldTo (row_at pool m) k w right b.params.height) fit.height strip) (omega (arith, begins, here, sum)) within
     (λ inside. line_clear b plate holes are right placed.end inside) close

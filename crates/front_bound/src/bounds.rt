@@ -59,7 +59,7 @@ fn is_shown_at_all<L: Listener>(probe: &Probe<'_, L>, length: u64) -> Result<boo
 
 /// Whether it is shown that no lawful plan is shorter than a length, in mm: a plan's length is where its last plate's residual begins, with all plates before
 /// that in one line. `false` says that it was not shown: a plan may be shorter, or more than `limit` labels would be looked at in one of the searches, or there are more fronts than one for each
-/// 25,000 of them. So `limit` bounds time and memory.
+/// 5,000 of them. So `limit` bounds time and memory.
 pub fn is_no_shorter(
     alloc: Global,
     instance: &Instance,
@@ -98,7 +98,10 @@ pub fn longest<L: Listener>(
     for _ in 0..ROUNDS {
         let least = match least_reached(probe, fronts, next) {
             Ok(least) => least,
-            Err(halt) => return Ok(halt.or(shown)?),
+            Err(halt) => {
+                probe.tell(halt);
+                return Ok(halt.or(shown)?);
+            }
         };
         shown = least.min(most);
         if least <= next || next == most {
@@ -121,7 +124,7 @@ fn longest_of_all<L: Listener>(probe: &Probe<'_, L>, most: u64) -> Result<u64, H
 
 /// A length up to `most`, in mm, of which it is shown that no lawful plan is shorter, by searches within a growing length, the last of which comes to
 /// an end; that no greater one can be shown is not promised. Where more than `limit` labels would be looked at in one of them, it is what those before have
-/// shown; where there are more fronts than one for each 25,000 of them, it is 0, which says nothing. How far that is, is told to `listener`.
+/// shown; where there are more fronts than one for each 5,000 of them, it is 0, which says nothing. How far that is, is told to `listener`.
 pub fn longest_shown<L: Listener>(
     alloc: Global,
     instance: &Instance,
@@ -142,6 +145,9 @@ pub fn longest_shown<L: Listener>(
     };
     match longest_of_all(&probe, most) {
         Ok(shown) => Ok(shown),
-        Err(halt) => halt.or(0),
+        Err(halt) => {
+            probe.tell(halt);
+            halt.or(0)
+        }
     }
 }

@@ -13,7 +13,7 @@ use std::alloc::Global;
 /// How fronts are searched.
 #[derive(Drop)]
 pub struct FrontSearch<'a, L> {
-    /// How many labels are looked at in one search at the most; there may be a front for each 25,000 of them. It bounds time and memory.
+    /// How many labels are looked at in one search at the most; there may be a front for each 5,000 of them. It bounds time and memory.
     pub labels: u64,
     /// Who is told how far it is.
     pub listener: &'a L,

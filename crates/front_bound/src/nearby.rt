@@ -116,7 +116,6 @@ fn place_begin(
             bound,
             height: class.limits.height,
             most: reach.saturating_sub(u64::from(left)),
-            shift: class.limits.shift,
         },
         site: StripBegin {
             left,

@@ -1,25 +1,22 @@
 //! Strips around defects, by one band more.
 
 ghost use Rattle.std.specs.Prelude.{ℕ, ◌+◌, ◌<◌, ◌≤◌, Contains, OnOk, length};
-ghost use Rattle.front_table.specs.declared.keyed.Keyed.{Keyed as KeyedOf};
-ghost use Rattle.front_table.specs.Ends.{Falls};
-ghost use Rattle.front_table.specs.Levels.{ends_at};
-ghost use Rattle.front_table.specs.Lists.{Rises};
-ghost use Rattle.front_bound.specs.inner.Placed.{BandJoined, EntryJoined, MoveJoined, RunJoined, RunsJoined};
+ghost use Rattle.front_table.specs.declared.moves.Move.{Move as MoveOf};
+ghost use Rattle.front_table.specs.Levels.{bands_at};
+ghost use Rattle.front_bound.specs.inner.Placed.{BandJoined, IsStretch, MoveJoined, RunJoined, RunsJoined, WasteJoined};
 ghost use Rattle.front_table.specs.Pools.{Spreads, row_at};
 
 use crate::onward::Onward;
 use crate::stretch::Stretch;
 use front_table::bands::band_of;
-use front_table::ends::{is_beyond, near};
 use front_table::halt::Halt;
-use front_table::keyed::{Keyed, entry_at, key_at};
 use front_table::labels::FrontLabel;
-use front_table::levels::{band_at, ends_of};
+use front_table::levels::{bands_of, tails_of};
 use front_table::moves::Move;
+use front_table::packed::{packed_width, unpacked_at};
 use front_table::pools::LabelPool;
 use front_table::rows::waste_left;
-use front_table::strips::glass_above;
+use front_table::tails::{tail_in, unit_of, units_in};
 
 /// Goes on from a label by a band, where the strip can still end near enough.
 fn join_band(
@@ -31,7 +28,6 @@ fn join_band(
 ) -> Result<(), Halt>
     requires pool { to < length pool.old }
     requires levels { to < length stretch.now.fronts.levels.now }
-    requires falls { Falls (ends_at stretch.now.fronts.levels.now to) }
     ensures spreads { OnOk result (Spreads (to + 1) pool.old pool.new) }
     ensures joined { OnOk result (BandJoined stretch.now pool.new label.now to band.now) }
 {
@@ -55,14 +51,11 @@ fn join_band(
     if end > stretch.reach {
         return Ok(());
     }
-    let free = glass_above(limits.bound, limits.height, band.up);
+    let left = limits.height - band.up;
+    let tails = tails_of(stretch.fronts.levels, to, limits.class);
+    let tail = tail_in(tails, units_in(left, unit_of(limits.height)));
     let within = (limits.most - wide).min(stretch.reach - end);
-    if is_beyond(
-        ends_of(stretch.fronts.levels, to),
-        stretch.limits.shift,
-        free,
-        within,
-    ) {
+    if tail > within {
         return Ok(());
     }
     let joined = FrontLabel {
@@ -84,7 +77,6 @@ fn join_run(
 ) -> Result<(), Halt>
     requires pool { to < length pool.old }
     requires levels { to < length onward.now.stretch.now.fronts.levels.now }
-    requires falls { Falls (ends_at onward.now.stretch.now.fronts.levels.now to) }
     ensures spreads { OnOk result (Spreads (to + 1) pool.old pool.new) }
     ensures joined { OnOk result (RunJoined onward.now.stretch.now pool.new onward.now.row
         onward.now.label.now to cells.now) }
@@ -111,7 +103,6 @@ fn join_runs(
 ) -> Result<(), Halt>
     requires pool { to < length pool.old }
     requires levels { to < length onward.now.stretch.now.fronts.levels.now }
-    requires falls { Falls (ends_at onward.now.stretch.now.fronts.levels.now to) }
     ensures spreads { OnOk result (Spreads (to + 1) pool.old pool.new) }
     ensures joined { OnOk result (RunsJoined onward.now.stretch.now pool.new onward.now.row
         onward.now.label.now to runs.now) }
@@ -127,8 +118,6 @@ pub fn join_rows(pool: &mut LabelPool, onward: &Onward<'_>, cells: &LabelPool) -
     requires pool { onward.now.row < length pool.old }
     requires cells { onward.now.row < length cells.now }
     requires levels { onward.now.row < length onward.now.stretch.now.fronts.levels.now }
-    requires falls { (n : ℕ) → n ≤ onward.now.row
-        → Falls (ends_at onward.now.stretch.now.fronts.levels.now n) }
     ensures spreads { OnOk result (Spreads onward.now.row pool.old pool.new) }
     ensures joined { OnOk result ((to : ℕ) → to < onward.now.row
         → RunsJoined onward.now.stretch.now pool.new onward.now.row onward.now.label.now to
@@ -151,7 +140,6 @@ fn join_move(
 ) -> Result<(), Halt>
     requires pool { row < length pool.old }
     requires levels { row < length stretch.now.fronts.levels.now }
-    requires falls { (n : ℕ) → n ≤ row → Falls (ends_at stretch.now.fronts.levels.now n) }
     ensures spreads { OnOk result (Spreads row pool.old pool.new) }
     ensures joined { OnOk result (MoveJoined stretch.now pool.new row label.now band.now) }
 {
@@ -169,44 +157,45 @@ fn join_move(
     Ok(())
 }
 
-/// Goes on from a label of a row by the band at a place, which no defect is in the way of.
-fn join_entry(
-    pool: &mut LabelPool,
-    stretch: &Stretch<'_>,
-    row: usize,
-    label: &FrontLabel,
-    place: u32,
-) -> Result<(), Halt>
-    requires pool { row < length pool.old }
-    requires levels { row < length stretch.now.fronts.levels.now }
-    requires falls { (n : ℕ) → n ≤ row → Falls (ends_at stretch.now.fronts.levels.now n) }
-    ensures spreads { OnOk result (Spreads row pool.old pool.new) }
-    ensures joined { OnOk result (EntryJoined stretch.now pool.new row label.now place) }
+/// Goes on from a label of a row by a band that no defect is in the way of, where it leaves no more than it may.
+fn join_wasting(pool: &mut LabelPool, onward: &Onward<'_>, band: &Move) -> Result<(), Halt>
+    requires pool { onward.now.row < length pool.old }
+    requires levels { onward.now.row < length onward.now.stretch.now.fronts.levels.now }
+    ensures spreads { OnOk result (Spreads onward.now.row pool.old pool.new) }
+    ensures joined { OnOk result (WasteJoined onward.now.stretch.now pool.new onward.now.row
+        onward.now.label.now onward.now.slack band.now) }
 {
-    let Some(band) = band_at(stretch.fronts.levels, row, place) else {
+    let stretch = onward.stretch;
+    let top = stretch.limits.top;
+    let high = band.label.along.least;
+    let waste = waste_left(stretch.fronts.rows, onward.row, band.to as usize, top, high);
+    if waste > onward.slack {
         return Ok(());
-    };
-    join_move(pool, stretch, row, label, &band)?;
+    }
+    join_move(pool, stretch, onward.row, onward.label, band)?;
     Ok(())
 }
 
-/// Goes on from a label of a row by each band of a list that leaves no more than it may, where no defect is in the way.
-pub fn join_list(pool: &mut LabelPool, onward: &Onward<'_>, list: &[Keyed]) -> Result<(), Halt>
+/// Goes on from a label of a row by each band of the row that is no wider than the strips and leaves no more than it may, where no defect is in the way.
+pub fn join_moves(pool: &mut LabelPool, onward: &Onward<'_>) -> Result<(), Halt>
     requires pool { onward.now.row < length pool.old }
-    requires levels { onward.now.row < length onward.now.stretch.now.fronts.levels.now }
-    requires falls { (n : ℕ) → n ≤ onward.now.row
-        → Falls (ends_at onward.now.stretch.now.fronts.levels.now n) }
-    requires rises { Rises list.now }
+    requires stretch { IsStretch onward.now.stretch.now }
     ensures spreads { OnOk result (Spreads onward.now.row pool.old pool.new) }
-    ensures joined { OnOk result ((e : KeyedOf) → Contains list.now e → e.key ≤ onward.now.slack
-        → EntryJoined onward.now.stretch.now pool.new onward.now.row onward.now.label.now e.place) }
+    ensures joined { OnOk result ((m : MoveOf)
+        → Contains (bands_at onward.now.stretch.now.fronts.levels.now onward.now.row) m
+        → m.label.across.least ≤ onward.now.stretch.now.limits.top
+        → WasteJoined onward.now.stretch.now pool.new onward.now.row onward.now.label.now
+        onward.now.slack m) }
 {
-    for at in 0..list.len() {
-        if u64::from(key_at(list, at)) > onward.slack {
+    let stretch = onward.stretch;
+    let top = stretch.limits.top;
+    let bands = bands_of(stretch.fronts.levels, onward.row);
+    for at in 0..bands.len() {
+        if packed_width(bands, at) > top {
             return Ok(());
         }
-        let entry = entry_at(list, at);
-        join_entry(pool, onward.stretch, onward.row, onward.label, entry.place)?;
+        let band = unpacked_at(bands, at);
+        join_wasting(pool, onward, &band)?;
     }
     Ok(())
 }

@@ -6,13 +6,12 @@ ghost use Rattle.front_table.specs.Pools.{Spreads, row_at};
 ghost use Rattle.front_table.specs.Sets.{HeldTo};
 
 use crate::onward::Onward;
-use crate::placed_bands::{join_list, join_rows};
+use crate::placed_bands::{join_moves, join_rows};
 use crate::placed_cells::{CellSpace, cells_from};
 use crate::slack::{most_slack, slack_of};
 use crate::stretch::{Sought, Stretch};
 use front_table::halt::Halt;
 use front_table::labels::FrontLabel;
-use front_table::levels::list_of;
 use front_table::pools::LabelPool;
 use front_table::sets::SizeSet;
 use glass_base::Defect;
@@ -71,9 +70,7 @@ fn extend_freely(pool: &mut LabelPool, onward: &Onward<'_>) -> Result<(), Halt>
     ensures extended { OnOk result (Extended onward.now.stretch.now pool.new onward.now.row
         onward.now.label.now) }
 {
-    let stretch = onward.stretch;
-    let list = list_of(stretch.fronts.levels, onward.row, stretch.limits.class);
-    join_list(pool, onward, list)?;
+    join_moves(pool, onward)?;
     Ok(())
 }
 

@@ -14,7 +14,6 @@ ghost use Rattle.front_bound.specs.Sides.{ClassGoesOn, NextHeld, PlateGoesOn, Si
 use crate::nearby::{Class, Space, new_space, place_begins};
 use crate::outset::Outset;
 use crate::sides::offer_ends;
-use front_table::ends::shift_of;
 use front_table::fronts::Fronts;
 use front_table::halt::Halt;
 use front_table::labels::{FrontLabel, offer};
@@ -187,7 +186,6 @@ fn handle_plate(
                 bound: top.min(params.max1).min(room),
                 height: params.height,
                 most: left,
-                shift: shift_of(outset.fronts.cover),
             },
         };
         handle_class(outset, space, sides, begins, &strips)?;

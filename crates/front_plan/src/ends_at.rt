@@ -4,7 +4,6 @@ ghost use Rattle.std.specs.Prelude.{◌≡◌, ◌<◌, length, OnOk};
 
 use crate::plan_search::PlanSearch;
 use front_bound::runs::end_by;
-use front_table::ends::shift_of;
 use front_table::far::low_of;
 use front_table::halt::Halt;
 use front_table::labels::FrontLabel;
@@ -124,7 +123,6 @@ pub fn strips_between(
             bound: top.min(params.max1).min(room),
             height: params.height,
             most: u64::from(room).saturating_add(to_go(fronts.levels, end.row)),
-            shift: shift_of(fronts.cover),
         },
         start: between.from,
     };

@@ -8,6 +8,7 @@ use front_table::halt::Halt;
 use front_table::labels::FrontLabel;
 use front_table::levels::bands_of;
 use front_table::moves::Move;
+use front_table::packed::unpacked_at;
 use front_table::pools::LabelPool;
 use front_table::rows::moves_of;
 
@@ -43,14 +44,32 @@ pub struct Whole {
     pub across: u32,
 }
 
-/// What leads on from a row.
-fn moves_by<'a>(fronts: &Fronts<'a>, of: Of, row: usize) -> &'a [Move]
+/// How many moves lead on from a row.
+fn moves_from(fronts: &Fronts<'_>, of: Of, row: usize) -> usize
     requires rows { row < length fronts.now.rows.now }
     requires levels { row < length fronts.now.levels.now }
 {
     match of {
-        Of::Bands => bands_of(fronts.levels, row),
-        Of::Cells => moves_of(fronts.rows, row),
+        Of::Bands => bands_of(fronts.levels, row).len(),
+        Of::Cells => moves_of(fronts.rows, row).len(),
+    }
+}
+
+/// One of them.
+fn move_at(fronts: &Fronts<'_>, of: Of, row: usize, at: usize) -> Option<Move>
+    requires rows { row < length fronts.now.rows.now }
+    requires levels { row < length fronts.now.levels.now }
+{
+    match of {
+        Of::Bands => {
+            let bands = bands_of(fronts.levels, row);
+            if at < bands.len() {
+                Some(unpacked_at(bands, at))
+            } else {
+                None
+            }
+        }
+        Of::Cells => moves_of(fronts.rows, row).get(at).copied(),
     }
 }
 
@@ -78,33 +97,43 @@ fn part_by(label: &FrontLabel, next: &Move, sought: &SoughtParts) -> Option<Fron
     })
 }
 
-/// Adds the parts by each of the moves behind what a label stands for.
+/// Adds the parts by each of the moves from a row behind what a label stands for.
 fn add_behind(
     parts: &mut Vec<FrontPart>,
+    fronts: &Fronts<'_>,
+    of: Of,
     label: &FrontLabel,
-    moves: &[Move],
     sought: &SoughtParts,
-) -> Result<(), Halt> {
+) -> Result<(), Halt>
+    requires rows { sought.now.from < length fronts.now.rows.now }
+    requires levels { sought.now.from < length fronts.now.levels.now }
+{
     if !label.across.has(sought.across) {
         return Ok(());
     }
-    for next in moves {
-        if let Some(part) = part_by(label, next, sought) {
-            parts.push(part)?;
+    for at in 0..moves_from(fronts, of, sought.from) {
+        if let Some(next) = move_at(fronts, of, sought.from, at) {
+            if let Some(part) = part_by(label, &next, sought) {
+                parts.push(part)?;
+            }
         }
     }
     Ok(())
 }
 
-/// Adds the parts by each of the moves behind each of the labels.
+/// Adds the parts by each of the moves from a row behind each of its labels.
 fn add_in(
     parts: &mut Vec<FrontPart>,
+    fronts: &Fronts<'_>,
+    of: Of,
     labels: &[FrontLabel],
-    moves: &[Move],
     sought: &SoughtParts,
-) -> Result<(), Halt> {
+) -> Result<(), Halt>
+    requires rows { sought.now.from < length fronts.now.rows.now }
+    requires levels { sought.now.from < length fronts.now.levels.now }
+{
     for label in labels {
-        add_behind(parts, label, moves, sought)?;
+        add_behind(parts, fronts, of, label, sought)?;
     }
     Ok(())
 }
@@ -122,14 +151,19 @@ fn parts_to(
 {
     let mut parts = Vec::new(search.alloc);
     for from in to.saturating_add(1)..whole.start.saturating_add(1) {
-        let moves = moves_by(&search.fronts, whole.of, from);
         let sought = SoughtParts {
             from,
             to,
             along,
             across: whole.across,
         };
-        add_in(&mut parts, pool.labels(from), moves, &sought)?;
+        add_in(
+            &mut parts,
+            &search.fronts,
+            whole.of,
+            pool.labels(from),
+            &sought,
+        )?;
     }
     Ok(parts)
 }

@@ -154,7 +154,13 @@ fn shown_by_fronts<L: Listener>(
         limit: search.labels,
         listener: search.listener,
     };
-    let table = table_of(&probe)?;
+    let table = match table_of(&probe) {
+        Ok(table) => table,
+        Err(halt) => {
+            probe.tell(halt);
+            return Err(halt);
+        }
+    };
     let fronts = table.lend(ground.instance);
     let length = longest(&probe, &fronts, most)?;
     let plan = plan_below(&probe, ground, &fronts, length, most)?;

@@ -9,7 +9,6 @@ use Rattle.glass_base.specs.Problem.{Problem}
 use Rattle.front_course.specs.Fronts.{Front}
 use Rattle.front_course.specs.Cells.{after_cells}
 use Rattle.front_table.specs.declared.ends.End.{End}
-use Rattle.front_table.specs.declared.keyed.Keyed.{Keyed}
 use Rattle.front_table.specs.declared.labels.FrontLabel.{FrontLabel}
 use Rattle.front_table.specs.declared.levels.RowFacts.{RowFacts}
 use Rattle.front_table.specs.declared.moves.Move.{Move}
@@ -19,8 +18,8 @@ use Rattle.front_table.specs.declared.fronts.Fronts.{Fronts}
 use Rattle.front_table.specs.Ends.{Ended, Falls, EndsBehind}
 use Rattle.front_table.specs.Lattice.{At, LeadDown, area_at, count_at}
 use Rattle.front_table.specs.Leads.{BandsLead, Moved, cells_area}
-use Rattle.front_table.specs.Levels.{bands_at, ends_at, list_at, to_go_at}
-use Rattle.front_table.specs.Lists.{Listed, Rises, HasBands}
+use Rattle.front_table.specs.Levels.{bands_at, ends_at, to_go_at}
+use Rattle.front_table.specs.Widths.{Rises}
 use Rattle.front_table.specs.Ready.{AreFronts, Built, IsLevel, Opened}
 use Rattle.front_table.specs.Sets.{Has, Fits, Held}
 use Rattle.front_table.proofs.Each.{below_next}
@@ -102,13 +101,6 @@ module _ {A : Type 0} (P : A → Type 0) where
             ]
       ]
 
-listed_known : (list : List Keyed) (place key : ℕ) → ∥ Listed list place key ∥₁ → Listed list place key
-unfolding Listed Found
-listed_known list place key h =
-    let Is : Keyed → Type 0 = λ e. (e.place ≡ place) × (e.key ≤ key) in
-    let one = known (found_decided Is (λ e. both (same_decided e.place place) (le_decided e.key key)) list) (∥∥₁_map h (λ l. (l.0, l.1, (l.2, l.3)))) in
-    (one.0, one.1, one.2.0, one.2.1)
-
 ended_known : (ends : List End) (area to_go : ℕ) → ∥ Ended ends area to_go ∥₁ → Ended ends area to_go
 unfolding Ended Found
 ended_known ends area to_go h =
@@ -116,17 +108,13 @@ ended_known ends area to_go h =
     let one = known (found_decided Is (λ e. both (le_decided e.area area) (le_decided e.to_go to_go)) ends) (∥∥₁_map h (λ l. (l.0, l.1, (l.2, l.3)))) in
     (one.0, one.1, one.2.0, one.2.1)
 
-bands_known : (rows : List FrontRow) (n top : ℕ) (bands : List Move) (list : List Keyed) → ∥ HasBands rows n top bands list ∥₁ → HasBands rows n top bands list
-unfolding HasBands
-bands_known rows n top bands list h k d lt narrow = listed_known list k _ (∥∥₁_map h (λ has. has k d lt narrow))
-
 falls_known : (ends : List End) → ∥ Falls ends ∥₁ → Falls ends
 unfolding Falls
 falls_known ends h i j le lt = ∥∥₁_elim h (×_prop le_prop le_prop) (λ falls. falls i j le lt)
 
-rises_known : (list : List Keyed) → ∥ Rises list ∥₁ → Rises list
+rises_known : (bands : List Move) → ∥ Rises bands ∥₁ → Rises bands
 unfolding Rises
-rises_known list h i j le lt = ∥∥₁_elim h le_prop (λ rises. rises i j le lt)
+rises_known bands h i j le lt = ∥∥₁_elim h le_prop (λ rises. rises i j le lt)
 
 pub down_known : (rows : List FrontRow) → ∥ LeadDown rows ∥₁ → LeadDown rows
 unfolding LeadDown
@@ -173,28 +161,30 @@ bands_lead_known b rows n bands h f at width band narrow low is = moved_known b 
 pub ends_behind_known : (b : Problem) (rows : List FrontRow) (most : ℕ) (to_go : ℕ → ℕ) (n : ℕ) (ends : List End) → ∥ EndsBehind b rows most to_go n ends ∥₁ → EndsBehind b rows most to_go n ends
 ends_behind_known b rows most to_go n ends h f at stacks some takes m to area left few = ended_known ends area (to_go m) (∥∥₁_map h (λ behind. behind f at stacks some takes m to area left few))
 
-level_known : (b : Problem) (rows : List FrontRow) (tops : List ℕ) (levels : List RowFacts) (n : ℕ) → ∥ IsLevel b rows tops levels n ∥₁ → IsLevel b rows tops levels n
-level_known b rows tops levels n h = record {
+level_known : (b : Problem) (rows : List FrontRow) (levels : List RowFacts) (n : ℕ) → ∥ IsLevel b rows levels n ∥₁ → IsLevel b rows levels n
+level_known b rows levels n h = record {
   falls = falls_known (ends_at levels n) (∥∥₁_map h (λ is. is.falls));
-  rises = λ k lt. rises_known (list_at levels n k) (∥∥₁_map h (λ is. is.rises k lt));
-  lists = λ k d lt. bands_known rows n (get_or tops k d) (bands_at levels n) (list_at levels n k) (∥∥₁_map h (λ is. is.lists k d lt));
+  rises = rises_known (bands_at levels n) (∥∥₁_map h (λ is. is.rises));
   bands = bands_lead_known b rows n (bands_at levels n) (∥∥₁_map h (λ is. is.bands));
 }
 
 pub built_known : (b : Problem) (rows : List FrontRow) (tops : List ℕ) (cover : ℕ) (levels : List RowFacts) → ∥ Built b rows tops cover levels ∥₁ → Built b rows tops cover levels
 built_known b rows tops cover levels h = record {
-  each = λ n lt. level_known b rows tops levels n (∥∥₁_map h (λ built. built.each n lt));
+  each = λ n lt. level_known b rows levels n (∥∥₁_map h (λ built. built.each n lt));
   ends = λ n lt f at stacks takes m to area left few. ended_known (ends_at levels n) area (to_go_at levels m) (∥∥₁_map h (λ built. built.ends n lt f at stacks takes m to area left few));
   to_go = λ n lt f at w bands is m to. ∥∥₁_elim h le_prop (λ built. built.to_go n lt f at w bands is m to);
+  tails = λ n lt k d few f at w bands are narrow most within m to j below. ∥∥₁_elim h le_prop (λ built. built.tails n lt k d few f at w bands are narrow most within m to j below);
 }
 
 pub opened_known : (b : Problem) (rows : List FrontRow) (tops : List ℕ) (cover : ℕ) (levels : List RowFacts) (start : ℕ) → ∥ Opened b rows tops cover levels start ∥₁ → Opened b rows tops cover levels start
 opened_known b rows tops cover levels start h = record {
   len = ∥∥₁_elim h (Coded-set coded_ℕ _ _) (λ opened. opened.len);
-  each = λ n le. level_known b rows tops levels n (∥∥₁_map h (λ opened. opened.each n le));
+  each = λ n le. level_known b rows levels n (∥∥₁_map h (λ opened. opened.each n le));
   ends = λ n lt f at stacks takes m to area left few. ended_known (ends_at levels n) area (to_go_at levels m) (∥∥₁_map h (λ opened. opened.ends n lt f at stacks takes m to area left few));
   behind = ends_behind_known b rows cover (to_go_at levels) start (ends_at levels start) (∥∥₁_map h (λ opened. opened.behind));
   to_go = λ n lt f at w bands is m to. ∥∥₁_elim h le_prop (λ opened. opened.to_go n lt f at w bands is m to);
+  tails = λ n lt k d few f at w bands are narrow most within m to j below. ∥∥₁_elim h le_prop (λ opened. opened.tails n lt k d few f at w bands are narrow most within m to j below);
+  tails_behind = λ k d few f at w bands some are narrow most within m to j below. ∥∥₁_elim h le_prop (λ opened. opened.tails_behind k d few f at w bands some are narrow most within m to j below);
 }
 
 -- what is known of each of the fronts

@@ -6,10 +6,12 @@ use Rattle.glass_base.specs.Problem.{Problem}
 use Rattle.front_table.specs.declared.levels.RowFacts.{RowFacts}
 use Rattle.front_table.specs.declared.rows.FrontRow.{FrontRow}
 use Rattle.front_table.specs.declared.strips.Limits.{Limits}
-use Rattle.front_table.specs.Levels.{bands_at, list_at, to_go_at}
-use Rattle.front_table.specs.Lists.{HasBands}
-use Rattle.front_table.specs.Ready.{Ready, Fitting, Opened, IsLeast, LeastBelow, LeavesLeast}
+use Rattle.front_table.specs.Levels.{bands_at, to_go_at}
+use Rattle.front_table.specs.Ready.{Ready, TailsBelow, Fitting, Opened, IsLeast, LeastBelow, LeavesLeast}
+use Rattle.front_course.specs.Strips.{bands_height}
+use Rattle.front_table.specs.Tails.{tail_at, tails_at, unit_in}
 use Rattle.front_table.specs.Tries.{Searchable}
+use Rattle.front_table.proofs.CellRuns.{gap_within}
 
 -- no strip is narrower than the least width
 pub least_none : (b : Problem) (rows : List FrontRow) (to_go : ℕ → ℕ) (start low most least : ℕ) → low ≤ b.params.min1 → LeastBelow b rows to_go start low most least
@@ -48,14 +50,13 @@ pub least_wider : (b : Problem) (rows : List FrontRow) (to_go : ℕ → ℕ) (st
 least_wider b rows to_go start low bound top most least within is_least f at w bands is wide narrow m to near = is_least f at w bands is wide (within w narrow is.narrow) m to near
 
 -- what an opened table says to a search
-pub opened_searchable : (b : Problem) (rows : List FrontRow) (tops : List ℕ) (cover : ℕ) (levels : List RowFacts) (start : ℕ) → Opened b rows tops cover levels start → (l : Limits) → l.class < length tops → l.top ≡ get_or tops l.class l.top → l.bound ≤ l.top →
+pub opened_searchable : (b : Problem) (rows : List FrontRow) (tops : List ℕ) (cover : ℕ) (levels : List RowFacts) (start : ℕ) → Opened b rows tops cover levels start → (l : Limits) → l.bound ≤ l.top →
     Searchable rows levels l start
-opened_searchable b rows tops cover levels start o l lt top bound = record {
+opened_searchable b rows tops cover levels start o l bound = record {
   len = omega (arith, o.len);
   bound = bound;
   falls = λ n le. (o.each n le).falls;
-  rises = λ n le. (o.each n le).rises l.class lt;
-  bands = λ n le. subst (λ k. HasBands rows n k (bands_at levels n) (list_at levels n l.class)) (sym top) ((o.each n le).lists l.class l.top lt);
+  rises = λ n le. (o.each n le).rises;
 }
 
 pub opened_ready : (b : Problem) (rows : List FrontRow) (tops : List ℕ) (cover : ℕ) (levels : List RowFacts) (start : ℕ) → Opened b rows tops cover levels start → Ready b rows levels cover (to_go_at levels) start
@@ -67,3 +68,15 @@ fits b l cover height bound enough = record {
   bound = bound;
   covered = omega (arith, mul-le l.bound l.height b.params.max1 b.params.height bound (omega (arith, height)), enough);
 }
+
+-- what an opened table says of the tails of a class
+pub opened_tails : (b : Problem) (rows : List FrontRow) (tops : List ℕ) (cover : ℕ) (levels : List RowFacts) (start : ℕ) → Opened b rows tops cover levels start → (class bound : ℕ) → class < length tops → bound ≤ get_or tops class 0 →
+    TailsBelow b rows levels class bound (to_go_at levels) start
+opened_tails b rows tops cover levels start o class bound lt top n less f at w bands are narrow most within m to k below = o.tails n less class 0 lt f at w bands are (omega (arith, narrow, top)) most within m to k below
+
+-- no strip of a class is near enough
+pub class_beyond : (b : Problem) (rows : List FrontRow) (tops : List ℕ) (cover : ℕ) (levels : List RowFacts) (start : ℕ) → Opened b rows tops cover levels start → (class low most least tail k : ℕ) → class < length tops → tail ≤ tail_at (tails_at levels start class) k →
+    b.params.height < (k + 1) * unit_in b.params.height → most < tail + low → IsLeast b rows (to_go_at levels) start low (get_or tops class 0) most least
+class_beyond b rows tops cover levels start o class low most least tail k lt is fits past f at w bands strip wide narrow m to near =
+    let within : bands_height bands ≤ b.params.height = gap_within b.params.waste (bands_height bands) b.params.height strip.fill in
+    absurd (omega (arith, near, wide, past, is, o.tails_behind class 0 lt f at w bands strip.some strip.each narrow strip.narrow within m to k (omega (arith, within, fits))))

@@ -5,18 +5,21 @@ use Rattle.std.proofs.lemmas.Bool.{cases_lt}
 use Rattle.std.proofs.lemmas.List.{map-append, get_or_append_left, get_or_default, length-map}
 use Rattle.glass_base.specs.Problem.{Problem}
 use Rattle.front_table.specs.declared.ends.End.{End}
-use Rattle.front_table.specs.declared.keyed.Keyed.{Keyed}
 use Rattle.front_table.specs.declared.levels.RowFacts.{RowFacts}
 use Rattle.front_table.specs.declared.moves.Move.{Move}
 use Rattle.front_table.specs.declared.rows.FrontRow.{FrontRow}
 use Rattle.front_table.specs.Ends.{Ended, Falls, EndsFrom, EndsBehind}
 use Rattle.front_table.specs.Lattice.{At, IsLattice}
 use Rattle.front_table.specs.Leads.{BandsLead}
-use Rattle.front_table.specs.Levels.{bands_at, ends_at, list_at, to_go_at, IsToGo}
-use Rattle.front_table.specs.Lists.{Rises, HasBands}
-use Rattle.front_table.specs.Ready.{SameLevel, IsLast, IsLevel, IsOpen, Built, Opened, LeavesLeast, HasLists, IsClosed}
+use Rattle.front_table.specs.Levels.{bands_at, ends_at, to_go_at, IsToGo}
+use Rattle.front_table.specs.Widths.{Rises}
+use Rattle.front_table.specs.Packed.{unpacked_all}
+use Rattle.front_table.specs.Ready.{SameLevel, IsLast, IsLevel, ClassTails, IsOpen, Built, Opened, LeavesLeast, IsClosed}
 use Rattle.front_table.proofs.Paths.{path_strict, ends_from_as, ends_with}
-use Rattle.front_table.proofs.StripRuns.{strip_down}
+use Rattle.front_table.specs.Tails.{HasTails, HasTailsBehind, IsLower, tail_at, tails_at, unit_in}
+use Rattle.front_table.proofs.FrontRows.{one_row}
+use Rattle.front_table.proofs.StackTails.{has_tails}
+use Rattle.front_table.proofs.StripRuns.{strip_down, bands_within_row, bands_down}
 
 -- of rows that are seen by `f`
 seen_old : {A B : Type 0} (f : A → B) (xs : List A) (x : A) (n : ℕ) (d : B) → n < length xs → get_or (map f (xs ++ x ∷ [])) n d ≡ get_or (map f xs) n d
@@ -28,34 +31,32 @@ seen_new f xs x d =
 
 pub same_pushed : (levels : List RowFacts) (level : RowFacts) (n : ℕ) → n < length levels → SameLevel levels (levels ++ level ∷ []) n
 same_pushed levels level n lt = record {
-  bands = seen_old (λ (l : RowFacts). l.bands.items) levels level n [] lt;
-  lists = λ k. ap (λ lists. get_or (map (λ v. v.items) lists) k []) (seen_old (λ (l : RowFacts). l.lists.items) levels level n [] lt);
+  bands = ap unpacked_all (seen_old (λ (l : RowFacts). l.bands.items) levels level n [] lt);
   ends = seen_old (λ (l : RowFacts). l.ends.items) levels level n [] lt;
   to_go = seen_old (λ (l : RowFacts). l.to_go) levels level n 0 lt;
+  tails = λ k. ap (λ tails. get_or (map (λ v. v.items) tails) k []) (seen_old (λ (l : RowFacts). l.tails.items) levels level n [] lt);
 }
 
 pub last_pushed : (levels : List RowFacts) (level : RowFacts) → IsLast (levels ++ level ∷ []) (length levels) level
 last_pushed levels level = record {
-  bands = seen_new (λ (l : RowFacts). l.bands.items) levels level [];
-  lists = λ k. ap (λ lists. get_or (map (λ v. v.items) lists) k []) (seen_new (λ (l : RowFacts). l.lists.items) levels level []);
+  bands = ap unpacked_all (seen_new (λ (l : RowFacts). l.bands.items) levels level []);
   ends = seen_new (λ (l : RowFacts). l.ends.items) levels level [];
   to_go = seen_new (λ (l : RowFacts). l.to_go) levels level 0;
+  tails = λ k. ap (λ tails. get_or (map (λ v. v.items) tails) k []) (seen_new (λ (l : RowFacts). l.tails.items) levels level []);
 }
 
 -- what is known of a row stays known
-level_as : (b : Problem) (rows : List FrontRow) (tops : List ℕ) (levels other : List RowFacts) (n : ℕ) → SameLevel levels other n → IsLevel b rows tops levels n → IsLevel b rows tops other n
-level_as b rows tops levels other n s is = record {
+level_as : (b : Problem) (rows : List FrontRow) (levels other : List RowFacts) (n : ℕ) → SameLevel levels other n → IsLevel b rows levels n → IsLevel b rows other n
+level_as b rows levels other n s is = record {
   falls = subst Falls (sym s.ends) is.falls;
-  rises = λ k lt. subst Rises (sym (s.lists k)) (is.rises k lt);
-  lists = λ k d lt. subst (λ l. HasBands rows n (get_or tops k d) (bands_at other n) l) (sym (s.lists k)) (subst (λ l. HasBands rows n (get_or tops k d) l (list_at levels n k)) (sym s.bands) (is.lists k d lt));
+  rises = subst Rises (sym s.bands) is.rises;
   bands = subst (BandsLead b rows n) (sym s.bands) is.bands;
 }
 
-open_level : (b : Problem) (rows : List FrontRow) (tops : List ℕ) (cover : ℕ) (to_go : ℕ → ℕ) (levels : List RowFacts) (n : ℕ) (level : RowFacts) → IsLast levels n level → IsOpen b rows tops cover to_go n level → IsLevel b rows tops levels n
+open_level : (b : Problem) (rows : List FrontRow) (tops : List ℕ) (cover : ℕ) (to_go : ℕ → ℕ) (levels : List RowFacts) (n : ℕ) (level : RowFacts) → IsLast levels n level → IsOpen b rows tops cover to_go n level → IsLevel b rows levels n
 open_level b rows tops cover to_go levels n level s is = record {
   falls = subst Falls (sym s.ends) is.falls;
-  rises = λ k lt. subst Rises (sym (s.lists k)) (is.rises k lt);
-  lists = λ k d lt. subst (λ l. HasBands rows n (get_or tops k d) (bands_at levels n) l) (sym (s.lists k)) (subst (λ l. HasBands rows n (get_or tops k d) l (get_or (map (λ v. v.items) level.lists.items) k [])) (sym s.bands) (is.lists k d lt));
+  rises = subst Rises (sym s.bands) is.rises;
   bands = subst (BandsLead b rows n) (sym s.bands) is.bands;
 }
 
@@ -69,6 +70,19 @@ to_go_as : (b : Problem) (rows : List FrontRow) → IsLattice b rows → (to_go 
 to_go_as b rows h to_go other n same is f at w bands strip m to =
     omega (arith, is f at w bands strip m to, same n (omega arith), same m (omega (arith, strip_down b rows h f n at w bands strip m to)))
 
+tails_as : (b : Problem) (rows : List FrontRow) → IsLattice b rows → (top unit : ℕ) (to_go other : ℕ → ℕ) (n : ℕ) (tails : List ℕ) → ((m : ℕ) → m ≤ n → to_go m ≡ other m) → HasTails b rows top unit to_go n tails → HasTails b rows top unit other n tails
+tails_as b rows h top unit to_go other n tails same has f at w bands are narrow most within m to k below =
+    omega (arith, has f at w bands are narrow most within m to k below, same m (bands_within_row b rows h f n at w bands are m to))
+
+tails_behind_as : (b : Problem) (rows : List FrontRow) → IsLattice b rows → (top unit : ℕ) (to_go other : ℕ → ℕ) (n : ℕ) (tails : List ℕ) → ((m : ℕ) → m < n → to_go m ≡ other m) → HasTailsBehind b rows top unit to_go n tails → HasTailsBehind b rows top unit other n tails
+tails_behind_as b rows h top unit to_go other n tails same has f at w bands some are narrow most within m to k below =
+    omega (arith, has f at w bands some are narrow most within m to k below, same m (bands_down b rows h f n at w bands some are m to))
+
+class_as : (b : Problem) (rows : List FrontRow) → IsLattice b rows → (tops : List ℕ) (levels other : List RowFacts) (n : ℕ) → ((m : ℕ) → m ≤ n → SameLevel levels other m) → ClassTails b rows tops levels n → ClassTails b rows tops other n
+class_as b rows h tops levels other n same has k d lt =
+    subst (HasTails b rows (get_or tops k d) (unit_in b.params.height) (to_go_at other) n) (sym ((same n (omega arith)).tails k))
+    (tails_as b rows h (get_or tops k d) (unit_in b.params.height) (to_go_at levels) (to_go_at other) n (tails_at levels n k) (λ m le. sym (same m le).to_go) (has k d lt))
+
 -- a row is opened
 pub opened : (b : Problem) (rows : List FrontRow) (tops : List ℕ) (cover : ℕ) → IsLattice b rows → (levels other : List RowFacts) (level : RowFacts) → Built b rows tops cover levels → IsOpen b rows tops cover (to_go_at levels) (length levels) level →
     length other ≡ length levels + 1 → ((n : ℕ) → n < length levels → SameLevel levels other n) → IsLast other (length levels) level → Opened b rows tops cover other (length levels)
@@ -76,10 +90,10 @@ opened b rows tops cover h levels other level built is len same last = record {
   len = len;
   each = λ n le.
       elim (cases_lt n (length levels)) [
-        | inl old ↦ level_as b rows tops levels other n (same n old) (built.each n old)
+        | inl old ↦ level_as b rows levels other n (same n old) (built.each n old)
         | inr new ↦
             let here : length levels ≡ n = omega (arith, le, new) in
-            subst (IsLevel b rows tops other) here (open_level b rows tops cover (to_go_at levels) other (length levels) level last is)
+            subst (IsLevel b rows other) here (open_level b rows tops cover (to_go_at levels) other (length levels) level last is)
       ];
   ends = λ n old.
       subst (EndsFrom b rows cover (to_go_at other) n) (sym (same n old).ends)
@@ -87,64 +101,43 @@ opened b rows tops cover h levels other level built is len same last = record {
   behind = subst (EndsBehind b rows cover (to_go_at other) (length levels)) (sym last.ends)
       (behind_as b rows h cover (to_go_at levels) (to_go_at other) (length levels) level.ends.items (λ m lt. sym (same m lt).to_go) is.behind);
   to_go = λ n old. to_go_as b rows h (to_go_at levels) (to_go_at other) n (λ m le. sym (same m (omega (arith, le, old))).to_go) (built.to_go n old);
+  tails = λ n old. class_as b rows h tops levels other n (λ m le. same m (omega (arith, le, old))) (built.tails n old);
+  tails_behind = λ k d lt.
+      subst (HasTailsBehind b rows (get_or tops k d) (unit_in b.params.height) (to_go_at other) (length levels)) (sym (last.tails k))
+      (tails_behind_as b rows h (get_or tops k d) (unit_in b.params.height) (to_go_at levels) (to_go_at other) (length levels) (get_or (map (λ v. v.items) level.tails.items) k []) (λ m lt. sym (same m lt).to_go) (is.tails k d lt));
 }
 
-pub lists_none : (rows : List FrontRow) (n : ℕ) (tops : List ℕ) (bands : List Move) → HasLists rows n tops bands [] 0
-unfolding HasLists
-lists_none rows n tops bands = (refl, λ k d lt. absurd (omega (arith, lt)))
-
--- one class more
-pub lists_next : (rows : List FrontRow) (n : ℕ) (tops : List ℕ) (bands : List Move) (lists other : List (List Keyed)) (list : List Keyed) (many top : ℕ) → HasLists rows n tops bands lists many → other ≡ lists ++ list ∷ [] → many < length tops → top ≡ get_or tops many 0 →
-    Rises list → HasBands rows n top bands list → HasLists rows n tops bands other (many + 1)
-unfolding HasLists
-lists_next rows n tops bands lists other list many top has is lt same rises own = subst (λ l. HasLists rows n tops bands l (many + 1)) (sym is) (omega (arith, length-append lists (list ∷ []), has.0), each)
-  where
-    each : (k d : ℕ) → k < many + 1 → Rises (get_or (lists ++ list ∷ []) k []) × HasBands rows n (get_or tops k d) bands (get_or (lists ++ list ∷ []) k [])
-    each k d le =
-        elim (cases_lt k many) [
-          | inl old ↦
-              let e : get_or (lists ++ list ∷ []) k [] ≡ get_or lists k [] = get_or_append_left lists (list ∷ []) [] k (omega (arith, old, has.0)) in
-              (subst Rises (sym e) (has.1 k d old).0, subst (HasBands rows n (get_or tops k d) bands) (sym e) (has.1 k d old).1)
-          | inr new ↦
-              let here : k ≡ length lists = omega (arith, le, new, has.0) in
-              let e : get_or (lists ++ list ∷ []) k [] ≡ list = ap (λ i. get_or (lists ++ list ∷ []) i []) here ∙ get_or-append_seam lists list [] [] in
-              let t : top ≡ get_or tops k d = same ∙ ap (λ i. get_or tops i 0) (omega (arith, le, new)) ∙ get_or_default tops k 0 d (omega (arith, le, lt)) in
-              (subst Rises (sym e) rises, subst (λ w. HasBands rows n w bands (get_or (lists ++ list ∷ []) k [])) t (subst (HasBands rows n top bands) (sym e) own))
-        ]
-
-lists_are : (rows : List FrontRow) (n : ℕ) (tops : List ℕ) (bands : List Move) (lists : List (List Keyed)) → HasLists rows n tops bands lists (length tops) → (k d : ℕ) → k < length tops → Rises (get_or lists k []) × HasBands rows n (get_or tops k d) bands (get_or lists k [])
-unfolding HasLists
-lists_are rows n tops bands lists has = has.1
-
-pub is_open : (b : Problem) (rows : List FrontRow) (tops : List ℕ) (cover : ℕ) (to_go : ℕ → ℕ) (n : ℕ) (level : RowFacts) → Falls level.ends.items → HasLists rows n tops level.bands.items (map (λ v. v.items) level.lists.items) (length tops) → BandsLead b rows n level.bands.items →
-    EndsBehind b rows cover to_go n level.ends.items → IsOpen b rows tops cover to_go n level
-is_open b rows tops cover to_go n level falls lists bands behind = record {
+pub is_open : (b : Problem) (rows : List FrontRow) (tops : List ℕ) (cover : ℕ) (to_go : ℕ → ℕ) (n : ℕ) (level : RowFacts) → Falls level.ends.items → Rises (unpacked_all level.bands.items) → BandsLead b rows n (unpacked_all level.bands.items) →
+    EndsBehind b rows cover to_go n level.ends.items → ((k d : ℕ) → k < length tops → HasTailsBehind b rows (get_or tops k d) (unit_in b.params.height) to_go n (get_or (map (λ v. v.items) level.tails.items) k [])) → IsOpen b rows tops cover to_go n level
+is_open b rows tops cover to_go n level falls rises bands behind tails = record {
   falls = falls;
-  rises = λ k lt. (lists_are rows n tops level.bands.items (map (λ v. v.items) level.lists.items) lists k 0 lt).0;
-  lists = λ k d lt. (lists_are rows n tops level.bands.items (map (λ v. v.items) level.lists.items) lists k d lt).1;
+  rises = rises;
   bands = bands;
   behind = behind;
+  tails = tails;
 }
 
 -- two lists that know the same as a third one
 same_both : (mid levels other : List RowFacts) (n : ℕ) → SameLevel mid levels n → SameLevel mid other n → SameLevel levels other n
-same_both mid levels other n s t = record { bands = t.bands ∙ sym s.bands; lists = λ k. t.lists k ∙ sym (s.lists k); ends = t.ends ∙ sym s.ends; to_go = t.to_go ∙ sym s.to_go }
+same_both mid levels other n s t = record { bands = t.bands ∙ sym s.bands; ends = t.ends ∙ sym s.ends; to_go = t.to_go ∙ sym s.to_go; tails = λ k. t.tails k ∙ sym (s.tails k) }
 
 -- the last row is taken away, and put back with itself as an end
 pub is_closed : (levels mid other : List RowFacts) (last closed : RowFacts) (far : ℕ) → levels ≡ mid ++ last ∷ [] → length other ≡ length mid + 1 → ((n : ℕ) → n < length mid → SameLevel mid other n) → IsLast other (length mid) closed →
-    closed.bands.items ≡ last.bands.items → closed.lists.items ≡ last.lists.items → closed.to_go ≡ far → Falls closed.ends.items → Ended closed.ends.items 0 far →
-    ((area to_go : ℕ) → Ended last.ends.items area to_go → Ended closed.ends.items area to_go) → IsClosed levels other far
-is_closed levels mid other last closed far whole len same new bands lists to_go falls own kept =
+    closed.bands.items ≡ last.bands.items → closed.to_go ≡ far → Falls closed.ends.items → Ended closed.ends.items 0 far →
+    ((area to_go : ℕ) → Ended last.ends.items area to_go → Ended closed.ends.items area to_go) →
+    ((k : ℕ) → IsLower (get_or (map (λ v. v.items) closed.tails.items) k []) (get_or (map (λ v. v.items) last.tails.items) k [])) → ((k j : ℕ) → tail_at (get_or (map (λ v. v.items) closed.tails.items) k []) j ≤ far) → IsClosed levels other far
+is_closed levels mid other last closed far whole len same new bands to_go falls own kept lower tails =
     let was : IsLast levels (length mid) last = subst (λ l. IsLast l (length mid) last) (sym whole) (last_pushed mid last) in
     record {
       last = length mid;
       old_len = omega (arith, ap length whole, length-append mid (last ∷ []));
       new_len = len;
       same = λ n lt. same_both mid levels other n (subst (λ l. SameLevel mid l n) (sym whole) (same_pushed mid last n lt)) (same n lt);
-      bands = new.bands ∙ bands ∙ sym was.bands;
-      lists = λ k. new.lists k ∙ ap (λ l. get_or (map (λ v. v.items) l) k []) lists ∙ sym (was.lists k);
+      bands = new.bands ∙ ap unpacked_all bands ∙ sym was.bands;
       to_go = new.to_go ∙ to_go;
       falls = subst Falls (sym new.ends) falls;
+      lower = λ k. subst (λ l. IsLower l (tails_at levels (length mid) k)) (sym (new.tails k)) (subst (λ l. IsLower (get_or (map (λ v. v.items) closed.tails.items) k []) l) (sym (was.tails k)) (lower k));
+      tails = λ k. subst (λ l. (j : ℕ) → tail_at l j ≤ far) (sym (new.tails k)) (tails k);
       own = subst (λ l. Ended l 0 far) (sym new.ends) own;
       kept = λ area far ended. subst (λ l. Ended l area far) (sym new.ends) (kept area far (subst (λ l. Ended l area far) was.ends ended));
     }
@@ -160,8 +153,8 @@ closed b rows tops cover h levels other start far o least c =
     record {
       each = λ n lt.
           elim (last_same n lt) [
-            | inl old ↦ level_as b rows tops levels other n (same n old) (o.each n (omega (arith, old)))
-            | inr e ↦ subst (IsLevel b rows tops other) e (last_level (subst (IsLevel b rows tops levels) (sym here) (o.each start (omega arith))))
+            | inl old ↦ level_as b rows levels other n (same n old) (o.each n (omega (arith, old)))
+            | inr e ↦ subst (IsLevel b rows other) e (last_level (subst (IsLevel b rows levels) (sym here) (o.each start (omega arith))))
           ];
       ends = λ n lt.
           elim (last_same n lt) [
@@ -189,18 +182,25 @@ closed b rows tops cover h levels other start far o least c =
                   (c.same m (strip_down b rows h f c.last at w bands strip m to)).to_go,
                 ))
           ];
+      tails = λ n lt.
+          elim (last_same n lt) [
+            | inl old ↦ class_as b rows h tops levels other n (λ m le. same m (omega (arith, le, old))) (o.tails n old)
+            | inr e ↦ subst (ClassTails b rows tops other) e (λ k d lt. has_tails b rows (get_or tops k d) (unit_in b.params.height) (to_go_at other) c.last (tails_at levels c.last k) (tails_at other c.last k)
+                (λ m f at to. one_row b rows h c.last m f at to) (c.lower k) (λ j. omega (arith, c.tails k j, c.to_go))
+                (tails_behind_as b rows h (get_or tops k d) (unit_in b.params.height) (to_go_at levels) (to_go_at other) c.last (tails_at levels c.last k) (λ m lt. sym (c.same m lt).to_go)
+                (subst (λ n. HasTailsBehind b rows (get_or tops k d) (unit_in b.params.height) (to_go_at levels) n (tails_at levels n k)) (sym here) (o.tails_behind k d lt))))
+          ];
     }
   where
-    last_level : IsLevel b rows tops levels c.last → IsLevel b rows tops other c.last
+    last_level : IsLevel b rows levels c.last → IsLevel b rows other c.last
     last_level is = record {
       falls = c.falls;
-      rises = λ k lt. subst Rises (sym (c.lists k)) (is.rises k lt);
-      lists = λ k d lt. subst (λ l. HasBands rows c.last (get_or tops k d) (bands_at other c.last) l) (sym (c.lists k)) (subst (λ l. HasBands rows c.last (get_or tops k d) l (list_at levels c.last k)) (sym c.bands) (is.lists k d lt));
+      rises = subst Rises (sym c.bands) is.rises;
       bands = subst (BandsLead b rows c.last) (sym c.bands) is.bands;
     }
 
 pub built_none : (b : Problem) (rows : List FrontRow) (tops : List ℕ) (cover : ℕ) → Built b rows tops cover []
-built_none b rows tops cover = record { each = λ n lt. absurd (omega (arith, lt)); ends = λ n lt. absurd (omega (arith, lt)); to_go = λ n lt. absurd (omega (arith, lt)) }
+built_none b rows tops cover = record { each = λ n lt. absurd (omega (arith, lt)); ends = λ n lt. absurd (omega (arith, lt)); to_go = λ n lt. absurd (omega (arith, lt)); tails = λ n lt. absurd (omega (arith, lt)) }
 
 -- the same, with the rows and their number under other names
 pub opened_at : (b : Problem) (rows : List FrontRow) (tops : List ℕ) (cover : ℕ) → IsLattice b rows → (levels shown other : List RowFacts) (level : RowFacts) (row : ℕ) → shown ≡ levels → row ≡ length levels → Built b rows tops cover levels →

@@ -7,8 +7,10 @@ pub mod FrontRows
 pub mod CellRuns
 pub mod Staircases
 pub mod Paths
-pub mod KeyLists
+pub mod WidthLists
+pub mod PackedBands
 pub mod StripTries
 pub mod StripRuns
+pub mod StackTails
 pub mod Leasts
 pub mod LevelLists

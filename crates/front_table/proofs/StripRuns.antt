@@ -17,7 +17,8 @@ use Rattle.front_table.specs.Lattice.{At, area_at, moves_at, IsLattice}
 use Rattle.front_table.specs.Leads.{cell_area, cells_area, Moved}
 use Rattle.front_table.specs.Levels.{bands_at, ends_at}
 use Rattle.front_table.specs.Pools.{HeldAt}
-use Rattle.front_table.specs.Ready.{Ready, Fitting}
+use Rattle.front_table.specs.Ready.{Ready, Fitting, TailsBelow}
+use Rattle.front_table.specs.Tails.{tail_at, tails_at, unit_in}
 use Rattle.front_table.specs.Tries.{RowExtended, MayGoOn}
 use Rattle.front_table.proofs.FrontRows.{one_row, cells_lead}
 use Rattle.front_table.proofs.CellRuns.{gap_within, gap_left}
@@ -160,14 +161,14 @@ behind_at b rows levels cover to_go start r n le f at stacks some takes m to are
           subst (λ k. EndsBehind b rows cover to_go k (ends_at levels k)) same r.behind f at stacks some takes m to area left few
     ]
 
-bands_held : (b : Problem) (rows : List FrontRow) → IsLattice b rows → (levels : List RowFacts) (l : Limits) (cover : ℕ) → Fitting b l cover → (to_go : ℕ → ℕ) (start : ℕ) → Ready b rows levels cover to_go start →
+bands_held : (b : Problem) (rows : List FrontRow) → IsLattice b rows → (levels : List RowFacts) (l : Limits) (cover : ℕ) → Fitting b l cover → (to_go : ℕ → ℕ) (start : ℕ) → Ready b rows levels cover to_go start → TailsBelow b rows levels l.class l.bound to_go start →
     (pool : List (List FrontLabel)) → ((n : ℕ) → n ≤ start → RowExtended rows levels l pool n) → (w : ℕ) → w ≤ l.bound → (bands : List Band) (n : ℕ) (f : Front) (x : ℕ) → n ≤ start → At b rows n f → AreBands b w f bands →
     x + bands_height bands ≡ l.height → (m : ℕ) → At b rows m (after_bands f bands) → w + to_go m ≤ l.most → HeldAt pool n x w → HeldAt pool m l.height w
 unfolding RowExtended
-bands_held b rows h levels l cover fit to_go start r pool closed w narrow [] n f x le at are whole m to near held =
+bands_held b rows h levels l cover fit to_go start r under pool closed w narrow [] n f x le at are whole m to near held =
     let same : n ≡ m = one_row b rows h n m f at to in
     subst (λ k. HeldAt pool k l.height w) same (subst (λ k. HeldAt pool n k w) (omega (arith, whole)) held)
-bands_held b rows h levels l cover fit to_go start r pool closed w narrow (band ∷ bands) n f x le at are whole m to near held =
+bands_held b rows h levels l cover fit to_go start r under pool closed w narrow (band ∷ bands) n f x le at are whole m to near held =
     let g : Front = after_cells f band.cells in
     let d : ℕ = band.high in
     let rest : ℕ = bands_height bands in
@@ -183,15 +184,17 @@ bands_held b rows h levels l cover fit to_go start r pool closed w narrow (band 
     let to_more : At b rows m (after_items g (stacks_in bands)) = subst (λ k. At b rows m k) (sym (after_in g bands)) to in
     let some : 1 ≤ length (stacks_in (band ∷ bands)) = stacks_more band bands are.0.some in
     let before : Ended (ends_at levels n) all (to_go m) = behind_at b rows levels cover to_go start r n le f at (stacks_in (band ∷ bands)) some (bands_take b w f (band ∷ bands) are) m to_all all left few in
-    let behind : Ended (ends_at levels mv.move.to) more (to_go m) =
-    r.ends mv.move.to (omega (arith, mv.down, le)) g mv.at (stacks_in bands) (bands_take b w g bands are.1) m to_more more later (omega (arith, few)) in
+    let tails : (k : ℕ) → l.height < x + d + (k + 1) * unit_in l.height → tail_at (tails_at levels mv.move.to l.class) k ≤ to_go m =
+    λ k fits.
+    under mv.move.to (omega (arith, mv.down, le)) g mv.at w bands are.1 narrow (omega (arith, narrow, fit.bound)) (omega (arith, whole, fit.height)) m to k
+    (omega (arith, whole, fits, ap (λ n. (k + 1) * unit_in n) fit.height)) in
     let may : MayGoOn rows levels l n mv.move x d w = record {
       to_go = to_go m;
       before = all;
       behind = more;
       down = mv.down;
       here = before;
-      there = behind;
+      tails = tails;
       within = here;
       rest = there;
       split = omega (arith, left, later);
@@ -199,22 +202,34 @@ bands_held b rows h levels l cover fit to_go start r pool closed w narrow (band 
       narrow = narrow;
       near = near;
     } in
-    bands_held b rows h levels l cover fit to_go start r pool closed w narrow bands mv.move.to g (x + d) (omega (arith, mv.down, le)) mv.at are.1 (omega (arith, whole)) m to near
+    bands_held b rows h levels l cover fit to_go start r under pool closed w narrow bands mv.move.to g (x + d) (omega (arith, mv.down, le)) mv.at are.1 (omega (arith, whole)) m to near
     (closed n le x w held mv.move mv.has d mv.fits may)
   where
     sum_left : (height used rest : ℕ) → used + rest ≡ height → rest ≡ height - used
     sum_left height used rest e = omega (arith, e)
 
 -- each strip from the row is held where it ends
-pub strips_held : (b : Problem) (rows : List FrontRow) → IsLattice b rows → (levels : List RowFacts) (l : Limits) (cover : ℕ) → Fitting b l cover → (to_go : ℕ → ℕ) (start : ℕ) → Ready b rows levels cover to_go start →
+pub strips_held : (b : Problem) (rows : List FrontRow) → IsLattice b rows → (levels : List RowFacts) (l : Limits) (cover : ℕ) → Fitting b l cover → (to_go : ℕ → ℕ) (start : ℕ) → Ready b rows levels cover to_go start → TailsBelow b rows levels l.class l.bound to_go start →
     (pool : List (List FrontLabel)) → ((n : ℕ) → n ≤ start → RowExtended rows levels l pool n) → (low : ℕ) → ((x w : ℕ) → (x ≡ 0) ⊎ (0 + b.params.waste ≤ x) → low ≤ w → HeldAt pool start x w) →
     (f : Front) → At b rows start f → (w : ℕ) (bands : List Band) → IsStrip b w f bands → low ≤ w → w ≤ l.bound → (m : ℕ) → At b rows m (after_bands f bands) → w + to_go m ≤ l.most → HeldAt pool m l.height w
-strips_held b rows h levels l cover fit to_go start r pool closed low begun f at w bands is wide narrow m to near =
+strips_held b rows h levels l cover fit to_go start r under pool closed low begun f at w bands is wide narrow m to near =
     let high : ℕ = bands_height bands in
     let within : high ≤ b.params.height = gap_within b.params.waste high b.params.height is.fill in
     let none : (l.height - high ≡ 0) ⊎ (0 + b.params.waste ≤ l.height - high) =
     subst (λ k. (k - high ≡ 0) ⊎ (0 + b.params.waste ≤ k - high)) (sym fit.height) (gap_left b.params.waste high b.params.height is.fill) in
-    bands_held b rows h levels l cover fit to_go start r pool closed w narrow bands start f (l.height - high) (omega arith) at is.each (omega (arith, within, fit.height)) m to near (begun (l.height - high) w none wide)
+    bands_held b rows h levels l cover fit to_go start r under pool closed w narrow bands start f (l.height - high) (omega arith) at is.each (omega (arith, within, fit.height)) m to near (begun (l.height - high) w none wide)
+
+-- the row behind bands
+pub bands_within_row : (b : Problem) (rows : List FrontRow) → IsLattice b rows → (f : Front) (n : ℕ) → At b rows n f → (w : ℕ) (bands : List Band) → AreBands b w f bands → (m : ℕ) → At b rows m (after_bands f bands) → m ≤ n
+bands_within_row b rows h f n at w bands are m to =
+    let p : Path b rows n (after_bands f bands) (bands_area b f bands) = bands_path b rows h w bands n f at are in
+    omega (arith, p.down, one_row b rows h p.row m (after_bands f bands) p.at to)
+
+pub bands_down : (b : Problem) (rows : List FrontRow) → IsLattice b rows → (f : Front) (n : ℕ) → At b rows n f → (w : ℕ) (bands : List Band) → 1 ≤ length bands → AreBands b w f bands → (m : ℕ) → At b rows m (after_bands f bands) → m < n
+bands_down b rows h f n at w [] some are m to = absurd (omega (arith, some))
+bands_down b rows h f n at w (band ∷ bands) some are m to =
+    let p = cells_down b rows h band.high band.cells n f at are.0.stand in
+    omega (arith, p.down, are.0.some, bands_within_row b rows h (after_cells f band.cells) p.row p.at w bands are.1 m to)
 
 -- a strip leads down
 pub strip_down : (b : Problem) (rows : List FrontRow) → IsLattice b rows → (f : Front) (n : ℕ) → At b rows n f → (w : ℕ) (bands : List Band) → IsStrip b w f bands → (m : ℕ) → At b rows m (after_bands f bands) → m < n

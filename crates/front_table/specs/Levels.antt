@@ -4,24 +4,21 @@ use Rattle.glass_base.specs.Problem.{Problem}
 use Rattle.front_course.specs.Fronts.{Front}
 use Rattle.front_course.specs.Strips.{Band, IsStrip, after_bands}
 use Rattle.front_table.specs.declared.ends.End.{End}
-use Rattle.front_table.specs.declared.keyed.Keyed.{Keyed}
 use Rattle.front_table.specs.declared.levels.RowFacts.{RowFacts}
 use Rattle.front_table.specs.declared.moves.Move.{Move}
 use Rattle.front_table.specs.declared.rows.FrontRow.{FrontRow}
 use Rattle.front_table.specs.Ends.{Ended}
 use Rattle.front_table.specs.Lattice.{At, area_at}
+use Rattle.front_table.specs.Packed.{unpacked_all}
 
 abbrev pub bands_at : List RowFacts → ℕ → List Move
-bands_at levels n = slice_index_or (map (λ l. l.bands.items) levels) n []
+bands_at levels n = unpacked_all (slice_index_or (map (λ l. l.bands.items) levels) n [])
 
 abbrev pub ends_at : List RowFacts → ℕ → List End
 ends_at levels n = slice_index_or (map (λ l. l.ends.items) levels) n []
 
 abbrev pub to_go_at : List RowFacts → ℕ → ℕ
 to_go_at levels n = slice_index_or (map (λ l. l.to_go) levels) n 0
-
-abbrev pub list_at : List RowFacts → ℕ → ℕ → List Keyed
-list_at levels n class = slice_index_or (map (λ v. v.items) (slice_index_or (map (λ l. l.lists.items) levels) n [])) class []
 
 -- no strip from a row leaves less to go than this
 abbrev pub IsToGo : Problem → List FrontRow → (ℕ → ℕ) → ℕ → Type 0

@@ -3,7 +3,9 @@ pub mod Pools
 pub mod Lattice
 pub mod Leads
 pub mod Ends
+pub mod Packed
 pub mod Levels
-pub mod Lists
+pub mod Widths
 pub mod Tries
+pub mod Tails
 pub mod Ready

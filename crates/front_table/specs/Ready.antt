@@ -3,9 +3,7 @@ use Rattle.std.specs.Prelude.{◌≡◌, ℕ, ◌+◌, ◌*◌, ◌<◌, ◌≤�
 use Rattle.glass_base.specs.Problem.{Problem}
 use Rattle.front_course.specs.Fronts.{Front}
 use Rattle.front_course.specs.Strips.{Band, IsStrip, after_bands}
-use Rattle.front_table.specs.declared.keyed.Keyed.{Keyed}
 use Rattle.front_table.specs.declared.levels.RowFacts.{RowFacts}
-use Rattle.front_table.specs.declared.moves.Move.{Move}
 use Rattle.front_table.specs.declared.rows.FrontRow.{FrontRow}
 use Rattle.front_table.specs.declared.strips.Limits.{Limits}
 use Rattle.front_table.specs.declared.fronts.Fronts.{Fronts}
@@ -13,8 +11,10 @@ use Rattle.front_table.specs.declared.table.FrontTable.{FrontTable}
 use Rattle.front_table.specs.Ends.{Ended, Falls, EndsFrom, EndsBehind}
 use Rattle.front_table.specs.Lattice.{At, IsLattice}
 use Rattle.front_table.specs.Leads.{BandsLead}
-use Rattle.front_table.specs.Levels.{bands_at, ends_at, list_at, to_go_at, IsToGo}
-use Rattle.front_table.specs.Lists.{Rises, HasBands}
+use Rattle.front_table.specs.Levels.{bands_at, ends_at, to_go_at, IsToGo}
+use Rattle.front_table.specs.Packed.{unpacked_all}
+use Rattle.front_table.specs.Tails.{HasTails, HasTailsBehind, IsLower, tail_at, tails_at, unit_in}
+use Rattle.front_table.specs.Widths.{Rises}
 
 -- what is known of the rows up to one, so that strips from it can be looked for
 pub record Ready (b : Problem) (rows : List FrontRow) (levels : List RowFacts) (cover : ℕ) (to_go : ℕ → ℕ) (start : ℕ) : Type 0 where
@@ -28,26 +28,36 @@ pub record Fitting (b : Problem) (l : Limits) (cover : ℕ) : Type 0 where
   pub bound : l.bound ≤ b.params.max1
   pub covered : l.bound * l.height ≤ cover
 
--- a row's lists, for classes of strips that end at these widths
-pub record IsLevel (b : Problem) (rows : List FrontRow) (tops : List ℕ) (levels : List RowFacts) (n : ℕ) : Type 0 where
+-- the rows below one have the tails of strips of a class that are no wider than `bound`
+abbrev pub TailsBelow : Problem → List FrontRow → List RowFacts → ℕ → ℕ → (ℕ → ℕ) → ℕ → Type 0
+TailsBelow b rows levels class bound to_go start = (n : ℕ) → n < start → HasTails b rows bound (unit_in b.params.height) to_go n (tails_at levels n class)
+
+-- a row's ends and bands
+pub record IsLevel (b : Problem) (rows : List FrontRow) (levels : List RowFacts) (n : ℕ) : Type 0 where
   pub falls : Falls (ends_at levels n)
-  pub rises : (k : ℕ) → k < length tops → Rises (list_at levels n k)
-  pub lists : (k d : ℕ) → k < length tops → HasBands rows n (slice_index_or tops k d) (bands_at levels n) (list_at levels n k)
+  pub rises : Rises (bands_at levels n)
   pub bands : BandsLead b rows n (bands_at levels n)
+
+-- a row's tails in each class of strips
+abbrev pub ClassTails : Problem → List FrontRow → List ℕ → List RowFacts → ℕ → Type 0
+ClassTails b rows tops levels n = (k d : ℕ) → k < length tops → HasTails b rows (slice_index_or tops k d) (unit_in b.params.height) (to_go_at levels) n (tails_at levels n k)
 
 -- rows of which all is known
 pub record Built (b : Problem) (rows : List FrontRow) (tops : List ℕ) (cover : ℕ) (levels : List RowFacts) : Type 0 where
-  pub each : (n : ℕ) → n < length levels → IsLevel b rows tops levels n
+  pub each : (n : ℕ) → n < length levels → IsLevel b rows levels n
   pub ends : (n : ℕ) → n < length levels → EndsFrom b rows cover (to_go_at levels) n (ends_at levels n)
   pub to_go : (n : ℕ) → n < length levels → IsToGo b rows (to_go_at levels) n
+  pub tails : (n : ℕ) → n < length levels → ClassTails b rows tops levels n
 
 -- the same with one row more, of which it is not known what is to go from it
 pub record Opened (b : Problem) (rows : List FrontRow) (tops : List ℕ) (cover : ℕ) (levels : List RowFacts) (start : ℕ) : Type 0 where
   pub len : length levels ≡ start + 1
-  pub each : (n : ℕ) → n ≤ start → IsLevel b rows tops levels n
+  pub each : (n : ℕ) → n ≤ start → IsLevel b rows levels n
   pub ends : (n : ℕ) → n < start → EndsFrom b rows cover (to_go_at levels) n (ends_at levels n)
   pub behind : EndsBehind b rows cover (to_go_at levels) start (ends_at levels start)
   pub to_go : (n : ℕ) → n < start → IsToGo b rows (to_go_at levels) n
+  pub tails : (n : ℕ) → n < start → ClassTails b rows tops levels n
+  pub tails_behind : (k d : ℕ) → k < length tops → HasTailsBehind b rows (slice_index_or tops k d) (unit_in b.params.height) (to_go_at levels) start (tails_at levels start k)
 
 -- no strip of these widths from a row, that is near enough, leaves less to go than this
 abbrev pub IsLeast : Problem → List FrontRow → (ℕ → ℕ) → ℕ → ℕ → ℕ → ℕ → ℕ → Type 0
@@ -57,9 +67,9 @@ IsLeast b rows to_go start low bound most least =
 -- two lists of rows know the same of a row
 pub record SameLevel (levels other : List RowFacts) (n : ℕ) : Type 0 where
   pub bands : bands_at other n ≡ bands_at levels n
-  pub lists : (k : ℕ) → list_at other n k ≡ list_at levels n k
   pub ends : ends_at other n ≡ ends_at levels n
   pub to_go : to_go_at other n ≡ to_go_at levels n
+  pub tails : (k : ℕ) → tails_at other n k ≡ tails_at levels n k
 
 -- the same of the widths below one, for all that is near enough
 unfoldable pub LeastBelow : Problem → List FrontRow → (ℕ → ℕ) → ℕ → ℕ → ℕ → ℕ → Type 0
@@ -73,23 +83,18 @@ LeavesLeast b rows to_go start least =
 
 -- this is what is known of the row
 pub record IsLast (levels : List RowFacts) (n : ℕ) (level : RowFacts) : Type 0 where
-  pub bands : bands_at levels n ≡ level.bands.items
-  pub lists : (k : ℕ) → list_at levels n k ≡ slice_index_or (map (λ v. v.items) level.lists.items) k []
+  pub bands : bands_at levels n ≡ unpacked_all level.bands.items
   pub ends : ends_at levels n ≡ level.ends.items
   pub to_go : to_go_at levels n ≡ level.to_go
+  pub tails : (k : ℕ) → tails_at levels n k ≡ slice_index_or (map (λ v. v.items) level.tails.items) k []
 
 -- a row of which it is not known what is to go from it
 pub record IsOpen (b : Problem) (rows : List FrontRow) (tops : List ℕ) (cover : ℕ) (to_go : ℕ → ℕ) (n : ℕ) (level : RowFacts) : Type 0 where
   pub falls : Falls level.ends.items
-  pub rises : (k : ℕ) → k < length tops → Rises (slice_index_or (map (λ v. v.items) level.lists.items) k [])
-  pub lists : (k d : ℕ) → k < length tops → HasBands rows n (slice_index_or tops k d) level.bands.items (slice_index_or (map (λ v. v.items) level.lists.items) k [])
-  pub bands : BandsLead b rows n level.bands.items
+  pub rises : Rises (unpacked_all level.bands.items)
+  pub bands : BandsLead b rows n (unpacked_all level.bands.items)
   pub behind : EndsBehind b rows cover to_go n level.ends.items
-
--- for each class up to one its list
-unfoldable pub HasLists : List FrontRow → ℕ → List ℕ → List Move → List (List Keyed) → ℕ → Type 0
-HasLists rows n tops bands lists many =
-    (length lists ≡ many) × ((k d : ℕ) → k < many → Rises (slice_index_or lists k []) × HasBands rows n (slice_index_or tops k d) bands (slice_index_or lists k []))
+  pub tails : (k d : ℕ) → k < length tops → HasTailsBehind b rows (slice_index_or tops k d) (unit_in b.params.height) to_go n (slice_index_or (map (λ v. v.items) level.tails.items) k [])
 
 -- the last row is the same, with itself as an end and with what is to go from it; those before it are as they were
 pub record IsClosed (levels other : List RowFacts) (far : ℕ) : Type 0 where
@@ -98,9 +103,10 @@ pub record IsClosed (levels other : List RowFacts) (far : ℕ) : Type 0 where
   pub new_len : length other ≡ last + 1
   pub same : (n : ℕ) → n < last → SameLevel levels other n
   pub bands : bands_at other last ≡ bands_at levels last
-  pub lists : (k : ℕ) → list_at other last k ≡ list_at levels last k
   pub to_go : to_go_at other last ≡ far
   pub falls : Falls (ends_at other last)
+  pub lower : (k : ℕ) → IsLower (tails_at other last k) (tails_at levels last k)
+  pub tails : (k j : ℕ) → tail_at (tails_at other last k) j ≤ far
   pub own : Ended (ends_at other last) 0 far
   pub kept : (area to_go : ℕ) → Ended (ends_at levels last) area to_go → Ended (ends_at other last) area to_go
 

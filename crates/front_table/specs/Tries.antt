@@ -1,5 +1,5 @@
 -- What a search for strips has tried.
-use Rattle.std.specs.Prelude.{◌≡◌, ℕ, ◌+◌, ◌*◌, ◌-◌, ◌<◌, ◌≤◌, List, length, Some, Contains, slice_get}
+use Rattle.std.specs.Prelude.{◌≡◌, ℕ, ◌+◌, ◌*◌, ◌-◌, ◌<◌, ◌≤◌, List, length, Contains}
 use Rattle.front_table.specs.declared.labels.FrontLabel.{FrontLabel}
 use Rattle.front_table.specs.declared.levels.RowFacts.{RowFacts}
 use Rattle.front_table.specs.declared.moves.Move.{Move}
@@ -7,20 +7,21 @@ use Rattle.front_table.specs.declared.rows.FrontRow.{FrontRow}
 use Rattle.front_table.specs.declared.strips.Limits.{Limits}
 use Rattle.front_table.specs.Ends.{Ended, Falls}
 use Rattle.front_table.specs.Lattice.{area_at}
-use Rattle.front_table.specs.Levels.{bands_at, ends_at, list_at}
-use Rattle.front_table.specs.Lists.{Rises, HasBands}
+use Rattle.front_table.specs.Levels.{bands_at, ends_at}
 use Rattle.front_table.specs.Pools.{HeldAt}
 use Rattle.front_table.specs.Sets.{Fits}
+use Rattle.front_table.specs.Tails.{tail_at, tails_at, unit_in}
+use Rattle.front_table.specs.Widths.{Rises, waste_of}
 
 -- what a label stands for goes on by a band, where the strip can still end near enough
 unfoldable pub Tried : List RowFacts → Limits → List (List FrontLabel) → FrontLabel → Move → Type 0
 Tried levels l pool label m =
-    (x d w area to_go : ℕ) → Fits label x w → Fits m.label d w → x + d ≤ l.height → w ≤ l.bound → Ended (ends_at levels m.to) area to_go → area ≤ w * (l.height - (x + d)) → w + to_go ≤ l.most
+    (x d w to_go : ℕ) → Fits label x w → Fits m.label d w → x + d ≤ l.height → w ≤ l.bound → ((k : ℕ) → l.height < x + d + (k + 1) * unit_in l.height → tail_at (tails_at levels m.to l.class) k ≤ to_go) → w + to_go ≤ l.most
     → HeldAt pool m.to (x + d) w
 
--- the same of the band at a place, where it leads down
-unfoldable pub EntryTried : List RowFacts → Limits → List (List FrontLabel) → ℕ → FrontLabel → ℕ → Type 0
-EntryTried levels l pool n label place = (m : Move) → slice_get (bands_at levels n) place ≡ Some m → m.to < n → Tried levels l pool label m
+-- the same of a band that leads down, and that leaves no more waste than this in the widest of the strips
+unfoldable pub BandTried : List FrontRow → List RowFacts → Limits → List (List FrontLabel) → ℕ → FrontLabel → ℕ → Move → Type 0
+BandTried rows levels l pool n label slack m = m.to < n → waste_of rows n l.top m ≤ slack → Tried levels l pool label m
 
 -- a strip that is `x` high and `w` wide so far can go on by a band of height `d`, and end near enough
 pub record MayGoOn (rows : List FrontRow) (levels : List RowFacts) (l : Limits) (n : ℕ) (m : Move) (x d w : ℕ) : Type 0 where
@@ -29,7 +30,7 @@ pub record MayGoOn (rows : List FrontRow) (levels : List RowFacts) (l : Limits) 
   pub behind : ℕ
   pub down : m.to < n
   pub here : Ended (ends_at levels n) before to_go
-  pub there : Ended (ends_at levels m.to) behind to_go
+  pub tails : (k : ℕ) → l.height < x + d + (k + 1) * unit_in l.height → tail_at (tails_at levels m.to l.class) k ≤ to_go
   pub within : before ≤ w * (l.height - x)
   pub rest : behind ≤ w * (l.height - (x + d))
   pub split : before ≤ area_at rows n - area_at rows m.to + behind
@@ -52,5 +53,4 @@ pub record Searchable (rows : List FrontRow) (levels : List RowFacts) (l : Limit
   pub len : start < length levels
   pub bound : l.bound ≤ l.top
   pub falls : (n : ℕ) → n ≤ start → Falls (ends_at levels n)
-  pub rises : (n : ℕ) → n ≤ start → Rises (list_at levels n l.class)
-  pub bands : (n : ℕ) → n ≤ start → HasBands rows n l.top (bands_at levels n) (list_at levels n l.class)
+  pub rises : (n : ℕ) → n ≤ start → Rises (bands_at levels n)

@@ -1,18 +1,18 @@
 //! All bands from a front on.
 
-ghost use Rattle.std.specs.Prelude.{◌≡◌, ℕ, ◌<◌, Contains, length, OnOk, IfOk};
+ghost use Rattle.std.specs.Prelude.{◌≡◌, ℕ, ◌<◌, ◌≤◌, Contains, IsTrue, length, slice_index_or, OnOk, IfOk};
 ghost use Rattle.front_table.specs.declared.moves.Move.{Move as MoveOf};
 ghost use Rattle.front_table.specs.Lattice.{Led};
 ghost use Rattle.front_table.specs.Leads.{BandsLead};
 ghost use Rattle.front_table.specs.Pools.{HeldAt};
 ghost use Rattle.front_table.specs.Sets.{Fits, Held};
+ghost use Rattle.front_table.specs.Widths.{Rises, wide_in};
 
 use crate::fronts::Fronts;
 use crate::halt::Halt;
 use crate::labels::{FrontLabel, offer};
 use crate::moves::{Extent, Move};
 use crate::pools::LabelPool;
-use crate::rows::{FrontRow, waste_left};
 use crate::search::spread;
 use crate::sets::SizeSet;
 use std::alloc::Global;
@@ -92,20 +92,47 @@ fn gather(alloc: Global, pool: &LabelPool, start: usize, waste: u32) -> Result<V
     Ok(bands)
 }
 
-/// Puts the bands of a row in the order of what they waste in a strip of this width: a search tries those that waste little, and finds them side by side.
-fn sort_by_waste(bands: &mut Vec<Move>, rows: &[FrontRow], row: usize, top: u32)
-    ensures { (n x y : ℕ) → Led bands.old.items n x y → Led bands.new.items n x y }
+/// The least width of the strips of the band at a place.
+pub(crate) fn wide_at(bands: &[Move], at: usize) -> u32
+    requires { at < length bands.now }
+    ensures { result ≡ wide_in bands.now at }
 {
-    bands.sort_unstable_by_key(|band| waste_left(
-        rows,
-        row,
-        band.to as usize,
-        top,
-        band.label.along.least,
-    ));
+    bands[at].label.across.least
 }
 
-/// All bands from a row on: along is the height of a band, across the width of its strip.
+/// The band at a place.
+pub(crate) fn band_at(bands: &[Move], at: usize) -> Move
+    requires { at < length bands.now }
+    ensures { result ≡ slice_index_or bands.now at result }
+{
+    bands[at]
+}
+
+/// Whether the widths rise.
+fn rises(bands: &[Move]) -> bool
+    ensures { IsTrue result → Rises bands.now }
+{
+    for at in 1..bands.len() {
+        if wide_at(bands, at - 1) > wide_at(bands, at) {
+            return false;
+        }
+    }
+    true
+}
+
+/// Puts bands in the order of their widths: so those that are no wider than strips of a class stand side by side.
+fn sort_by_width(bands: &mut Vec<Move>) -> Result<(), Halt>
+    ensures kept { OnOk result ((n x y : ℕ) → Led bands.old.items n x y → Led bands.new.items n x y) }
+    ensures rises { OnOk result (Rises bands.new.items) }
+{
+    bands.sort_unstable_by_key(|band| band.label.across.least);
+    if !rises(bands.as_slice()) {
+        return Err(Halt::Limit);
+    }
+    Ok(())
+}
+
+/// All bands from a row on, by rising width: along is the height of a band, across the width of its strip.
 pub fn bands_from(
     alloc: Global,
     fronts: &Fronts<'_>,
@@ -117,6 +144,7 @@ pub fn bands_from(
     ensures len { OnOk result (length pool.new ≡ length pool.old) }
     ensures bands { IfOk result (λ bands. BandsLead fronts.now.instance.now fronts.now.rows.now
         start bands.items) }
+    ensures rises { IfOk result (λ bands. Rises bands.items) }
 {
     let params = fronts.instance.params();
     pool.clear();
@@ -139,6 +167,6 @@ pub fn bands_from(
     };
     spread(pool, fronts.rows, start, within)?;
     let mut bands = gather(alloc, pool, start, params.waste)?;
-    sort_by_waste(&mut bands, fronts.rows, start, params.max1);
+    sort_by_width(&mut bands)?;
     Ok(bands)
 }

@@ -37,7 +37,7 @@ pub fn shape_of(alloc: Global, instance: &Instance, limit: u64) -> Result<Shape,
         let many = (instance.stack(stack).len() as u64).saturating_add(1);
         rows = rows.saturating_mul(many);
         if rows > limit {
-            return Err(Halt::Limit);
+            return Err(Halt::Fronts);
         }
     }
     Ok(Shape { weights, rows })
@@ -156,6 +156,7 @@ fn row_at(alloc: Global, making: &Making<'_>, row: usize) -> Result<FrontRow, Ha
             push_cells(making, &mut moves, &step)?;
         }
     }
+    moves.shrink_to_fit();
     Ok(FrontRow {
         taken,
         area,

@@ -95,26 +95,6 @@ pub fn step_of(area: u64, shift: u32) -> usize
     area.wrapping_shr(shift) as usize
 }
 
-/// Whether it is seen at once that more than this is to go from each end that has no more than this area before it. That is seen where there is an end for each
-/// step of 2^`shift` mm².
-pub fn is_beyond(ends: &[End], shift: u32, area: u64, within: u64) -> bool
-    requires { Falls ends.now }
-    ensures { IsTrue result → (a t : ℕ) → Ended ends.now a t → a ≤ area → within < t }
-{
-    let len = ends.len();
-    if len == 0 {
-        return true;
-    }
-    let at = step_of(area, shift).min(len - 1);
-    if at + 1 < len && area_in(ends, at + 1) <= area {
-        return false;
-    }
-    if to_go_in(ends, at) > within {
-        return true;
-    }
-    false
-}
-
 /// Whether the ends with more before them have less to go.
 pub fn falls(ends: &[End]) -> bool
     ensures { IsTrue result → Falls ends.now }

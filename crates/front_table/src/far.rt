@@ -3,17 +3,17 @@
 ghost use Rattle.std.specs.Prelude.{◌≡◌, ℕ, ◌+◌, ◌<◌, ◌≤◌, length, slice_index_or, IfOk, OnOk};
 ghost use Rattle.front_table.specs.Levels.{to_go_at};
 ghost use Rattle.front_table.specs.Pools.{HeldAt};
-ghost use Rattle.front_table.specs.Ready.{Fitting, IsLeast, LeavesLeast};
+ghost use Rattle.front_table.specs.Ready.{Fitting, IsLeast, LeavesLeast, TailsBelow};
 ghost use Rattle.front_table.specs.Sets.{Fits, Held};
 ghost use Rattle.front_table.specs.Tries.{Searchable};
 
 use crate::behind::Behind;
-use crate::ends::shift_of;
 use crate::halt::Halt;
 use crate::labels::FrontLabel;
-use crate::levels::{RowFacts, to_go};
+use crate::levels::{RowFacts, tails_of, to_go};
 use crate::pools::LabelPool;
 use crate::strips::{Limits, StripSearch, strips_from};
+use crate::tails::{tail_in, unit_of, units_in};
 
 /// More than there is to go from any front.
 pub const FAR: u64 = 1 << 40;
@@ -73,6 +73,9 @@ fn least_of_class(
     requires searchable { Searchable behind.now.fronts.rows.now behind.now.fronts.levels.now
         limits.now behind.now.start }
     requires fitting { Fitting behind.now.fronts.instance.now limits.now behind.now.fronts.cover }
+    requires tails { TailsBelow behind.now.fronts.instance.now behind.now.fronts.rows.now
+        behind.now.fronts.levels.now limits.now.class limits.now.bound
+        (to_go_at behind.now.fronts.levels.now) behind.now.start }
     ensures len { OnOk result (length pool.new ≡ length pool.old) }
     ensures least { IfOk result (IsLeast behind.now.fronts.instance.now behind.now.fronts.rows.now
         (to_go_at behind.now.fronts.levels.now) behind.now.start low limits.now.bound
@@ -112,8 +115,12 @@ fn least_in_class(
         bound: top.min(params.max1),
         height: params.height,
         most,
-        shift: shift_of(behind.fronts.cover),
     };
+    let tails = tails_of(behind.fronts.levels, behind.start, class);
+    let tail = tail_in(tails, units_in(params.height, unit_of(params.height)));
+    if tail + u64::from(low) > most {
+        return Ok(FAR);
+    }
     let least = least_of_class(behind, pool, &limits, low)?;
     Ok(least)
 }

@@ -12,6 +12,8 @@ pub enum Halt {
     Memory,
     /// More labels would be needed than the limit allows.
     Limit,
+    /// There are more fronts than the limit allows.
+    Fronts,
 }
 
 impl Halt {
@@ -22,6 +24,7 @@ impl Halt {
         match self {
             Halt::Memory => Err(Memory),
             Halt::Limit => Ok(less),
+            Halt::Fronts => Ok(less),
         }
     }
 }

@@ -1,31 +1,32 @@
 //! What is known of each row, from the last front on.
 
-ghost use Rattle.std.specs.Prelude.{◌≡◌, ℕ, ◌+◌, ◌<◌, length, slice_get, OnOk};
+ghost use Rattle.std.specs.Prelude.{◌≡◌, ℕ, ◌+◌, ◌<◌, length, OnOk};
 ghost use Rattle.front_table.specs.Ready.{IsLast, SameLevel};
-ghost use Rattle.front_table.specs.Levels.{bands_at, ends_at, list_at, to_go_at};
+ghost use Rattle.front_table.specs.Packed.{unpacked_all};
+ghost use Rattle.front_table.specs.Tails.{tails_at};
+ghost use Rattle.front_table.specs.Levels.{bands_at, ends_at, to_go_at};
 
 use crate::ends::End;
 use crate::halt::Halt;
-use crate::keyed::Keyed;
-use crate::moves::Move;
+use crate::packed::PackedBand;
 
 /// What is known of a row.
 #[derive(Drop)]
 pub struct RowFacts {
-    /// The bands from it on: along is their height, across the width of their strip.
-    pub bands: Vec<Move>,
-    /// For each class of strips the bands that are no wider, by rising key.
-    pub lists: Vec<Vec<Keyed>>,
+    /// The bands from it on, by rising width: along is their height, across the width of their strip.
+    pub bands: Vec<PackedBand>,
     /// Where strips from it on can end.
     pub ends: Vec<End>,
     /// The least width of strips from it to the last front, in mm.
     pub to_go: u64,
+    /// For each class of strips and each height in units: no more than is to go behind any stack of its bands that is lower than one unit more, in mm.
+    pub tails: Vec<Vec<u16>>,
 }
 
 /// The bands from a row on.
-pub fn bands_of(levels: &[RowFacts], row: usize) -> &[Move]
+pub fn bands_of(levels: &[RowFacts], row: usize) -> &[PackedBand]
     requires { row < length levels.now }
-    ensures { result.now ≡ bands_at levels.now row }
+    ensures { unpacked_all result.now ≡ bands_at levels.now row }
 {
     levels[row].bands.as_slice()
 }
@@ -46,23 +47,15 @@ pub fn to_go(levels: &[RowFacts], row: usize) -> u64
     levels[row].to_go
 }
 
-/// The bands from a row on in strips of a class, by rising key.
-pub fn list_of(levels: &[RowFacts], row: usize, class: usize) -> &[Keyed]
+/// What is to go at least behind stacks of bands from a row on in strips of a class.
+pub fn tails_of(levels: &[RowFacts], row: usize, class: usize) -> &[u16]
     requires { row < length levels.now }
-    ensures { result.now ≡ list_at levels.now row class }
+    ensures { result.now ≡ tails_at levels.now row class }
 {
-    match levels[row].lists.get(class) {
-        Some(list) => list.as_slice(),
+    match levels[row].tails.get(class) {
+        Some(tails) => tails.as_slice(),
         None => &[],
     }
-}
-
-/// One of the bands from a row on.
-pub fn band_at(levels: &[RowFacts], row: usize, place: u32) -> Option<Move>
-    requires { row < length levels.now }
-    ensures { result ≡ slice_get (bands_at levels.now row) place }
-{
-    bands_of(levels, row).get(place as usize).copied()
 }
 
 /// Appends a row.

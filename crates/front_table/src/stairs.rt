@@ -219,5 +219,7 @@ pub fn with_itself(alloc: Global, behind: &[End], to_go: u64, most: u64) -> Resu
     if !falls(stairs.as_slice()) {
         return Err(Halt::Limit);
     }
+    // (a row keeps them for as long as there is a table)
+    stairs.shrink_to_fit();
     Ok(stairs)
 }

@@ -1,22 +1,23 @@
 //! The search for strips: from each row on by each band, as far as the strip can still end near enough.
 
 ghost use Rattle.std.specs.Prelude.{◌≡◌, ℕ, ◌+◌, ◌*◌, ◌-◌, ◌<◌, ◌≤◌, Contains, length, OnOk};
-ghost use Rattle.front_table.specs.declared.keyed.Keyed.{Keyed as KeyedOf};
-ghost use Rattle.front_table.specs.Ends.{Falls};
-ghost use Rattle.front_table.specs.Levels.{ends_at, list_at};
+ghost use Rattle.front_table.specs.declared.moves.Move.{Move as MoveOf};
+ghost use Rattle.front_table.specs.Levels.{bands_at};
 ghost use Rattle.front_table.specs.Pools.{HeldAt, Spreads};
 ghost use Rattle.front_table.specs.Sets.{Has};
-ghost use Rattle.front_table.specs.Tries.{EntryTried, Extended, RowExtended, Searchable, Tried};
+ghost use Rattle.front_table.specs.Tries.{BandTried, Extended, RowExtended, Searchable, Tried};
 
-use crate::ends::{is_beyond, near};
+use crate::ends::near;
 use crate::fronts::Fronts;
 use crate::halt::Halt;
-use crate::keyed::{entry_at, key_at};
 use crate::labels::FrontLabel;
-use crate::levels::{band_at, ends_of, list_of};
+use crate::levels::{bands_of, ends_of, tails_of};
 use crate::moves::Move;
+use crate::packed::{packed_width, unpacked_at};
 use crate::pools::LabelPool;
+use crate::rows::waste_left;
 use crate::sets::SizeSet;
+use crate::tails::{tail_in, unit_of, units_in};
 
 /// Which strips a search looks for.
 #[derive(Clone, Copy)]
@@ -30,8 +31,6 @@ pub struct Limits {
     pub height: u32,
     /// Their width and what is to go behind them is no more than this, in mm.
     pub most: u64,
-    /// Ends of strips stand in steps of so much area, as a power of 2 in mm².
-    pub shift: u32,
 }
 
 /// The strips from a row on that are looked for.
@@ -59,7 +58,6 @@ fn try_band(
 ) -> Result<(), Halt>
     requires pool { band.now.to < length pool.old }
     requires levels { band.now.to < length search.now.fronts.levels.now }
-    requires falls { Falls (ends_at search.now.fronts.levels.now band.now.to) }
     ensures spreads { OnOk result (Spreads (band.now.to + 1) pool.old pool.new) }
     ensures tried { OnOk result
         (Tried search.now.fronts.levels.now search.now.limits pool.new label.now band.now) }
@@ -75,14 +73,10 @@ fn try_band(
     if u64::from(shared.least) > limits.most {
         return Ok(());
     }
-    let free = glass_above(limits.bound, limits.height, sum.least);
-    let within = limits.most - u64::from(shared.least);
-    if is_beyond(
-        ends_of(search.fronts.levels, band.to as usize),
-        limits.shift,
-        free,
-        within,
-    ) {
+    let left = limits.height.saturating_sub(sum.least);
+    let tails = tails_of(search.fronts.levels, band.to as usize, limits.class);
+    let tail = tail_in(tails, units_in(left, unit_of(limits.height)));
+    if tail > limits.most - u64::from(shared.least) {
         return Ok(());
     }
     let joined = FrontLabel {
@@ -95,57 +89,62 @@ fn try_band(
     Ok(())
 }
 
-/// Goes on from a label of a row by the band at a place, where it leads down.
-fn try_entry(
-    pool: &mut LabelPool,
-    search: &StripSearch<'_>,
+/// A label of a row from which bands are tried, and how much they may leave beside and over their cells in the widest of the strips, in mm².
+#[derive(Clone, Copy)]
+struct Extension<'a> {
+    search: &'a StripSearch<'a>,
     row: usize,
-    label: &FrontLabel,
-    place: u32,
-) -> Result<(), Halt>
-    requires pool { row < length pool.old }
-    requires levels { row < length search.now.fronts.levels.now }
-    requires falls { (n : ℕ) → n ≤ row → Falls (ends_at search.now.fronts.levels.now n) }
-    ensures spreads { OnOk result (Spreads row pool.old pool.new) }
-    ensures tried { OnOk result
-        (EntryTried search.now.fronts.levels.now search.now.limits pool.new row label.now place) }
+    label: &'a FrontLabel,
+    slack: u64,
+}
+
+/// Goes on by a band, where it leads down and leaves no more than it may.
+fn try_move(pool: &mut LabelPool, extension: &Extension<'_>, band: &Move) -> Result<(), Halt>
+    requires pool { extension.now.row < length pool.old }
+    requires levels { extension.now.row < length extension.now.search.now.fronts.levels.now }
+    ensures spreads { OnOk result (Spreads extension.now.row pool.old pool.new) }
+    ensures tried { OnOk result (BandTried extension.now.search.now.fronts.rows.now
+        extension.now.search.now.fronts.levels.now extension.now.search.now.limits pool.new
+        extension.now.row extension.now.label.now extension.now.slack band.now) }
 {
-    let Some(band) = band_at(search.fronts.levels, row, place) else {
-        return Ok(());
-    };
-    if band.to as usize >= row {
+    let search = extension.search;
+    let row = extension.row;
+    let to = band.to as usize;
+    if to >= row {
         return Ok(());
     }
-    try_band(pool, search, label, &band)?;
+    let high = band.label.along.least;
+    let waste = waste_left(search.fronts.rows, row, to, search.limits.top, high);
+    if waste > extension.slack {
+        return Ok(());
+    }
+    try_band(pool, search, extension.label, band)?;
     Ok(())
 }
 
-/// Goes on from a label of a row by each band that leaves no more waste than this.
-fn try_list(
-    pool: &mut LabelPool,
-    search: &StripSearch<'_>,
-    row: usize,
-    label: &FrontLabel,
-    slack: u64,
-) -> Result<(), Halt>
-    requires pool { row < length pool.old }
-    requires row { row ≤ search.now.start }
-    requires searchable { Searchable search.now.fronts.rows.now search.now.fronts.levels.now
-        search.now.limits search.now.start }
-    ensures spreads { OnOk result (Spreads row pool.old pool.new) }
-    ensures tried { OnOk result ((e : KeyedOf)
-        → Contains (list_at search.now.fronts.levels.now row search.now.limits.class) e
-        → e.key ≤ slack
-        → EntryTried search.now.fronts.levels.now search.now.limits pool.new row label.now
-        e.place) }
+/// Goes on by each band that is no wider than the strips and leaves no more than it may.
+fn try_moves(pool: &mut LabelPool, extension: &Extension<'_>) -> Result<(), Halt>
+    requires pool { extension.now.row < length pool.old }
+    requires row { extension.now.row ≤ extension.now.search.now.start }
+    requires searchable { Searchable extension.now.search.now.fronts.rows.now
+        extension.now.search.now.fronts.levels.now extension.now.search.now.limits
+        extension.now.search.now.start }
+    ensures spreads { OnOk result (Spreads extension.now.row pool.old pool.new) }
+    ensures tried { OnOk result ((m : MoveOf)
+        → Contains (bands_at extension.now.search.now.fronts.levels.now extension.now.row) m
+        → m.label.across.least ≤ extension.now.search.now.limits.top
+        → BandTried extension.now.search.now.fronts.rows.now
+        extension.now.search.now.fronts.levels.now extension.now.search.now.limits pool.new
+        extension.now.row extension.now.label.now extension.now.slack m) }
 {
-    let list = list_of(search.fronts.levels, row, search.limits.class);
-    for at in 0..list.len() {
-        if u64::from(key_at(list, at)) > slack {
+    let search = extension.search;
+    let bands = bands_of(search.fronts.levels, extension.row);
+    for at in 0..bands.len() {
+        if packed_width(bands, at) > search.limits.top {
             return Ok(());
         }
-        let entry = entry_at(list, at);
-        try_entry(pool, search, row, label, entry.place)?;
+        let band = unpacked_at(bands, at);
+        try_move(pool, extension, &band)?;
     }
     Ok(())
 }
@@ -177,7 +176,13 @@ fn extend(
     if whole < area {
         return Ok(());
     }
-    try_list(pool, search, row, label, whole - area)?;
+    let extension = Extension {
+        search,
+        row,
+        label,
+        slack: whole - area,
+    };
+    try_moves(pool, &extension)?;
     Ok(())
 }
 

@@ -2,8 +2,7 @@
 
 ghost use Rattle.std.specs.Prelude.{◌≡◌, ℕ, ◌+◌, ◌*◌, ◌<◌, ◌≤◌, [], ◌∷◌, ◌++◌, length, map, slice_index_or, IfOk, OnOk};
 ghost use Rattle.front_table.specs.Levels.{to_go_at};
-ghost use Rattle.front_table.specs.Lists.{HasBands, Rises};
-ghost use Rattle.front_table.specs.Ready.{Built, HasLists, IsClosed, IsOpen, IsTable, LeavesLeast};
+ghost use Rattle.front_table.specs.Ready.{Built, IsClosed, IsOpen, IsTable, LeavesLeast};
 
 use crate::bands::bands_from;
 use crate::behind::Behind;
@@ -11,19 +10,16 @@ use crate::building::{rows_of, shape_of, tops_of};
 use crate::far::far_from;
 use crate::fronts::Fronts;
 use crate::halt::Halt;
-use crate::keyed::{Keyed, list_for};
 use crate::lattice::is_lattice;
 use crate::levels::{RowFacts, push_level, to_go};
-use crate::moves::Move;
+use crate::packed::pack_all;
 use crate::pools::LabelPool;
 use crate::probe::Probe;
 use crate::rows::{FrontRow, links_of};
 use crate::stairs::{ends_behind, with_itself};
+use crate::tails::{all_tails, all_tails_behind, unit_of};
 use glass_base::{Instance, Listener, News};
 use std::alloc::Global;
-
-/// For how many labels a front counts: by the memory and the time that its row takes.
-const LABELS_A_FRONT: u64 = 25_000;
 
 /// All fronts, with what is known of them.
 #[derive(Drop)]
@@ -57,25 +53,6 @@ impl FrontTable {
     }
 }
 
-/// For each class of strips, which end at these widths, the bands that are no wider, by rising key.
-fn lists_for(
-    alloc: Global,
-    rows: &[FrontRow],
-    row: usize,
-    tops: &[u32],
-    bands: &[Move],
-) -> Result<Vec<Vec<Keyed>>, Halt>
-    ensures { IfOk result (λ lists. HasLists rows.now row tops.now bands.now
-        (map (λ v. v.items) lists.items) (length tops.now)) }
-{
-    let mut lists = Vec::new(alloc);
-    for class in 0..tops.len() {
-        let list = list_for(alloc, rows, row, tops[class], bands)?;
-        lists.push(list)?;
-    }
-    Ok(lists)
-}
-
 /// What leads on from the next row, and its ends, of which it is not known what is to go from it.
 fn open_level(
     alloc: Global,
@@ -93,13 +70,15 @@ fn open_level(
         fronts.now.tops.now fronts.now.cover (to_go_at fronts.now.levels.now) row) }
 {
     let bands = bands_from(alloc, fronts, pool, row)?;
-    let lists = lists_for(alloc, fronts.rows, row, fronts.tops, bands.as_slice())?;
     let ends = ends_behind(alloc, fronts, row)?;
+    let unit = unit_of(fronts.instance.params().height);
+    let tails = all_tails_behind(alloc, fronts.levels, fronts.tops, bands.as_slice(), unit)?;
+    let packed = pack_all(alloc, bands.as_slice())?;
     Ok(RowFacts {
-        bands,
-        lists,
+        bands: packed,
         ends,
         to_go: 0,
+        tails,
     })
 }
 
@@ -111,11 +90,12 @@ fn close_level(alloc: Global, levels: &mut Vec<RowFacts>, far: u64, cover: u64) 
         return Err(Halt::Limit);
     };
     let ends = with_itself(alloc, last.ends.as_slice(), far, cover)?;
+    let tails = all_tails(alloc, last.tails.as_slice(), far)?;
     let closed = RowFacts {
         bands: last.bands,
-        lists: last.lists,
         ends,
         to_go: far,
+        tails,
     };
     push_level(levels, closed)?;
     Ok(())
@@ -228,7 +208,7 @@ pub fn table_of<L: Listener>(probe: &Probe<'_, L>) -> Result<FrontTable, Halt>
 {
     let alloc = probe.alloc;
     let instance = probe.instance;
-    let shape = shape_of(alloc, instance, probe.limit / LABELS_A_FRONT)?;
+    let shape = shape_of(alloc, instance, probe.most_fronts())?;
     let rows = rows_of(alloc, instance, &shape)?;
     if !is_lattice(instance, shape.weights.as_slice(), rows.as_slice()) {
         return Err(Halt::Limit);

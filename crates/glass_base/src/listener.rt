@@ -9,6 +9,14 @@ pub enum News {
         done: usize,
         all: usize,
     },
+    /// Fronts say nothing, since there are more than so many.
+    TooManyFronts {
+        most: u64,
+    },
+    /// A search over fronts ends before it is done, since more labels than so many would be looked at.
+    TooManyLabels {
+        most: u64,
+    },
     /// So many millions of ticks were spent on a better first plan, of so many at the most; and where the clock ends that,
     /// after how many seconds.
     Ticks {

@@ -84,6 +84,11 @@ impl<'a, R: Clock + Eprint> TellingGate<'a, R> {
         }
     }
 
+    /// Tells that a search over fronts gave up.
+    fn tell_too_many(&self, most: u64, what: &str) {
+        let _told = eprintln!(self.rt; "the search over fronts gave up: more than {most} {what}");
+    }
+
     /// Tells how much of the effort is spent, or what is left of the time, where a line is due.
     fn tell_ticks(&self, spent: u64, of: u64, seconds: Option<u32>) {
         let Some(elapsed) = self.due() else {
@@ -134,6 +139,8 @@ impl<'a, R: Clock + Eprint> Listener for TellingGate<'a, R> {
     fn hear(&self, news: News) {
         match news {
             News::Fronts { done, all } => self.tell_fronts(done, all),
+            News::TooManyFronts { most } => self.tell_too_many(most, "fronts"),
+            News::TooManyLabels { most } => self.tell_too_many(most, "labels"),
             News::Ticks { spent, of, seconds } => self.tell_ticks(spent, of, seconds),
             News::Loss(loss) => self.note_loss(loss),
             News::Boxes { budget } => self.budget.store(budget, Ordering::Relaxed),

@@ -8,8 +8,9 @@ use Rattle.front_table.specs.declared.moves.Move.{Move}
 use Rattle.front_bound.specs.inner.Clear.{Clear}
 use Rattle.front_table.specs.Ends.{Ended, Falls}
 use Rattle.front_table.specs.Lattice.{LeadDown, area_at, moves_at}
-use Rattle.front_table.specs.Levels.{bands_at, ends_at, list_at}
-use Rattle.front_table.specs.Lists.{Rises, HasBands}
+use Rattle.front_table.specs.Levels.{bands_at, ends_at}
+use Rattle.front_table.specs.Tails.{tail_at, tails_at, unit_in}
+use Rattle.front_table.specs.Widths.{Rises, waste_of}
 use Rattle.front_table.specs.Pools.{row_at}
 use Rattle.front_table.specs.Sets.{Fits, HeldTo, Stands}
 
@@ -19,8 +20,7 @@ pub record IsStretch (t : Stretch) : Type 0 where
   pub down : LeadDown t.fronts.rows.now
   pub bound : t.limits.bound ≤ t.limits.top
   pub falls : (n : ℕ) → n < length t.fronts.levels.now → Falls (ends_at t.fronts.levels.now n)
-  pub rises : (n : ℕ) → n < length t.fronts.levels.now → Rises (list_at t.fronts.levels.now n t.limits.class)
-  pub bands : (n : ℕ) → n < length t.fronts.levels.now → HasBands t.fronts.rows.now n t.limits.top (bands_at t.fronts.levels.now n) (list_at t.fronts.levels.now n t.limits.class)
+  pub rises : (n : ℕ) → n < length t.fronts.levels.now → Rises (bands_at t.fronts.levels.now n)
 
 -- cells that lead to a row, `x` wide in a band `y` high, leave no more beside and over them than the band may
 abbrev pub IsLean : Stretch → Sought → ℕ → ℕ → ℕ → Type 0
@@ -68,6 +68,7 @@ pub record CanEnd (t : Stretch) (to x d w right up : ℕ) : Type 0 where
   pub top : up ≤ t.limits.height
   pub ends : Ended (ends_at t.fronts.levels.now to) area far
   pub within : area ≤ w * (t.limits.height - up)
+  pub tails : (k : ℕ) → t.limits.height < up + (k + 1) * unit_in t.limits.height → tail_at (tails_at t.fronts.levels.now to t.limits.class) k ≤ far
   pub near : w + far ≤ t.limits.most
   pub reaches : right + far ≤ t.reach
 
@@ -100,9 +101,9 @@ unfoldable pub MoveJoined : Stretch → List (List FrontLabel) → ℕ → Front
 MoveJoined t pool n label m =
     (x d w right low up : ℕ) → Stands label x w right low → Fits m.label d w → CanGoOn t n m.to x d w right low up → HeldTo (row_at pool m.to) (x + d) w right up
 
--- by the band at a place
-unfoldable pub EntryJoined : Stretch → List (List FrontLabel) → ℕ → FrontLabel → ℕ → Type 0
-EntryJoined t pool n label place = (m : Move) → slice_get (bands_at t.fronts.levels.now n) place ≡ Some m → MoveJoined t pool n label m
+-- the same of a band that leaves no more than this in the widest of the strips
+unfoldable pub WasteJoined : Stretch → List (List FrontLabel) → ℕ → FrontLabel → ℕ → Move → Type 0
+WasteJoined t pool n label slack m = waste_of t.fronts.rows.now n t.limits.top m ≤ slack → MoveJoined t pool n label m
 
 -- no band by which a label of a row can go on leaves more than this in the widest strip
 unfoldable pub IsSlack : Stretch → ℕ → FrontLabel → ℕ → Type 0

@@ -2,10 +2,9 @@ use Rattle.std.proofs.Common.{[], ◌∷◌, sym, ap, subst, arith}
 use Rattle.std.proofs.Math.Logic.{∥∥₁_map}
 use Rattle.glass_base.specs.declared.params.Params.{Params}
 use Rattle.front_bound.specs.inner.Clear.{AreHoles}
-use Rattle.front_table.specs.Levels.{bands_at, list_at, to_go_at}
-use Rattle.front_table.specs.Lists.{HasBands}
+use Rattle.front_table.specs.Levels.{to_go_at}
 use Rattle.front_bound.proofs.PlacedRuns.{placed_goes_on}
-use Rattle.front_bound.proofs.SideLemmas.{built_ready, class_none, true_false}
+use Rattle.front_bound.proofs.SideLemmas.{built_ready, built_tails, class_none, true_false}
 use Rattle.front_table.proofs.FrontRows.{lead_down}
 use Rattle.front_table.proofs.Known.{down_known, fronts_built}
 use Rattle.front_bound.proofs.KnownSides.{class_known}
@@ -21,15 +20,13 @@ pub placed_from-requires-clause-stretch : goal.placed_from-requires-clause-stret
 placed_from-requires-clause-stretch c =
     let b = c.args.outset.now.fronts.instance.now in
     let fronts = c.args.outset.now.fronts in
-    let class = c.args.class.now.limits.class in
     let built = fronts_built fronts c.args.outset.now.built in
     record {
       len = c.args.outset.now.even;
       down = down_known fronts.rows.now (∥∥₁_map c.args.outset.now.built (λ are. lead_down b fronts.rows.now are.lattice));
       bound = omega (arith, c.min-bound.ensures, c.requires.class.bound);
       falls = λ n lt. (built.each n lt).falls;
-      rises = λ n lt. (built.each n lt).rises class c.requires.class.class;
-      bands = λ n lt. subst (λ k. HasBands fronts.rows.now n k (bands_at fronts.levels.now n) (list_at fronts.levels.now n class)) (sym c.requires.class.top) ((built.each n lt).lists class 0 c.requires.class.class);
+      rises = λ n lt. (built.each n lt).rises;
     }
 
 pub returns-clause-goes_on : goal.returns-clause-goes_on
@@ -42,7 +39,8 @@ returns-clause-goes_on c = λ _.
     let holes = c.in_ok-holes_of-2.ensures in
     class_known b fronts.rows.now (to_go_at fronts.levels.now) most c.offer_placed_ends.new.sides row (c.args.begin.now ∷ []) class.plate class.low class.limits.top class.room class.limits.most (∥∥₁_map c.args.outset.now.built (λ are.
     placed_goes_on b _ are.lattice fronts.cover (fits b _ fronts.cover c.requires.class.height (omega (arith, c.min-bound.ensures, c.requires.class.narrow)) are.enough) (to_go_at fronts.levels.now) row
-    (built_ready b fronts.rows.now fronts.tops.now fronts.cover fronts.levels.now are.built row (omega (arith, c.args.outset.now.inside, are.len))) class.plate c.placed_from.new.pool
+    (built_ready b fronts.rows.now fronts.tops.now fronts.cover fronts.levels.now are.built row (omega (arith, c.args.outset.now.inside, are.len)))
+    (built_tails b fronts.rows.now fronts.tops.now fronts.cover fronts.levels.now are.built row (omega (arith, c.args.outset.now.inside, are.len)) class.limits.class _ c.requires.class.class (omega (arith, c.min-bound.ensures, c.requires.class.bound, c.requires.class.top))) class.plate c.placed_from.new.pool
     (record {
       are = subst (λ l. AreHoles b class.plate l) (sym c.as_slice.ensures.value) holes;
       height = ap (λ (p : Params). p.height) c.params-params.ensures.value;

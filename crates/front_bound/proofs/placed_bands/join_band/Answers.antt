@@ -1,8 +1,7 @@
-use Rattle.std.proofs.Common.{◌+◌, ◌≤◌, sym, subst, arith}
-use Rattle.front_table.specs.Ends.{Ended}
+use Rattle.std.proofs.Common.{◌+◌, ◌*◌, ◌<◌, ap, arith}
+use Rattle.front_table.specs.Tails.{tail_at, unit_in}
 use Rattle.front_bound.specs.inner.Placed.{BandJoined}
 use Rattle.front_table.proofs.HeldLists.{least_first}
-use Rattle.front_table.proofs.StripTries.{less_glass}
 use Rattle.front_bound.proofs.placed_bands.join_band.Goals as goal
 
 pub returns-then-band-limits-clause-joined : goal.returns-then-band-limits-clause-joined
@@ -28,13 +27,14 @@ unfolding BandJoined
 returns-then-end-stretch-clause-joined c = λ x d w right low up own next beside above can.
     absurd (omega (arith, c.if-end-stretch.true, c.from-end.ensures, c.max-right.ensures, own.1, beside, can.reaches))
 
-pub returns-then-is_beyond-clause-joined : goal.returns-then-is_beyond-clause-joined
+pub returns-then-tail-within-clause-joined : goal.returns-then-tail-within-clause-joined
 unfolding BandJoined
-returns-then-is_beyond-clause-joined c = λ x d w right low up own next beside above can.
+returns-then-tail-within-clause-joined c = λ x d w right low up own next beside above can.
     let wide = least_first c.meet-shared.result w (c.meet-shared.ensures w own.0.1 next.1) in
-    let free : can.area ≤ c.glass_above-free.result = omega (arith, can.within, less_glass w c.args.stretch.now.limits.bound c.args.stretch.now.limits.height up c.args.band.now.up can.narrow above, c.glass_above-free.ensures) in
-    let far = c.is_beyond.ensures c.if-is_beyond.true can.area can.far (subst (λ l. Ended l can.area can.far) (sym c.ends_of.ensures) can.ends) free in
-    absurd (omega (arith, far, can.near, can.reaches, wide, c.from-wide.ensures, c.from-end.ensures, c.min-within.ensures, c.max-right.ensures, own.1, beside, c.if-wide-limits.false, c.if-end-stretch.false))
+    let k = c.units_in.result in
+    let fits : c.args.stretch.now.limits.height < up + (k + 1) * unit_in c.args.stretch.now.limits.height =
+    omega (arith, above, c.if-band-limits.false, c.units_in.ensures.most, ap (λ n. (k + 1) * n) c.unit_of.ensures) in
+    absurd (omega (arith, can.tails k fits, c.tail_in-tail.ensures, ap (λ l. tail_at l k) c.tails_of-tails.ensures, c.if-tail-within.true, can.near, can.reaches, wide, c.from-wide.ensures, c.from-end.ensures, c.min-within.ensures, c.max-right.ensures, own.1, beside, c.if-wide-limits.false, c.if-end-stretch.false))
 
 pub returns-clause-joined : goal.returns-clause-joined
 unfolding BandJoined

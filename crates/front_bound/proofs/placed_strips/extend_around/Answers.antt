@@ -2,9 +2,6 @@ use Rattle.std.proofs.Common.{inr, arith}
 use Rattle.front_bound.proofs.PlacedRows.{slack_more}
 use Rattle.front_bound.proofs.placed_strips.extend_around.Goals as goal
 
-pub join_rows-requires-clause-falls : goal.join_rows-requires-clause-falls
-join_rows-requires-clause-falls c = λ n le. c.requires.stretch.falls n (omega (arith, le, c.args.onward.now.inside, c.requires.stretch.len))
-
 pub returns-clause-extended : goal.returns-clause-extended
 returns-clause-extended c = inr (record {
   sought = c.in_ok-sought.sought;

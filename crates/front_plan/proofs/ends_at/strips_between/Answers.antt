@@ -1,5 +1,4 @@
-use Rattle.std.proofs.Common.{get_or, arith}
-use Rattle.std.proofs.lemmas.List.{get_or_default}
+use Rattle.std.proofs.Common.{arith}
 use Rattle.front_table.proofs.Known.{fronts_built}
 use Rattle.front_bound.proofs.SideLemmas.{built_searchable}
 use Rattle.front_plan.proofs.ends_at.strips_between.Goals as goal
@@ -8,6 +7,4 @@ pub strips_from-requires-clause-searchable : goal.strips_from-requires-clause-se
 strips_from-requires-clause-searchable c =
     let b = c.args.search.now.fronts.instance.now in
     let fronts = c.args.search.now.fronts in
-    let tops = fronts.tops.now in
-    built_searchable b fronts.rows.now tops fronts.cover fronts.levels.now (fronts_built fronts c.args.search.now.built) c.args.between.now.from (omega (arith, c.requires.from, c.args.search.now.even)) _ c.requires.class
-    (get_or_default tops c.args.class 0 (get_or tops c.args.class 0) c.requires.class) (omega (arith, c.min.ensures, c.min-2.ensures))
+    built_searchable b fronts.rows.now fronts.tops.now fronts.cover fronts.levels.now (fronts_built fronts c.args.search.now.built) c.args.between.now.from (omega (arith, c.requires.from, c.args.search.now.even)) _ (omega (arith, c.min.ensures, c.min-2.ensures))

@@ -13,4 +13,4 @@ pub returns-clause-bands : goal.returns-clause-bands
 returns-clause-bands c =
     bands_lead_known c.args.fronts.now.instance.now c.args.fronts.now.rows.now c.args.start _ (∥∥₁_map c.args.fronts.now.lattice (λ lattice.
     bands_lead_by c.args.fronts.now.instance.now c.args.fronts.now.rows.now lattice c.params-params.result.now c.params-params.ensures.value c.spread.new.pool c.args.start c.in_ok-spread.ensures.goes_on
-    (λ x y gap tall. kept_at _ _ _ c.in_ok-spread.ensures.spreads c.args.start x y (c.in_ok-offer.ensures.held x y (gap, inr (omega (arith, tall))))) _ (λ n x y lt held. c.sort_by_waste.ensures n y x (c.in_ok-bands.ensures n x y lt held))))
+    (λ x y gap tall. kept_at _ _ _ c.in_ok-spread.ensures.spreads c.args.start x y (c.in_ok-offer.ensures.held x y (gap, inr (omega (arith, tall))))) _ (λ n x y lt held. c.in_ok-sort_by_width.ensures.kept n y x (c.in_ok-bands.ensures n x y lt held))))

@@ -3,7 +3,7 @@ use Rattle.std.proofs.lemmas.List.{get_or_default}
 use Rattle.glass_base.specs.declared.params.Params.{Params}
 use Rattle.front_table.specs.Levels.{to_go_at}
 use Rattle.front_table.proofs.Known.{opened_known}
-use Rattle.front_table.proofs.Leasts.{opened_searchable, fits, least_wider}
+use Rattle.front_table.proofs.Leasts.{opened_searchable, opened_tails, class_beyond, fits, least_wider}
 use Rattle.front_table.proofs.far.least_in_class.Goals as goal
 
 pub least_of_class-requires-clause-searchable : goal.least_of_class-requires-clause-searchable
@@ -11,12 +11,19 @@ least_of_class-requires-clause-searchable c =
     let b = c.args.behind.now.fronts.instance.now in
     let fronts = c.args.behind.now.fronts in
     let start = c.args.behind.now.start in
-    opened_searchable b fronts.rows.now fronts.tops.now fronts.cover fronts.levels.now start (opened_known b fronts.rows.now fronts.tops.now fronts.cover fronts.levels.now start c.args.behind.now.opened) _ c.requires.class
-    (get_or_default fronts.tops.now c.args.class 0 (get_or fronts.tops.now c.args.class 0) c.requires.class) (omega (arith, c.min.ensures))
+    opened_searchable b fronts.rows.now fronts.tops.now fronts.cover fronts.levels.now start (opened_known b fronts.rows.now fronts.tops.now fronts.cover fronts.levels.now start c.args.behind.now.opened) _ (omega (arith, c.min.ensures))
 
 pub least_of_class-requires-clause-fitting : goal.least_of_class-requires-clause-fitting
 least_of_class-requires-clause-fitting c =
     fits c.args.behind.now.fronts.instance.now _ c.args.behind.now.fronts.cover (ap (λ (p : Params). p.height) c.params-params.ensures.value) (omega (arith, c.min.ensures, ap (λ (p : Params). p.max1) c.params-params.ensures.value)) c.args.behind.now.fronts.covered
+
+pub least_of_class-requires-clause-tails : goal.least_of_class-requires-clause-tails
+least_of_class-requires-clause-tails c =
+    let b = c.args.behind.now.fronts.instance.now in
+    let fronts = c.args.behind.now.fronts in
+    let start = c.args.behind.now.start in
+    opened_tails b fronts.rows.now fronts.tops.now fronts.cover fronts.levels.now start (opened_known b fronts.rows.now fronts.tops.now fronts.cover fronts.levels.now start c.args.behind.now.opened) c.args.class c.min.result c.requires.class
+    (omega (arith, c.min.ensures))
 
 pub returns-clause-least : goal.returns-clause-least
 returns-clause-least c =

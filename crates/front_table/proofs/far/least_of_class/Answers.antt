@@ -17,5 +17,5 @@ returns-clause-least c = λ f at w bands is wide narrow m to near.
     let opened = opened_known b rows fronts.tops.now fronts.cover levels start c.args.behind.now.opened in
     ∥∥₁_elim c.args.behind.now.fronts.lattice le_prop (λ lattice.
     c.least_end.ensures m w (strip_down b rows lattice f start at w bands is m to)
-    (strips_held b rows lattice levels c.args.limits.now fronts.cover c.requires.fitting (to_go_at levels) start (opened_ready b rows fronts.tops.now fronts.cover levels start opened) c.strips_from.new.pool c.in_ok-strips_from.ensures.extended c.args.low
+    (strips_held b rows lattice levels c.args.limits.now fronts.cover c.requires.fitting (to_go_at levels) start (opened_ready b rows fronts.tops.now fronts.cover levels start opened) c.requires.tails c.strips_from.new.pool c.in_ok-strips_from.ensures.extended c.args.low
     (λ x y none wide. c.in_ok-strips_from.ensures.begun x y (subst (λ (p : _). (x ≡ 0) ⊎ (0 + p.waste ≤ x)) (sym c.params.ensures.value) none) wide) f at w bands is wide narrow m to near))

@@ -34,6 +34,6 @@ returns-then-whole-area-clause-extended c = λ m has x d w own next may.
 
 pub returns-clause-extended : goal.returns-clause-extended
 returns-clause-extended c =
-    all_tried c.args.search.now.fronts.rows.now c.args.search.now.fronts.levels.now c.args.search.now.limits c.try_list.new.pool c.args.row c.args.label.now c.in-Some.area c.requires.searchable.bound (c.requires.searchable.bands c.args.row c.requires.row)
+    all_tried c.args.search.now.fronts.rows.now c.args.search.now.fronts.levels.now c.args.search.now.limits c.try_moves.new.pool c.args.row c.args.label.now c.in-Some.area _ c.requires.searchable.bound (omega (arith, c.glass_above-whole.ensures, c.if-whole-area.false))
     (λ before to_go ended within. c.in-Some.ensures.least before to_go (subst (λ l. Ended l before to_go) (sym c.ends_of.ensures) ended) (omega (arith, within, c.from.ensures, c.from-2.ensures)))
-    (λ e has low. c.in_ok-try_list.ensures.tried e has (omega (arith, low, c.glass_above-whole.ensures)))
+    c.in_ok-try_moves.ensures.tried

@@ -1,0 +1,12 @@
+use Rattle.std.proofs.Common.{map, ap, sym, subst}
+use Rattle.front_table.specs.Tails.{AllBehind, AreBehindBands}
+use Rattle.front_table.proofs.StackTails.{behind_none, behind_next}
+use Rattle.front_table.proofs.tails.all_tails_behind.Goals as goal
+
+pub loop-class-init : goal.loop-class-init
+loop-class-init c =
+    subst (λ l. AllBehind (map (λ v. v.items) l) c.args.levels.now c.args.bands.now c.args.tops.now c.args.unit 0) (sym c.new-all.ensures.items) (behind_none c.args.levels.now c.args.bands.now c.args.tops.now c.args.unit)
+
+pub loop-class-preserved : goal.loop-class-preserved
+loop-class-preserved c =
+    behind_next c.args.levels.now c.args.bands.now c.args.tops.now c.args.unit (map (λ v. v.items) c.loop-class.all.items) _ c.in_ok-tails.tails.items c.loop-class.class c.loop-class.invariant c.in_ok-push_tails.ensures c.in_ok-tails.ensures
