@@ -12,9 +12,11 @@ use crate::verdict::{Verdict, Why};
 use crate::walk::{NodeCounts, Walked, walk};
 use cert_log::Certificate;
 use defect_map::{DefectMap, Ground};
-use front_bound::losses::{FrontSearch, floor_up_to};
+use front_bound::front_search::FrontSearch;
+use front_bound::losses::floor_up_to;
 use glass_base::{Instance, Listener, Memory};
 use std::alloc::Global;
+use std::thread::Threads;
 
 /// What is wrong where each node may stand at its box: the said number of open nodes is tested, then the said bound.
 fn judge_counts(cert: &Certificate, tally: NodeCounts) -> Option<Why>
@@ -30,11 +32,11 @@ fn judge_counts(cert: &Certificate, tally: NodeCounts) -> Option<Why>
 }
 
 /// The answer where all else is right: whether fronts show the said floor.
-fn judge_floor<L: Listener>(
+fn judge_floor<R: Threads + Sync, L: Listener>(
     alloc: Global,
     instance: &Instance,
     cert: &Certificate,
-    search: &FrontSearch<'_, L>,
+    search: &FrontSearch<'_, R, L>,
 ) -> Result<Verdict, Memory>
     ensures { IfOk result (JudgesFloor instance.now cert.now) }
 {
@@ -58,13 +60,13 @@ fn judge_floor<L: Listener>(
 /// (`front_bound::losses::floor_up_to`), and else refused, though it may hold. Only want of memory is refused; how much
 /// is taken depends on the instance and the depth of the tree, and not on the number of nodes; for a floor also on the
 /// number of fronts and labels.
-pub fn check_cert<L: Listener>(
+pub fn check_cert<R: Threads + Sync, L: Listener>(
     alloc: Global,
     instance: &Instance,
     map: &DefectMap,
     loss: Option<u64>,
     cert: &Certificate,
-    search: &FrontSearch<'_, L>,
+    search: &FrontSearch<'_, R, L>,
 ) -> Result<Verdict, Memory>
     requires map { map.now ≡ instance.now.defects }
     requires tree { IsTree cert.now.nodes.items }

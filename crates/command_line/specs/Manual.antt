@@ -126,6 +126,7 @@ count_about count.Budget = codes "how many boxes a search handles at the most"
 count_about count.Frozen = codes "how many plates are cut already"
 count_about count.Effort = codes "a better first plan, for so many million ticks (300 are ten seconds, and usual above 60 items)"
 count_about count.Seconds = codes "a better first plan, until so many seconds are over"
+count_about count.Checkers = codes "how many threads show the floor of a certificate, where it is only checked"
 count_about count.FrontsLimit = codes "how many labels a search over fronts looks at, to show a floor"
 
 abbrev pub flag_about : Flag → List ℕ
@@ -165,7 +166,7 @@ rows_of program.Picture = picture ∷ []
 
 abbrev pub options_of : Program → List LineOption
 options_of program.Glass =
-    sizes ++ option.File role.Plan ∷ limits ++ option.Number count.Frozen ∷ option.Number count.FrontsLimit ∷ option.Word flag.Watch
+    sizes ++ option.File role.Plan ∷ limits ++ option.Number count.Frozen ∷ option.Number count.Checkers ∷ option.Number count.FrontsLimit ∷ option.Word flag.Watch
     ∷ option.Word flag.Fronts ∷ []
 options_of program.Picture = sizes
 

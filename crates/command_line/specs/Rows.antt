@@ -48,7 +48,7 @@ found = product.Plan ∷ product.Certificate ∷ []
 
 -- what commands are that check a certificate: they can do without a plan, and a search over fronts may show the certificate's floor
 abbrev pub check : Pattern
-check = record usual { reads = role.Batch ∷ role.Defects ∷ role.Plan ∷ role.Cert ∷ []; without = role.Plan ∷ []; options = sizes ++ option.Number count.FrontsLimit ∷ [] }
+check = record usual { reads = role.Batch ∷ role.Defects ∷ role.Plan ∷ role.Cert ∷ []; without = role.Plan ∷ []; options = sizes ++ option.Number count.Checkers ∷ option.Number count.FrontsLimit ∷ [] }
 
 -- each command by its own word, and by what is not as usual
 abbrev pub pattern_of : Verb → Pattern
@@ -62,7 +62,7 @@ pattern_of verb.Gen = record usual {
   options = limits ++ option.Word flag.Fronts ∷ [];
 }
 pattern_of verb.Judge = record usual { word = codes "judge"; reads = role.Batch ∷ role.Defects ∷ role.Plan ∷ [] }
-pattern_of verb.Verify = record check { word = codes "verify"; options = sizes ++ option.Number count.Frozen ∷ option.Number count.FrontsLimit ∷ [] }
+pattern_of verb.Verify = record check { word = codes "verify"; options = sizes ++ option.Number count.Frozen ∷ option.Number count.Checkers ∷ option.Number count.FrontsLimit ∷ [] }
 pattern_of verb.Convert = record check { word = codes "convert"; stores = product.Certificate ∷ [] }
 pattern_of verb.Resume = record check { word = codes "resume"; stores = found; options = sizes ++ limits ++ option.Number count.FrontsLimit ∷ option.Word flag.Fronts ∷ [] }
 pattern_of verb.Freeze = record usual { word = codes "freeze"; leads = lead.Frozen ∷ []; reads = role.Batch ∷ role.Defects ∷ role.Plan ∷ []; stores = found; options = sizes ++ limits ++ option.Word flag.Fronts ∷ [] }

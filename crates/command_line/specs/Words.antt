@@ -68,6 +68,7 @@ setting_of count.Budget = record { front = codes "--budget="; least = 1; most = 
 setting_of count.Frozen = record { front = codes "--frozen="; least = 0; most = MOST_PLATES; usual = 0; needs = Some role.Plan }
 setting_of count.Effort = record { front = codes "--effort="; least = 0; most = 1000000; usual = 0; needs = None }
 setting_of count.Seconds = record { front = codes "--seconds="; least = 0; most = 86400; usual = 0; needs = None }
+setting_of count.Checkers = record { front = codes "--workers="; least = 1; most = 8; usual = 1; needs = None }
 setting_of count.FrontsLimit = record { front = codes "--fronts-limit="; least = 1; most = 4000000000; usual = 500000000; needs = None }
 
 -- the word of an option that has no value

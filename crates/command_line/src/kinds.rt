@@ -140,6 +140,9 @@ pub enum Count {
     Effort,
     /// For how many seconds a better first plan is looked for.
     Seconds,
+    /// How many threads a search over fronts has that is to show the floor of a certificate, where no search for a plan
+    /// follows.
+    Checkers,
     /// How many labels are looked at in one search over fronts that is to show the floor of a certificate.
     FrontsLimit,
 }

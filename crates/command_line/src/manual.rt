@@ -220,6 +220,8 @@ fn count_about(count: Count) -> &'static str
             "a better first plan, for so many million ticks (300 are ten seconds, and usual above 60 items)"
         }
         Count::Seconds => "a better first plan, until so many seconds are over",
+        Count::Checkers =>
+            "how many threads show the floor of a certificate, where it is only checked",
         Count::FrontsLimit => "how many labels a search over fronts looks at, to show a floor",
     }
 }
@@ -313,6 +315,7 @@ fn options_of(program: Program) -> &'static [LineOption]
             LineOption::Number(Count::Effort),
             LineOption::Number(Count::Seconds),
             LineOption::Number(Count::Frozen),
+            LineOption::Number(Count::Checkers),
             LineOption::Number(Count::FrontsLimit),
             LineOption::Word(Flag::Watch),
             LineOption::Word(Flag::Fronts),

@@ -108,6 +108,13 @@ impl Count {
                 usual: 0,
                 needs: None,
             },
+            Count::Checkers => Setting {
+                front: "--workers=",
+                least: 1,
+                most: 8,
+                usual: 1,
+                needs: None,
+            },
             Count::FrontsLimit => Setting {
                 front: "--fronts-limit=",
                 least: 1,

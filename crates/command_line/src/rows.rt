@@ -52,6 +52,7 @@ const CHECK: Form = Form {
     options: &[
         LineOption::File(Role::Params),
         LineOption::File(Role::Plates),
+        LineOption::Number(Count::Checkers),
         LineOption::Number(Count::FrontsLimit),
     ],
     ..USUAL
@@ -148,6 +149,7 @@ impl Verb {
                     LineOption::File(Role::Params),
                     LineOption::File(Role::Plates),
                     LineOption::Number(Count::Frozen),
+                    LineOption::Number(Count::Checkers),
                     LineOption::Number(Count::FrontsLimit),
                 ],
                 ..CHECK

@@ -17,13 +17,15 @@ use crate::choosing::{effort, first_of};
 use crate::comparing::{better_of, length_of_plan};
 use cut_model::Trace;
 use defect_map::Ground;
-use front_bound::losses::{FrontSearch, LONGEST};
+use front_bound::front_search::FrontSearch;
+use front_bound::losses::LONGEST;
 use front_plan::plans::{Shown, longest_with_plan};
 use glass_base::{Instance, Listener, Memory};
 use loss_area::loss_of_length;
 use plan_beams::Beams;
 use plan_draft::draft;
 use std::alloc::Global;
+use std::thread::Threads;
 
 /// What a search begins with.
 #[derive(Drop)]
@@ -84,11 +86,11 @@ fn floor_of(instance: &Instance, length: u64) -> u64
 /// The effort is counted and not timed, so that the same instance has the same start on each machine. Where there are
 /// many fronts it may take minutes and gigabytes; where there are too many, or where there is no way to cut the items
 /// at all, the floor is 0. How far that is, is told to the search's listener. It fails only where memory runs out.
-pub fn start_by_fronts<L: Listener>(
+pub fn start_by_fronts<R: Threads + Sync, L: Listener>(
     alloc: Global,
     ground: Ground<'_>,
     known: Option<Trace>,
-    search: &FrontSearch<'_, L>,
+    search: &FrontSearch<'_, R, L>,
 ) -> Result<Start, Memory>
     requires known { IfSome known (λ trace. IsComplete ground.instance.now trace.steps.items) }
     ensures plan { IfOk result (λ start. IfSome start.first

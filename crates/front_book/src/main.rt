@@ -27,13 +27,14 @@ use anyhow::{bail, ensure};
 use cut_model::Trace;
 use defect_map::{DefectMap, Ground};
 use front_bound::bounds::{is_no_shorter, longest_shown};
-use front_bound::losses::FrontSearch;
+use front_bound::front_search::FrontSearch;
 use front_plan::plans::longest_with_plan;
 use glass_base::{Instance, Nobody};
 use glass_gen::generate;
 use loss_area::length;
 use plan_trace::laws::traces_keep_their_kinds;
 use std::alloc::Global;
+use std::thread::Threads;
 
 /// No more labels than this are looked at in a search.
 const LIMIT: u64 = 500_000_000;
@@ -58,9 +59,19 @@ fn loss_at(instance: &Instance, length: u64) -> u64 {
         .saturating_sub(instance.area())
 }
 
+/// How fronts are searched: on one thread.
+fn search_on<R>(rt: &R) -> FrontSearch<'_, R, Nobody> {
+    FrontSearch {
+        labels: LIMIT,
+        rt,
+        threads: 1,
+        listener: &Nobody,
+    }
+}
+
 /// The loss of which it is shown that no lawful plan loses less, in mm².
-fn loss_of(alloc: Global, instance: &Instance) -> anyhow::Result<u64> {
-    let length = longest_shown(alloc, instance, most_of(instance), LIMIT, &Nobody)?;
+fn loss_of<R: Threads + Sync>(rt: &R, alloc: Global, instance: &Instance) -> anyhow::Result<u64> {
+    let length = longest_shown(alloc, instance, most_of(instance), &search_on(rt))?;
     Ok(loss_at(instance, length))
 }
 
@@ -74,7 +85,11 @@ fn length_of_plan(instance: &Instance, trace: &Trace) -> u64
 }
 
 /// The loss of which it is shown that no lawful plan loses less, and that of the plan along the fronts.
-fn losses_of(alloc: Global, instance: &Instance) -> anyhow::Result<String> {
+fn losses_of<R: Threads + Sync>(
+    rt: &R,
+    alloc: Global,
+    instance: &Instance,
+) -> anyhow::Result<String> {
     let map = DefectMap::new(alloc, instance)?;
     let shown = longest_with_plan(
         alloc,
@@ -83,10 +98,7 @@ fn losses_of(alloc: Global, instance: &Instance) -> anyhow::Result<String> {
             map: &map,
         },
         most_of(instance),
-        &FrontSearch {
-            labels: LIMIT,
-            listener: &Nobody,
-        },
+        &search_on(rt),
     )?;
     let least = loss_at(instance, shown.length);
     let Some(plan) = shown.plan else {
@@ -110,16 +122,20 @@ fn instance_of(alloc: Global, line: &str) -> anyhow::Result<Instance> {
 }
 
 /// The answer to the numbers of a line that asks for a drawn instance.
-fn drawn_answer(alloc: Global, numbers: &[u32]) -> anyhow::Result<String> {
+fn drawn_answer<R: Threads + Sync>(
+    rt: &R,
+    alloc: Global,
+    numbers: &[u32],
+) -> anyhow::Result<String> {
     match numbers {
         [start, items] => {
             let instance = drawn(alloc, *start, *items, 0)?;
-            let loss = loss_of(alloc, &instance)?;
+            let loss = loss_of(rt, alloc, &instance)?;
             Ok(format!(in alloc; "{loss}")?)
         }
         [start, items, length] => {
             let instance = drawn(alloc, *start, *items, 0)?;
-            let shown = is_no_shorter(alloc, &instance, u64::from(*length), LIMIT)?;
+            let shown = is_no_shorter(alloc, &instance, u64::from(*length), &search_on(rt))?;
             Ok(format!(in alloc; "{shown}")?)
         }
         _ => bail!("a line that draws an instance has two numbers or three"),
@@ -127,38 +143,42 @@ fn drawn_answer(alloc: Global, numbers: &[u32]) -> anyhow::Result<String> {
 }
 
 /// The answer to the numbers of a line that asks for a drawn instance with defects.
-fn drawn_around(alloc: Global, numbers: &[u32]) -> anyhow::Result<String> {
+fn drawn_around<R: Threads + Sync>(
+    rt: &R,
+    alloc: Global,
+    numbers: &[u32],
+) -> anyhow::Result<String> {
     let [start, items, defects] = numbers else {
         bail!("a line that draws an instance with defects has three numbers");
     };
     let instance = drawn(alloc, *start, *items, *defects)?;
-    let loss = loss_of(alloc, &instance)?;
+    let loss = loss_of(rt, alloc, &instance)?;
     Ok(format!(in alloc; "{loss}")?)
 }
 
 /// The answer to a line.
-fn answer(alloc: Global, line: &str) -> anyhow::Result<String> {
+fn answer<R: Threads + Sync>(rt: &R, alloc: Global, line: &str) -> anyhow::Result<String> {
     if let Some(line) = line.strip_prefix("plan ") {
         let instance = instance_of(alloc, line)?;
-        return losses_of(alloc, &instance);
+        return losses_of(rt, alloc, &instance);
     }
     if let Some(line) = line.strip_prefix("gen ") {
         let numbers = numbers_of(alloc, line)?;
-        return drawn_around(alloc, numbers.as_slice());
+        return drawn_around(rt, alloc, numbers.as_slice());
     }
     if line.contains('/') {
         let instance = given(alloc, line)?;
-        let loss = loss_of(alloc, &instance)?;
+        let loss = loss_of(rt, alloc, &instance)?;
         return Ok(format!(in alloc; "{loss}")?);
     }
     let numbers = numbers_of(alloc, line)?;
-    drawn_answer(alloc, numbers.as_slice())
+    drawn_answer(rt, alloc, numbers.as_slice())
 }
 
 fn main(rt: HostRuntime) -> anyhow::Result<()> {
     for line in rt.lines(rt.alloc()) {
         let line = line?;
-        let answer = answer(rt.alloc(), line.as_str())?;
+        let answer = answer(&rt, rt.alloc(), line.as_str())?;
         println!(rt; "{line}: {answer}")?;
     }
     Ok(())

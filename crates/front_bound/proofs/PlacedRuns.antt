@@ -28,7 +28,7 @@ use Rattle.front_table.specs.Leads.{cell_height, cells_area, Moved}
 use Rattle.front_table.specs.Levels.{bands_at, ends_at}
 use Rattle.front_bound.specs.inner.Placed.{CellsGoOn, CanJoin, CanGoOn, RunsJoined, MoveJoined, MovesExtended, IsSlack, Extended, RowPlaced}
 use Rattle.front_table.specs.Pools.{row_at}
-use Rattle.front_table.specs.Ready.{TailsBelow, Ready, Fitting}
+use Rattle.front_table.specs.Ready.{TailsBelow, ReadyFrom, Fitting}
 use Rattle.front_table.specs.Tails.{unit_in}
 use Rattle.front_table.specs.Sets.{HeldTo}
 use Rattle.front_bound.specs.Sides.{StripHeld, ClassGoesOn}
@@ -36,7 +36,7 @@ use Rattle.front_table.proofs.CellRuns.{gap_within, gap_left}
 use Rattle.front_table.proofs.FrontRows.{one_row, CellMoved, cell_led}
 use Rattle.front_table.proofs.HeldLists.{least_first}
 use Rattle.front_bound.proofs.PlacedRows.{one_held}
-use Rattle.front_table.proofs.StripRuns.{bands_area, bands_within, cells_within, bands_left, bands_take, behind_at, stacks_in, stacks_more, after_in, strip_down}
+use Rattle.front_table.proofs.StripRuns.{bands_area, bands_within, cells_within, bands_left, bands_take, behind_at, lead_at, stacks_in, stacks_more, after_in, strip_down}
 
 pub contains_pushed : (xs : List Defect) (x y : Defect) → Contains (xs ++ x ∷ []) y → Contains xs y ⊎ (x ≡ y)
 contains_pushed [] x y (zero, lt, is) = inr is
@@ -278,7 +278,7 @@ band_step b t h plate pool start s n f le at w band is mv narrow left right from
           runs.joined mv.move.to mv.down x band.high w right from (low + band.high) stands (subst (λ k. HeldTo (row_at runs.cells k) w band.high right (low + band.high)) to r.held) can
     ]
 
-bands_placed : (b : Problem) (t : Stretch) → IsLattice b t.fronts.rows.now → (cover : ℕ) → Fitting b t.limits cover → (to_go : ℕ → ℕ) (start : ℕ) → Ready b t.fronts.rows.now t.fronts.levels.now cover to_go start → TailsBelow b t.fronts.rows.now t.fronts.levels.now t.limits.class t.limits.bound to_go start → (plate : ℕ) (pool : List (List FrontLabel)) → Searched b t plate pool start →
+bands_placed : (b : Problem) (t : Stretch) → IsLattice b t.fronts.rows.now → (cover : ℕ) → Fitting b t.limits cover → (to_go : ℕ → ℕ) (start : ℕ) → ReadyFrom b t.fronts.rows.now t.fronts.levels.now cover to_go start → TailsBelow b t.fronts.rows.now t.fronts.levels.now t.limits.class t.limits.bound to_go start → (plate : ℕ) (pool : List (List FrontLabel)) → Searched b t plate pool start →
     (w : ℕ) → w ≤ t.limits.bound → (left right : ℕ) → t.site.left ≤ left → right ≤ t.site.room → (bands : List Band) (n : ℕ) (f : Front) (x from : ℕ) → n ≤ start → At b t.fronts.rows.now n f → AreBands b w f bands → BandPlaces b plate left right f from bands →
     x + bands_height bands ≡ t.limits.height → (m : ℕ) → At b t.fronts.rows.now m (after_bands f bands) → w + to_go m ≤ t.limits.most → right + to_go m ≤ t.reach → HeldTo (row_at pool n) x w right from → HeldTo (row_at pool m) t.limits.height w right b.params.height
 bands_placed b t h cover fit to_go start r under plate pool s w narrow left right begin room [] n f x from le at are gap whole m to near reaches held =
@@ -290,7 +290,7 @@ bands_placed b t h cover fit to_go start r under plate pool s w narrow left righ
     let e : Front = after_cells f band.cells in
     let d : ℕ = band.high in
     let tall : ℕ = t.limits.height in
-    let mv : Moved b rows n (bands_at t.fronts.levels.now n) e d w (cells_area b f band.cells) = r.bands n le f at w band (omega (arith, narrow, fit.bound)) (omega (arith, whole, fit.height)) are.0 in
+    let mv : Moved b rows n (bands_at t.fronts.levels.now n) e d w (cells_area b f band.cells) = lead_at b rows t.fronts.levels.now cover to_go start r n le f at w band (omega (arith, narrow, fit.bound)) (omega (arith, whole, fit.height)) are.0 in
     let all : ℕ = bands_area b f (band ∷ bands) in
     let more : ℕ = bands_area b e bands in
     let left_all : area_at rows n ≡ area_at rows m + all = bands_left b rows h w (band ∷ bands) n f at are m to in
@@ -303,7 +303,7 @@ bands_placed b t h cover fit to_go start r under plate pool s w narrow left righ
     let to_all : At b rows m (after_items f (stacks_in (band ∷ bands))) = subst (λ k. At b rows m k) (sym (after_in f (band ∷ bands))) to in
     let to_more : At b rows m (after_items e (stacks_in bands)) = subst (λ k. At b rows m k) (sym (after_in e bands)) to in
     let before : Ended (ends_at t.fronts.levels.now n) all (to_go m) = behind_at b rows t.fronts.levels.now cover to_go start r n le f at (stacks_in (band ∷ bands)) (stacks_more band bands are.0.some) (bands_take b w f (band ∷ bands) are) m to_all all left_all few in
-    let behind : Ended (ends_at t.fronts.levels.now mv.move.to) more (to_go m) = r.ends mv.move.to (omega (arith, mv.down, le)) e mv.at (stacks_in bands) (bands_take b w e bands are.1) m to_more more left_more (omega (arith, few)) in
+    let behind : Ended (ends_at t.fronts.levels.now mv.move.to) more (to_go m) = r.ends_below mv.move.to (omega (arith, mv.down, le)) e mv.at (stacks_in bands) (bands_take b w e bands are.1) m to_more more left_more (omega (arith, few)) in
     let can : CanGoOn t n mv.move.to x d w right from (low + d) = record {
       end = record {
         area = more;
@@ -330,7 +330,7 @@ bands_placed b t h cover fit to_go start r under plate pool s w narrow left righ
     (band_step b t h plate pool start s n f le at w band are.0 mv narrow left right from low x begin room above (omega (arith, top)) cells can held)
 
 -- strips that begin behind one of a plate are held where they end
-pub placed_goes_on : (b : Problem) (t : Stretch) → IsLattice b t.fronts.rows.now → (cover : ℕ) → Fitting b t.limits cover → (to_go : ℕ → ℕ) (start : ℕ) → Ready b t.fronts.rows.now t.fronts.levels.now cover to_go start → TailsBelow b t.fronts.rows.now t.fronts.levels.now t.limits.class t.limits.bound to_go start → (plate : ℕ) (pool : List (List FrontLabel)) → Searched b t plate pool start →
+pub placed_goes_on : (b : Problem) (t : Stretch) → IsLattice b t.fronts.rows.now → (cover : ℕ) → Fitting b t.limits cover → (to_go : ℕ → ℕ) (start : ℕ) → ReadyFrom b t.fronts.rows.now t.fronts.levels.now cover to_go start → TailsBelow b t.fronts.rows.now t.fronts.levels.now t.limits.class t.limits.bound to_go start → (plate : ℕ) (pool : List (List FrontLabel)) → Searched b t plate pool start →
     (low : ℕ) → ((x w right up : ℕ) → (x ≡ 0) ⊎ (0 + t.site.waste ≤ x) → low ≤ w → t.site.left ≤ right → HeldTo (row_at pool start) x w right up) → (holes : List Defect) → AreHoles b plate holes → (most : ℕ) (sides : List (List FrontLabel)) (begin : FrontLabel) (top room most_left : ℕ) →
     t.site.left ≡ begin.along.least → t.site.room ≡ Width b plate → most ≤ Before b plate + t.reach → t.reach ≤ t.site.left + t.limits.most → ((w : ℕ) → w ≤ top → w ≤ b.params.max1 → w ≤ room → t.site.left + w ≤ Width b plate → w ≤ t.limits.bound) →
     ((m : ℕ) → m < start → EndsPlaced b holes (to_go m) most sides m plate t.site.left (row_at pool m)) → ClassGoesOn b t.fronts.rows.now to_go most sides start (begin ∷ []) plate low top room most_left

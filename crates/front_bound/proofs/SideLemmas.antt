@@ -14,11 +14,12 @@ use Rattle.front_table.specs.declared.rows.FrontRow.{FrontRow}
 use Rattle.front_table.specs.declared.strips.Limits.{Limits}
 use Rattle.front_table.specs.Sets.{Has, Held}
 use Rattle.front_table.specs.Lattice.{IsLattice}
-use Rattle.front_table.specs.Levels.{bands_at, to_go_at, IsToGo}
+use Rattle.front_table.specs.Levels.{bands_at, ends_at, to_go_at, IsToGo}
 use Rattle.front_table.specs.Pools.{row_at, HeldAt, Spreads}
-use Rattle.front_table.specs.Ready.{Ready, Fitting, Built, TailsBelow}
+use Rattle.front_table.specs.Ready.{ReadyFrom, Fitting, Built, TailsBelow}
 use Rattle.front_table.specs.Tries.{RowExtended, Searchable}
 use Rattle.front_bound.specs.Sides.{EndsHeld, StripHeld, Placed, NextHeld, PlateGoesOn, ClassGoesOn, BeginGoesOn, SidesGoOn}
+use Rattle.front_table.proofs.Paths.{leads_down}
 use Rattle.front_table.proofs.PoolRows.{kept_at}
 use Rattle.front_bound.proofs.PlacedRows.{one_held}
 use Rattle.front_table.proofs.StripRuns.{strip_down, strips_held}
@@ -108,14 +109,14 @@ unfolding PlateGoesOn
 plate_far b rows to_go most sides n begins plate first low least past f at from held w bands is below m to = strip_held b (to_go m) most sides m plate from w f bands (ends_far b (to_go m) most sides m plate from w (omega (arith, past, least from held)))
 
 -- a class of strips that are held where they end
-pub class_goes_on : (b : Problem) (rows : List FrontRow) → IsLattice b rows → (levels : List RowFacts) (l : Limits) (cover : ℕ) → Fitting b l cover → (start : ℕ) → Ready b rows levels cover (to_go_at levels) start → TailsBelow b rows levels l.class l.bound (to_go_at levels) start → (pool : List (List FrontLabel)) →
+pub class_goes_on : (b : Problem) (rows : List FrontRow) → IsLattice b rows → (levels : List RowFacts) (l : Limits) (cover : ℕ) → Fitting b l cover → (start : ℕ) → ReadyFrom b rows levels cover (to_go_at levels) start → TailsBelow b rows levels l.class l.bound (to_go_at levels) start → (pool : List (List FrontLabel)) →
     ((n : ℕ) → n ≤ start → RowExtended rows levels l pool n) → (low : ℕ) → ((x w : ℕ) → (x ≡ 0) ⊎ (0 + b.params.waste ≤ x) → low ≤ w → HeldAt pool start x w) → (most : ℕ) (sides : List (List FrontLabel)) (begins : List FrontLabel) (plate top room : ℕ) →
     ((w : ℕ) → w ≤ top → w ≤ b.params.max1 → w ≤ room → w ≤ l.bound) → ((m from width : ℕ) → m < start → Held begins from plate → HeldAt pool m b.params.height width → EndsHeld b (to_go_at levels m) most sides m plate from width) →
     ClassGoesOn b rows (to_go_at levels) most sides start begins plate low top room l.most
 unfolding ClassGoesOn
 class_goes_on b rows h levels l cover fit start r under pool extended low begun most sides begins plate top room bound ends f at from held w bands is wide narrow fits m to near =
     strip_held b (to_go_at levels m) most sides m plate from w f bands (ends m from w (strip_down b rows h f start at w bands is m to) held
-    (subst (λ k. HeldAt pool m k w) fit.height (strips_held b rows h levels l cover fit (to_go_at levels) start r under pool extended low begun f at w bands is wide (bound w narrow is.narrow fits) m to near)))
+    (subst (λ k. HeldAt pool m k w) fit.height (strips_held b rows h levels l cover fit (to_go_at levels) start start (bands_at levels start) (ends_at levels start) r under pool (extended start (omega arith)) (λ n lt. extended n (omega (arith, lt))) low begun f at w bands is wide (bound w narrow is.narrow fits) m to near)))
 
 -- strips on all plates are held where they end, so those from the row are
 pub sides_go_on : (b : Problem) (rows : List FrontRow) (levels : List RowFacts) (most : ℕ) (sides old : List (List FrontLabel)) (n : ℕ) (begins : List FrontLabel) → IsToGo b rows (to_go_at levels) n → HeldSame sides old n →
@@ -141,25 +142,25 @@ sides_go_on b rows levels most sides old n begins far same own next each f at pl
 
 -- what a table of all rows says to a search
 pub built_searchable : (b : Problem) (rows : List FrontRow) (tops : List ℕ) (cover : ℕ) (levels : List RowFacts) → Built b rows tops cover levels → (start : ℕ) → start < length levels → (l : Limits) →
-    l.bound ≤ l.top → Searchable rows levels l start
+    l.bound ≤ l.top → Searchable levels l start start (bands_at levels start) (ends_at levels start)
 built_searchable b rows tops cover levels o start within l bound = record {
-  len = within;
+  low = omega arith;
+  len = omega (arith, within);
   bound = bound;
-  falls = λ n le. (o.each n (omega (arith, le, within))).falls;
-  rises = λ n le. (o.each n (omega (arith, le, within))).rises;
+  falls = λ n lt. (o.each n (omega (arith, lt, within))).falls;
+  rises = λ n lt. (o.each n (omega (arith, lt, within))).rises;
+  own_falls = (o.each start within).falls;
+  own_rises = (o.each start within).rises;
 }
 
-pub built_ready : (b : Problem) (rows : List FrontRow) (tops : List ℕ) (cover : ℕ) (levels : List RowFacts) → Built b rows tops cover levels → (start : ℕ) → start < length levels → Ready b rows levels cover (to_go_at levels) start
-built_ready b rows tops cover levels o start within = record {
-  bands = λ n le. (o.each n (omega (arith, le, within))).bands;
-  ends = λ n lt. o.ends n (omega (arith, lt, within));
+pub built_ready : (b : Problem) (rows : List FrontRow) → IsLattice b rows → (tops : List ℕ) (cover : ℕ) (levels : List RowFacts) → Built b rows tops cover levels → (start : ℕ) → start < length levels → ReadyFrom b rows levels cover (to_go_at levels) start
+built_ready b rows h tops cover levels o start within = record {
+  lead = (o.each start within).bands;
   behind = λ f at stacks some takes m to area left few. o.ends start within f at stacks takes m to area left few;
+  beneath = leads_down b rows h start;
+  leads_below = λ n lt. (o.each n (omega (arith, lt, within))).bands;
+  ends_below = λ n lt. o.ends n (omega (arith, lt, within));
 }
-
-pub built_tails : (b : Problem) (rows : List FrontRow) (tops : List ℕ) (cover : ℕ) (levels : List RowFacts) → Built b rows tops cover levels → (start : ℕ) → start < length levels → (class bound : ℕ) → class < length tops → bound ≤ get_or tops class 0 →
-    TailsBelow b rows levels class bound (to_go_at levels) start
-built_tails b rows tops cover levels o start within class bound lt narrower n less f at w bands are narrow most low m to k below =
-    o.tails n (omega (arith, less, within)) class 0 lt f at w bands are (omega (arith, narrow, narrower)) most low m to k below
 
 pub sides_kept : (b : Problem) (rows : List FrontRow) (to_go : ℕ → ℕ) (most g : ℕ) (old new : List (List FrontLabel)) (n : ℕ) → Spreads g old new → g ≤ n → SidesGoOn b rows to_go most old n → SidesGoOn b rows to_go most new n
 unfolding SidesGoOn

@@ -4,6 +4,7 @@ ghost use Rattle.std.specs.Prelude.{◌≡◌, ◌≤◌, IfOk, true};
 ghost use Rattle.front_course.specs.Claims.{LosesAtLeast, NoCourseShorter};
 ghost use Rattle.front_table.specs.Ready.{AreFronts};
 
+use crate::front_search::FrontSearch;
 use crate::runs::least_reached;
 use front_course::laws::courses_bound_losses;
 use front_table::fronts::Fronts;
@@ -11,8 +12,10 @@ use front_table::halt::Halt;
 use front_table::levels::to_go;
 use front_table::probe::Probe;
 use front_table::table::table_of;
-use glass_base::{Instance, Listener, Memory, Nobody};
+use glass_base::{Instance, Listener, Memory};
+use joined_stacks::{join_stacks, joined_or};
 use std::alloc::Global;
+use std::thread::Threads;
 
 /// By how much a length is first raised, in mm.
 const FIRST_STEP: u64 = 8;
@@ -29,8 +32,8 @@ fn base_of(fronts: &Fronts<'_>) -> u64 {
 }
 
 /// Whether it is shown that no course is shorter than a length.
-fn is_shown<L: Listener>(
-    probe: &Probe<'_, L>,
+fn is_shown<R, L: Listener>(
+    probe: &Probe<'_, R, L>,
     fronts: &Fronts<'_>,
     length: u64,
 ) -> Result<bool, Halt>
@@ -49,7 +52,10 @@ fn is_shown<L: Listener>(
 }
 
 /// Whether it is shown that no course is shorter than a length, with the table of fronts made for it.
-fn is_shown_at_all<L: Listener>(probe: &Probe<'_, L>, length: u64) -> Result<bool, Halt>
+fn is_shown_at_all<R: Threads + Sync, L: Listener>(
+    probe: &Probe<'_, R, L>,
+    length: u64,
+) -> Result<bool, Halt>
     ensures { IfOk result (λ shown. shown ≡ true
         → NoCourseShorter probe.now.instance.now length) }
 {
@@ -57,25 +63,22 @@ fn is_shown_at_all<L: Listener>(probe: &Probe<'_, L>, length: u64) -> Result<boo
     is_shown(probe, &table.lend(probe.instance), length)
 }
 
-/// Whether it is shown that no lawful plan is shorter than a length, in mm: a plan's length is where its last plate's residual begins, with all plates before
-/// that in one line. `false` says that it was not shown: a plan may be shorter, or more than `limit` labels would be looked at in one of the searches, or there are more fronts than one for each
-/// 5,000 of them. So `limit` bounds time and memory.
-pub fn is_no_shorter(
+/// Whether it is shown that no lawful plan is shorter than a length, in mm: a plan's length is where its last plate's
+/// residual begins, with all plates before that in one line. `false` says that it was not shown: a plan may be shorter,
+/// or more labels would be looked at in one of the searches than it may, or there are more fronts than one for each
+/// 5,000 of them. So this bounds time and memory.
+pub fn is_no_shorter<R: Threads + Sync, L: Listener>(
     alloc: Global,
     instance: &Instance,
     length: u64,
-    limit: u64,
+    search: &FrontSearch<'_, R, L>,
 ) -> Result<bool, Memory>
     ensures { IfOk result (λ shown. shown ≡ true → LosesAtLeast instance.now length) }
 {
     let _rules = instance.items();
     courses_bound_losses();
-    let probe = Probe {
-        alloc,
-        instance,
-        limit,
-        listener: &Nobody,
-    };
+    let joined = join_stacks(alloc, instance)?;
+    let probe = search.probe(alloc, joined_or(&joined, instance));
     match is_shown_at_all(&probe, length) {
         Ok(shown) => Ok(shown),
         Err(halt) => halt.or(false),
@@ -83,8 +86,8 @@ pub fn is_no_shorter(
 }
 
 /// A length up to `most` of which it is shown that no course is shorter: the greatest that the searches come to.
-pub fn longest<L: Listener>(
-    probe: &Probe<'_, L>,
+pub fn longest<R, L: Listener>(
+    probe: &Probe<'_, R, L>,
     fronts: &Fronts<'_>,
     most: u64,
 ) -> Result<u64, Halt>
@@ -114,7 +117,10 @@ pub fn longest<L: Listener>(
 }
 
 /// Such a length, with the table of fronts made for it.
-fn longest_of_all<L: Listener>(probe: &Probe<'_, L>, most: u64) -> Result<u64, Halt>
+fn longest_of_all<R: Threads + Sync, L: Listener>(
+    probe: &Probe<'_, R, L>,
+    most: u64,
+) -> Result<u64, Halt>
     ensures shown { IfOk result (NoCourseShorter probe.now.instance.now) }
     ensures most { IfOk result (λ least. least ≤ most) }
 {
@@ -122,27 +128,23 @@ fn longest_of_all<L: Listener>(probe: &Probe<'_, L>, most: u64) -> Result<u64, H
     longest(probe, &table.lend(probe.instance), most)
 }
 
-/// A length up to `most`, in mm, of which it is shown that no lawful plan is shorter, by searches within a growing length, the last of which comes to
-/// an end; that no greater one can be shown is not promised. Where more than `limit` labels would be looked at in one of them, it is what those before have
-/// shown; where there are more fronts than one for each 5,000 of them, it is 0, which says nothing. How far that is, is told to `listener`.
-pub fn longest_shown<L: Listener>(
+/// A length up to `most`, in mm, of which it is shown that no lawful plan is shorter, by searches within a growing
+/// length, the last of which comes to an end; that no greater one can be shown is not promised. Where more labels would
+/// be looked at in one of them than it may, it is what those before have shown; where there are more fronts than one
+/// for each 5,000 of them, it is 0, which says nothing. How far that is, is told to the search's listener.
+pub fn longest_shown<R: Threads + Sync, L: Listener>(
     alloc: Global,
     instance: &Instance,
     most: u64,
-    limit: u64,
-    listener: &L,
+    search: &FrontSearch<'_, R, L>,
 ) -> Result<u64, Memory>
     ensures shown { IfOk result (LosesAtLeast instance.now) }
     ensures most { IfOk result (λ least. least ≤ most) }
 {
     let _rules = instance.items();
     courses_bound_losses();
-    let probe = Probe {
-        alloc,
-        instance,
-        limit,
-        listener,
-    };
+    let joined = join_stacks(alloc, instance)?;
+    let probe = search.probe(alloc, joined_or(&joined, instance));
     match longest_of_all(&probe, most) {
         Ok(shown) => Ok(shown),
         Err(halt) => {

@@ -3,6 +3,7 @@
 
 pub mod bounds;
 mod ending;
+pub mod front_search;
 mod holes;
 pub mod losses;
 mod nearby;

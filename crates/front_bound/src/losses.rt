@@ -6,18 +6,11 @@ ghost use Rattle.cut_model.specs.Loss.{loss_of};
 ghost use Rattle.cut_model.specs.Tree.{Forest};
 
 use crate::bounds::longest_shown;
+use crate::front_search::FrontSearch;
 use glass_base::{Instance, Listener, Memory};
 use loss_area::loss_of_length;
 use std::alloc::Global;
-
-/// How fronts are searched.
-#[derive(Drop)]
-pub struct FrontSearch<'a, L> {
-    /// How many labels are looked at in one search at the most; there may be a front for each 5,000 of them. It bounds time and memory.
-    pub labels: u64,
-    /// Who is told how far it is.
-    pub listener: &'a L,
-}
+use std::thread::Threads;
 
 /// Longer than every plan, in mm.
 pub const LONGEST: u64 = 5_000_000_000;
@@ -35,11 +28,11 @@ fn length_of_loss(instance: &Instance, loss: u64) -> u64
 /// than the search may, or there are too many fronts for that, it is what was shown before, or 0, which says nothing.
 ///
 /// Only want of memory is refused.
-pub fn floor_up_to<L: Listener>(
+pub fn floor_up_to<R: Threads + Sync, L: Listener>(
     alloc: Global,
     instance: &Instance,
     loss: u64,
-    search: &FrontSearch<'_, L>,
+    search: &FrontSearch<'_, R, L>,
 ) -> Result<u64, Memory>
     ensures shown { IfOk result (λ floor. (plan : Forest) → IsLawful instance.now plan
         → floor ≤ loss_of instance.now plan) }
@@ -49,6 +42,6 @@ pub fn floor_up_to<L: Listener>(
         return Ok(0);
     }
     let most = length_of_loss(instance, loss);
-    let length = longest_shown(alloc, instance, most, search.labels, search.listener)?;
+    let length = longest_shown(alloc, instance, most, search)?;
     Ok(loss_of_length(instance, length).min(loss))
 }

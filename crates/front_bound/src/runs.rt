@@ -139,8 +139,7 @@ fn handle_class(
         limits: class.limits,
         start: outset.row,
     };
-    let waste = outset.fronts.instance.params().waste;
-    strips_from(&mut space.strips, &search, class.low, waste)?;
+    strips_from(&mut space.strips, &search, class.low)?;
     offer_ends(outset, sides, &space.strips, clear, class.plate)?;
     Ok(())
 }
@@ -295,8 +294,8 @@ fn least_end(instance: &Instance, sides: &[FrontLabel], most: u64) -> u64
 }
 
 /// The right sides at which strips can end, front by front, as far as they and what is to go are within `most`.
-pub fn sides_within<L: Listener>(
-    probe: &Probe<'_, L>,
+pub fn sides_within<R, L: Listener>(
+    probe: &Probe<'_, R, L>,
     fronts: &Fronts<'_>,
     most: u64,
 ) -> Result<LabelPool, Halt>
@@ -332,8 +331,8 @@ pub fn sides_within<L: Listener>(
 }
 
 /// A length that no course is below, as far as what is known of all fronts tells: the least one up to `most`, or more than that where none is so short.
-pub fn least_reached<L: Listener>(
-    probe: &Probe<'_, L>,
+pub fn least_reached<R, L: Listener>(
+    probe: &Probe<'_, R, L>,
     fronts: &Fronts<'_>,
     most: u64,
 ) -> Result<u64, Halt>

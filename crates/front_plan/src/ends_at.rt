@@ -127,7 +127,7 @@ pub fn strips_between(
         start: between.from,
     };
     let low = low_of(tops, class, params.min1);
-    strips_from(pool, &strips, low, params.waste)
+    strips_from(pool, &strips, low)
 }
 
 /// Where strips begin that these labels stand for, that fill the plate's height and end here.

@@ -7,3 +7,4 @@ mod parts;
 mod plan_search;
 mod planning;
 pub mod plans;
+mod taking_back;

@@ -8,10 +8,11 @@ ghost use Rattle.plan_trace.specs.Claims.{IsComplete};
 use crate::ends_at::last_side;
 use crate::plan_search::PlanSearch;
 use crate::planning::trace_to;
+use crate::taking_back::taken_back;
 use cut_model::Trace;
 use defect_map::Ground;
 use front_bound::bounds::longest;
-use front_bound::losses::FrontSearch;
+use front_bound::front_search::FrontSearch;
 use front_bound::runs::sides_within;
 use front_course::laws::courses_bound_losses;
 use front_table::fronts::Fronts;
@@ -20,8 +21,10 @@ use front_table::pools::LabelPool;
 use front_table::probe::Probe;
 use front_table::table::table_of;
 use glass_base::{Listener, Memory};
+use joined_stacks::{Joined, join_stacks, joined_or};
 use plan_trace::meets;
 use std::alloc::Global;
+use std::thread::Threads;
 
 /// Within so many lengths a plan is looked for, the first two so much apart, in mm, and each further one twice as much.
 const LENGTHS: u32 = 3;
@@ -41,8 +44,8 @@ pub struct Shown {
 }
 
 /// The trace of a course within a length, the shortest one first, where its strips are found: a guess.
-fn trace_within<L: Listener>(
-    probe: &Probe<'_, L>,
+fn trace_within<R, L: Listener>(
+    probe: &Probe<'_, R, L>,
     ground: Ground<'_>,
     fronts: &Fronts<'_>,
     length: u64,
@@ -91,9 +94,10 @@ fn checked(ground: Ground<'_>, trace: Option<Trace>) -> Option<Trace>
 }
 
 /// A plan along the fronts within a length, where one is found within the limit.
-fn plan_within<L: Listener>(
-    probe: &Probe<'_, L>,
+fn plan_within<R, L: Listener>(
+    probe: &Probe<'_, R, L>,
     ground: Ground<'_>,
+    joined: &Option<Joined>,
     fronts: &Fronts<'_>,
     length: u64,
 ) -> Result<Option<Trace>, Halt>
@@ -105,13 +109,15 @@ fn plan_within<L: Listener>(
         Ok(trace) => trace,
         Err(halt) => halt.or(None)?,
     };
-    Ok(checked(ground, trace))
+    let own = taken_back(probe.alloc, ground.instance, joined, trace)?;
+    Ok(checked(ground, own))
 }
 
 /// A plan along the fronts that is shorter than `most`, within a length that no course is below, or else within longer ones, step by step.
-fn plan_below<L: Listener>(
-    probe: &Probe<'_, L>,
+fn plan_below<R, L: Listener>(
+    probe: &Probe<'_, R, L>,
     ground: Ground<'_>,
+    joined: &Option<Joined>,
     fronts: &Fronts<'_>,
     length: u64,
     most: u64,
@@ -126,7 +132,7 @@ fn plan_below<L: Listener>(
         if within >= most {
             return Ok(None);
         }
-        let plan = plan_within(probe, ground, fronts, within)?;
+        let plan = plan_within(probe, ground, joined, fronts, within)?;
         if plan.is_some() {
             return Ok(plan);
         }
@@ -137,23 +143,20 @@ fn plan_below<L: Listener>(
 }
 
 /// What fronts show of an instance, where its searches stay within the limit.
-fn shown_by_fronts<L: Listener>(
+fn shown_by_fronts<R: Threads + Sync, L: Listener>(
     alloc: Global,
     ground: Ground<'_>,
     most: u64,
-    search: &FrontSearch<'_, L>,
+    search: &FrontSearch<'_, R, L>,
 ) -> Result<Shown, Halt>
     ensures shown { IfOk result (λ s. NoCourseShorter ground.entry.instance.now s.length) }
     ensures most { IfOk result (λ s. s.length ≤ most) }
     ensures plan { IfOk result (λ s. IfSome s.plan
         (λ trace. IsComplete ground.entry.instance.now trace.steps.items)) }
 {
-    let probe = Probe {
-        alloc,
-        instance: ground.instance,
-        limit: search.labels,
-        listener: search.listener,
-    };
+    let joined = join_stacks(alloc, ground.instance)?;
+    let instance = joined_or(&joined, ground.instance);
+    let probe = search.probe(alloc, instance);
     let table = match table_of(&probe) {
         Ok(table) => table,
         Err(halt) => {
@@ -161,9 +164,9 @@ fn shown_by_fronts<L: Listener>(
             return Err(halt);
         }
     };
-    let fronts = table.lend(ground.instance);
+    let fronts = table.lend(instance);
     let length = longest(&probe, &fronts, most)?;
-    let plan = plan_below(&probe, ground, &fronts, length, most)?;
+    let plan = plan_below(&probe, ground, &joined, &fronts, length, most)?;
     Ok(Shown { length, plan })
 }
 
@@ -171,11 +174,11 @@ fn shown_by_fronts<L: Listener>(
 /// shortest course: the trace has a step for each item and meets the rules. That one is found, and that it is so short, is not promised; where there is no defect, it mostly is,
 /// and then no plan loses less. There is none where a strip of the course is found only around defects, or where the search reaches its limit; and none
 /// is looked for where `most` itself is shown, since who knows a plan of that length needs no other.
-pub fn longest_with_plan<L: Listener>(
+pub fn longest_with_plan<R: Threads + Sync, L: Listener>(
     alloc: Global,
     ground: Ground<'_>,
     most: u64,
-    search: &FrontSearch<'_, L>,
+    search: &FrontSearch<'_, R, L>,
 ) -> Result<Shown, Memory>
     ensures shown { IfOk result (λ s. LosesAtLeast ground.entry.instance.now s.length) }
     ensures most { IfOk result (λ s. s.length ≤ most) }

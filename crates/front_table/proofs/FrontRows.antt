@@ -1,7 +1,7 @@
 -- Rows and fronts.
 use Rattle.std.proofs.Common.{◌≡◌, ℕ, zero, suc, ◌+◌, ◌*◌, ◌-◌, ◌<◌, ◌≤◌, ◌==◌, cond, inl, inr, List, [], ◌∷◌, length, refl, sym, ap, ◌∙◌, subst, arith, Some, None, IsSome, true, false}
 use Rattle.std.proofs.Math.Nat.{mul_comm}
-use Rattle.std.proofs.lemmas.Bool.{cases_lt}
+use Rattle.std.proofs.lemmas.Bool.{cases_lt, cases_order}
 use Rattle.std.proofs.lemmas.List.{get_or_past}
 use Rattle.std.proofs.lemmas.Option.{slice_get_within}
 use Rattle.glass_base.specs.declared.item.Item.{Item}
@@ -14,7 +14,7 @@ use Rattle.front_course.specs.Cells.Cell.{alone, pair}
 use Rattle.front_table.specs.declared.moves.Move.{Move}
 use Rattle.front_table.specs.declared.rows.FrontRow.{FrontRow}
 use Rattle.front_table.specs.Sets.{Has, Fits}
-use Rattle.front_table.specs.Lattice.{At, count_at, area_at, moves_at, weight_from, IsNumbered, IsOneMore, IsLink, LedBy, AloneLed, PairLed, PairsLed, AllPairsLed, ItemLed, StackLed, HasLeft, IsLattice, LeadDown}
+use Rattle.front_table.specs.Lattice.{At, count_at, area_at, moves_at, weight_from, IsLighter, IsOneMore, IsLink, LedBy, AloneLed, PairLed, PairsLed, AllPairsLed, ItemLed, StackLed, HasLeft, IsLattice, LeadDown}
 use Rattle.front_table.proofs.HeldLists.{least_first}
 use Rattle.front_table.specs.Leads.{cell_area, cell_height, Moved, Linked, CellsLead}
 
@@ -35,13 +35,31 @@ same_weight [] stack c d each = refl
 same_weight (w ∷ ws) stack c d each =
     ap (λ n. w * n + weight_from ws (suc stack) c) (each stack (omega arith)) ∙ ap (λ n. w * d stack + n) (same_weight ws (suc stack) c d (λ k lt. each k (omega (arith, lt))))
 
+-- what is taken at a row weighs less than at any row before it
+lighter : (b : Problem) (rows : List FrontRow) (h : IsLattice b rows) (n m : ℕ) → n < length rows → m < n → weight_from h.weights 0 (count_at rows n) < weight_from h.weights 0 (count_at rows m)
+unfolding IsLighter
+lighter b rows h zero m within lt = absurd (omega (arith, lt))
+lighter b rows h (suc n) m within lt =
+    let Lighter : ℕ → Type 0 = λ k. weight_from h.weights 0 (count_at rows (suc n)) < weight_from h.weights 0 (count_at rows k) in
+    let last : suc n - 1 ≡ n = omega arith in
+    let step : Lighter n = subst Lighter last ((h.each (suc n) within).lighter (omega arith)) in
+    elim (cases_lt m n) [
+      | inl before ↦ omega (arith, step, lighter b rows h n m (omega (arith, within)) before)
+      | inr past ↦
+          let is : n ≡ m = omega (arith, past, lt) in
+          subst Lighter is step
+    ]
+
 -- a front has one row
 pub one_row : (b : Problem) (rows : List FrontRow) → IsLattice b rows → (n m : ℕ) (f : Front) → At b rows n f → At b rows m f → n ≡ m
-unfolding IsNumbered
 one_row b rows h n m f at to =
     let same : weight_from h.weights 0 (count_at rows n) ≡ weight_from h.weights 0 (count_at rows m) =
     same_weight h.weights 0 (count_at rows n) (count_at rows m) (λ k lt. let within : k < length b.stacks = omega (arith, lt, h.few) in at.counts k within ∙ sym (to.counts k within)) in
-    omega (arith, (h.each n at.within).number, (h.each m to.within).number, same)
+    elim (cases_order n m) [
+      | inl is ↦ is
+      | inr (inl before) ↦ absurd (omega (arith, same, lighter b rows h m n to.within before))
+      | inr (inr behind) ↦ absurd (omega (arith, same, lighter b rows h n m at.within behind))
+    ]
 
 -- the row at which nothing is taken
 pub first_row : (b : Problem) (rows : List FrontRow) → IsLattice b rows → At b rows (length rows - 1) no_item

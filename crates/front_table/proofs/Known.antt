@@ -1,9 +1,9 @@
 -- What the facts that a record keeps say. A record keeps a fact that has one proof at the most, so one that says which of several bands, ends or moves it is about is kept truncated. Which one it is can be looked up again,
 -- since it is decided for each of a list whether it is the one: so all that is known of rows is known outright, but for the lattice, from which bands and ends follow.
-use Rattle.std.proofs.Common.{◌≡◌, ℕ, zero, suc, ◌+◌, ◌<◌, ◌≤◌, ◌⊎◌, inl, inr, ⊎_elim, List, [], ◌∷◌, length, get_or, refl, arith, Contains}
+use Rattle.std.proofs.Common.{◌≡◌, ℕ, zero, suc, ◌+◌, ◌<◌, ◌≤◌, ◌⊎◌, inl, inr, ⊎_elim, List, [], ◌∷◌, length, refl, arith, Contains}
 use Rattle.std.proofs.Math.Logic.{∥∥₁_elim, ∥∥₁_map}
 use Rattle.std.proofs.lemmas.Bool.{cases_lt}
-use Rattle.std.specs.Coded.{Coded-set, coded_ℕ, le_prop, ×_prop}
+use Rattle.std.specs.Coded.{le_prop, ×_prop}
 use mathlib.Core.HLevel.{⊥_prop}
 use Rattle.glass_base.specs.Problem.{Problem}
 use Rattle.front_course.specs.Fronts.{Front}
@@ -20,7 +20,8 @@ use Rattle.front_table.specs.Lattice.{At, LeadDown, area_at, count_at}
 use Rattle.front_table.specs.Leads.{BandsLead, Moved, cells_area}
 use Rattle.front_table.specs.Levels.{bands_at, ends_at, to_go_at}
 use Rattle.front_table.specs.Widths.{Rises}
-use Rattle.front_table.specs.Ready.{AreFronts, Built, IsLevel, Opened}
+use Rattle.front_table.specs.Packed.{unpacked_all}
+use Rattle.front_table.specs.Ready.{AreFronts, Built, IsKnown, IsLevel, IsOpen, Opened}
 use Rattle.front_table.specs.Sets.{Has, Fits, Held}
 use Rattle.front_table.proofs.Each.{below_next}
 
@@ -176,15 +177,31 @@ built_known b rows tops cover levels h = record {
   tails = λ n lt k d few f at w bands are narrow most within m to j below. ∥∥₁_elim h le_prop (λ built. built.tails n lt k d few f at w bands are narrow most within m to j below);
 }
 
-pub opened_known : (b : Problem) (rows : List FrontRow) (tops : List ℕ) (cover : ℕ) (levels : List RowFacts) (start : ℕ) → ∥ Opened b rows tops cover levels start ∥₁ → Opened b rows tops cover levels start
-opened_known b rows tops cover levels start h = record {
-  len = ∥∥₁_elim h (Coded-set coded_ℕ _ _) (λ opened. opened.len);
-  each = λ n le. level_known b rows levels n (∥∥₁_map h (λ opened. opened.each n le));
-  ends = λ n lt f at stacks takes m to area left few. ended_known (ends_at levels n) area (to_go_at levels m) (∥∥₁_map h (λ opened. opened.ends n lt f at stacks takes m to area left few));
-  behind = ends_behind_known b rows cover (to_go_at levels) start (ends_at levels start) (∥∥₁_map h (λ opened. opened.behind));
-  to_go = λ n lt f at w bands is m to. ∥∥₁_elim h le_prop (λ opened. opened.to_go n lt f at w bands is m to);
-  tails = λ n lt k d few f at w bands are narrow most within m to j below. ∥∥₁_elim h le_prop (λ opened. opened.tails n lt k d few f at w bands are narrow most within m to j below);
-  tails_behind = λ k d few f at w bands some are narrow most within m to j below. ∥∥₁_elim h le_prop (λ opened. opened.tails_behind k d few f at w bands some are narrow most within m to j below);
+pub row_known : (b : Problem) (rows : List FrontRow) (tops : List ℕ) (cover : ℕ) (levels : List RowFacts) (n : ℕ) (level : RowFacts) → ∥ IsKnown b rows tops cover levels n level ∥₁ → IsKnown b rows tops cover levels n level
+row_known b rows tops cover levels n level h = record {
+  falls = falls_known level.ends.items (∥∥₁_map h (λ is. is.falls));
+  rises = rises_known (unpacked_all level.bands.items) (∥∥₁_map h (λ is. is.rises));
+  bands = bands_lead_known b rows n (unpacked_all level.bands.items) (∥∥₁_map h (λ is. is.bands));
+  ends = λ to_go goes f at stacks takes m to area left few. ended_known level.ends.items area (to_go m) (∥∥₁_map h (λ is. is.ends to_go goes f at stacks takes m to area left few));
+  to_go = λ to_go goes f at w bands is m to. ∥∥₁_elim h le_prop (λ known. known.to_go to_go goes f at w bands is m to);
+  tails = λ to_go goes k d few f at w bands are narrow most within m to j below. ∥∥₁_elim h le_prop (λ is. is.tails to_go goes k d few f at w bands are narrow most within m to j below);
+}
+
+pub open_known : (b : Problem) (rows : List FrontRow) (tops : List ℕ) (cover : ℕ) (to_go : ℕ → ℕ) (n : ℕ) (level : RowFacts) → ∥ IsOpen b rows tops cover to_go n level ∥₁ → IsOpen b rows tops cover to_go n level
+open_known b rows tops cover to_go n level h = record {
+  falls = falls_known level.ends.items (∥∥₁_map h (λ is. is.falls));
+  rises = rises_known (unpacked_all level.bands.items) (∥∥₁_map h (λ is. is.rises));
+  bands = bands_lead_known b rows n (unpacked_all level.bands.items) (∥∥₁_map h (λ is. is.bands));
+  behind = ends_behind_known b rows cover to_go n level.ends.items (∥∥₁_map h (λ is. is.behind));
+  tails = λ k d few f at w bands some are narrow most within m to j below. ∥∥₁_elim h le_prop (λ is. is.tails k d few f at w bands some are narrow most within m to j below);
+}
+
+pub opened_known : (b : Problem) (rows : List FrontRow) (tops : List ℕ) (cover : ℕ) (levels : List RowFacts) (start : ℕ) (level : RowFacts) → ∥ Opened b rows tops cover levels start level ∥₁ → Opened b rows tops cover levels start level
+opened_known b rows tops cover levels start level h = record {
+  low = ∥∥₁_elim h le_prop (λ opened. opened.low);
+  built = built_known b rows tops cover levels (∥∥₁_map h (λ opened. opened.built));
+  beneath = λ f at stacks some takes m to. ∥∥₁_elim h le_prop (λ opened. opened.beneath f at stacks some takes m to);
+  is = open_known b rows tops cover (to_go_at levels) start level (∥∥₁_map h (λ opened. opened.is));
 }
 
 -- what is known of each of the fronts

@@ -14,3 +14,4 @@ pub mod StripRuns
 pub mod StackTails
 pub mod Leasts
 pub mod LevelLists
+pub mod LaneLists

@@ -9,8 +9,9 @@ use Rattle.front_table.specs.declared.levels.RowFacts.{RowFacts}
 use Rattle.front_table.specs.declared.rows.FrontRow.{FrontRow}
 use Rattle.front_table.specs.Lattice.{At, area_at, links_at, IsLattice}
 use Rattle.front_table.specs.Leads.{Linked}
-use Rattle.front_table.specs.Ends.{Ended, Takes, after_items, EndsFrom, EndsBehind}
+use Rattle.front_table.specs.Ends.{Ended, Takes, after_items, EndsFrom, EndsBehind, LeadsBelow, LinksBelow}
 use Rattle.front_table.specs.Levels.{ends_at, Gathered}
+use Rattle.front_table.proofs.Each.{contained_each}
 use Rattle.front_table.proofs.FrontRows.{one_row, linked}
 use Rattle.front_table.proofs.Staircases.{ended_more}
 
@@ -25,19 +26,28 @@ path_down b rows h (stack ∷ stacks) n f at takes m to =
     let d = path_down b rows h stacks l.to (next f stack) l.at takes.1 m to in
     (omega (arith, d.0, l.down), omega (arith, d.1, l.left))
 
--- what is gathered from the links are all ends behind a row
-pub gathered_behind : (b : Problem) (rows : List FrontRow) → IsLattice b rows → (most : ℕ) (to_go : ℕ → ℕ) (levels : List RowFacts) (n : ℕ) (all : List End) →
-    ((k : ℕ) → k < n → EndsFrom b rows most to_go k (ends_at levels k)) → ((to : ℕ) → Contains (links_at rows n) to → to < n → Gathered rows levels n most all to) → EndsBehind b rows most to_go n all
-unfolding Gathered
-gathered_behind b rows h most to_go levels n all from gathered f at [] some takes m to area left few = absurd (omega (arith, some))
-gathered_behind b rows h most to_go levels n all from gathered f at (stack ∷ stacks) some takes m to area left few =
+-- where all links of a row lead below another one, items do
+pub leads_below : (b : Problem) (rows : List FrontRow) → IsLattice b rows → (n below : ℕ) → LinksBelow rows n below → LeadsBelow b rows n below
+leads_below b rows h n below links f at [] some takes m to = absurd (omega (arith, some))
+leads_below b rows h n below links f at (stack ∷ stacks) some takes m to =
     let one : (item : Item) × (next_item b f stack ≡ Some item) = some_of (next_item b f stack) takes.0 in
     let l : Linked b rows n f stack one.0 = linked b rows h n f at stack one.0 one.1 in
+    omega (arith, (path_down b rows h stacks l.to (next f stack) l.at takes.1 m to).0, contained_each (λ to. to < below) (links_at rows n) links l.to l.has)
+
+-- what is gathered from the links are all ends behind a row
+pub gathered_behind : (b : Problem) (rows : List FrontRow) → IsLattice b rows → (most : ℕ) (to_go : ℕ → ℕ) (levels : List RowFacts) (n below : ℕ) (all : List End) → LinksBelow rows n below →
+    ((k : ℕ) → k < below → EndsFrom b rows most to_go k (ends_at levels k)) → ((to : ℕ) → Contains (links_at rows n) to → to < below → Gathered rows levels n most all to) → EndsBehind b rows most to_go n all
+unfolding Gathered
+gathered_behind b rows h most to_go levels n below all links from gathered f at [] some takes m to area left few = absurd (omega (arith, some))
+gathered_behind b rows h most to_go levels n below all links from gathered f at (stack ∷ stacks) some takes m to area left few =
+    let one : (item : Item) × (next_item b f stack ≡ Some item) = some_of (next_item b f stack) takes.0 in
+    let l : Linked b rows n f stack one.0 = linked b rows h n f at stack one.0 one.1 in
+    let low : l.to < below = contained_each (λ to. to < below) (links_at rows n) links l.to l.has in
     let d = path_down b rows h stacks l.to (next f stack) l.at takes.1 m to in
     let own : ℕ = area_at rows l.to - area_at rows m in
-    let ended : Ended (ends_at levels l.to) own (to_go m) = from l.to l.down (next f stack) l.at stacks takes.1 m to own (omega (arith, d.1)) (omega (arith, left, l.left, few)) in
+    let ended : Ended (ends_at levels l.to) own (to_go m) = from l.to low (next f stack) l.at stacks takes.1 m to own (omega (arith, d.1)) (omega (arith, left, l.left, few)) in
     let sum : own + (area_at rows n - area_at rows l.to) ≡ area = omega (arith, left, l.left, d.1) in
-    subst (λ k. Ended all k (to_go m)) sum (gathered l.to l.has l.down own (to_go m) ended (omega (arith, sum, few)))
+    subst (λ k. Ended all k (to_go m)) sum (gathered l.to l.has low own (to_go m) ended (omega (arith, sum, few)))
 
 -- with the row itself
 pub ends_with : (b : Problem) (rows : List FrontRow) → IsLattice b rows → (most : ℕ) (to_go : ℕ → ℕ) (n : ℕ) (behind stairs : List End) → EndsBehind b rows most to_go n behind →
@@ -71,3 +81,7 @@ path_strict b rows h stack stacks n f at takes m to =
     let l : Linked b rows n f stack one.0 = linked b rows h n f at stack one.0 one.1 in
     let d = path_down b rows h stacks l.to (next f stack) l.at takes.1 m to in
     omega (arith, d.0, l.down)
+
+pub leads_down : (b : Problem) (rows : List FrontRow) → IsLattice b rows → (n : ℕ) → LeadsBelow b rows n n
+leads_down b rows h n f at [] some takes m to = absurd (omega (arith, some))
+leads_down b rows h n f at (stack ∷ stacks) some takes m to = path_strict b rows h stack stacks n f at takes m to

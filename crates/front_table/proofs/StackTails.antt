@@ -9,7 +9,7 @@ use Rattle.std.proofs.lemmas.Nat.{mul-le}
 use Rattle.glass_base.specs.Problem.{Problem}
 use Rattle.front_course.specs.Fronts.{Front}
 use Rattle.front_course.specs.Cells.{after_cells}
-use Rattle.front_course.specs.Strips.{Band, AreBands, after_bands, bands_height}
+use Rattle.front_course.specs.Strips.{bands_height}
 use Rattle.front_table.specs.declared.levels.RowFacts.{RowFacts}
 use Rattle.front_table.specs.declared.moves.Move.{Move}
 use Rattle.front_table.specs.declared.rows.FrontRow.{FrontRow}
@@ -18,7 +18,9 @@ use Rattle.front_table.specs.Leads.{BandsLead, Moved, cells_area}
 use Rattle.front_table.specs.Levels.{to_go_at}
 use Rattle.front_table.specs.Ready.{ClassTails}
 use Rattle.front_table.specs.Tails.{unit_in, tail_at, tails_at, IsLower, AreBehind, AreBehindBand, AreBehindBands, AllBehind, AllLower, HasTails, HasTailsBehind}
+use Rattle.front_table.specs.Ends.{LeadsBelow}
 use Rattle.front_table.proofs.HeldLists.{least_first}
+use Rattle.front_table.proofs.StripRuns.{bands_below}
 
 -- what is lowered further is still no more
 behind_lower : (tails new others : List ℕ) (unit low : ℕ) → IsLower new tails → AreBehind tails others unit low → AreBehind new others unit low
@@ -61,20 +63,21 @@ rest_below q k unit low high rest le within least below =
     add-mul a c n = mul_comm (a + c) n ∙ mul-add n a c ∙ ap (λ x. x + n * c) (mul_comm n a) ∙ ap (λ x. a * n + x) (mul_comm n c)
 
 -- tails that are no more than those behind each band of a class are those of the row
-pub has_tails_behind : (b : Problem) (rows : List FrontRow) (levels : List RowFacts) (class top unit : ℕ) (to_go : ℕ → ℕ) (n : ℕ) (bands : List Move) (tails : List ℕ) → n ≤ length levels → BandsLead b rows n bands →
-    ((m : ℕ) → m < n → HasTails b rows top unit to_go m (tails_at levels m class)) → AreBehindBands tails levels class top unit bands → HasTailsBehind b rows top unit to_go n tails
+pub has_tails_behind : (b : Problem) (rows : List FrontRow) (levels : List RowFacts) (class top unit : ℕ) (to_go : ℕ → ℕ) (n : ℕ) (bands : List Move) (tails : List ℕ) → LeadsBelow b rows n (length levels) → BandsLead b rows n bands →
+    ((m : ℕ) → m < length levels → HasTails b rows top unit to_go m (tails_at levels m class)) → AreBehindBands tails levels class top unit bands → HasTailsBehind b rows top unit to_go n tails
 unfolding AreBehindBands AreBehindBand AreBehind
-has_tails_behind b rows levels class top unit to_go n bands tails le lead later behind f at w [] some are narrow most within m to k below = absurd (omega (arith, some))
-has_tails_behind b rows levels class top unit to_go n bands tails le lead later behind f at w (band ∷ rest) some are narrow most within m to k below =
+has_tails_behind b rows levels class top unit to_go n bands tails leads lead later behind f at w [] some are narrow most within m to k below = absurd (omega (arith, some))
+has_tails_behind b rows levels class top unit to_go n bands tails leads lead later behind f at w (band ∷ rest) some are narrow most within m to k below =
     let g : Front = after_cells f band.cells in
     let mv : Moved b rows n bands g band.high w (cells_area b f band.cells) = lead f at w band most (omega (arith, within)) are.0 in
-    let one = behind mv.move mv.has (omega (arith, least_first mv.move.label.across w mv.fits.1, narrow)) (omega (arith, mv.down, le)) in
+    let down : mv.move.to < length levels = bands_below b rows n (length levels) leads f at w band [] (are.0, tt) mv.move.to mv.at in
+    let one = behind mv.move mv.has (omega (arith, least_first mv.move.label.across w mv.fits.1, narrow)) down in
     let low : mv.move.label.along.least ≤ band.high = least_first mv.move.label.along band.high mv.fits.0 in
     let q : ℕ = one.0 in
     let few : q ≤ k = units_below q k unit band.high (omega (arith, one.1, low)) (omega (arith, below)) in
     let j : ℕ = k - q in
     let left : bands_height rest < (j + 1) * unit = rest_below q k unit mv.move.label.along.least band.high (bands_height rest) few one.1 low below in
-    let go : tail_at (tails_at levels mv.move.to class) j ≤ to_go m = later mv.move.to mv.down g mv.at w rest are.1 narrow most (omega (arith, within)) m to j left in
+    let go : tail_at (tails_at levels mv.move.to class) j ≤ to_go m = later mv.move.to down g mv.at w rest are.1 narrow most (omega (arith, within)) m to j left in
     let same : j + q ≡ k = omega (arith, few) in
     omega (arith, one.2 j, go, ap (tail_at tails) same)
 
@@ -142,11 +145,11 @@ each_lower all old most many has k =
     ]
 
 -- the tails of a row in each class
-pub class_tails_behind : (b : Problem) (rows : List FrontRow) (tops : List ℕ) (levels : List RowFacts) (n : ℕ) (bands : List Move) (all : List (List ℕ)) (unit : ℕ) → n ≤ length levels → BandsLead b rows n bands →
-    ((m : ℕ) → m < n → ClassTails b rows tops levels m) → AllBehind all levels bands tops unit (length tops) → unit ≡ unit_in b.params.height → (k d : ℕ) → k < length tops → HasTailsBehind b rows (get_or tops k d) (unit_in b.params.height) (to_go_at levels) n (get_or all k [])
+pub class_tails_behind : (b : Problem) (rows : List FrontRow) (tops : List ℕ) (levels : List RowFacts) (n : ℕ) (bands : List Move) (all : List (List ℕ)) (unit : ℕ) → LeadsBelow b rows n (length levels) → BandsLead b rows n bands →
+    ((m : ℕ) → m < length levels → ClassTails b rows tops levels m) → AllBehind all levels bands tops unit (length tops) → unit ≡ unit_in b.params.height → (k d : ℕ) → k < length tops → HasTailsBehind b rows (get_or tops k d) (unit_in b.params.height) (to_go_at levels) n (get_or all k [])
 unfolding AllBehind
-class_tails_behind b rows tops levels n bands all unit le lead built behind same k d lt =
+class_tails_behind b rows tops levels n bands all unit leads lead built behind same k d lt =
     let top : get_or tops k 0 ≡ get_or tops k d = get_or_default tops k 0 d lt in
     subst (λ u. HasTailsBehind b rows (get_or tops k d) u (to_go_at levels) n (get_or all k [])) same
-    (has_tails_behind b rows levels k (get_or tops k d) unit (to_go_at levels) n bands (get_or all k []) le lead
+    (has_tails_behind b rows levels k (get_or tops k d) unit (to_go_at levels) n bands (get_or all k []) leads lead
     (λ m less. subst (λ u. HasTails b rows (get_or tops k d) u (to_go_at levels) m (tails_at levels m k)) (sym same) (built m less k d lt)) (subst (λ w. AreBehindBands (get_or all k []) levels k w unit bands) top (behind.1 k lt)))

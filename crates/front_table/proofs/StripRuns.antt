@@ -8,20 +8,23 @@ use Rattle.front_course.specs.Fronts.{Front, next}
 use Rattle.front_course.specs.Cells.{Cell, pick_width, pick_height, Stands, CanStand, after_cell, cell_width, after_cells, cells_width, AllStand}
 use Rattle.front_course.specs.Cells.Cell.{alone, pair}
 use Rattle.front_course.specs.Strips.{Band, IsBand, after_bands, bands_height, AreBands, IsStrip}
+use Rattle.front_table.specs.declared.ends.End.{End}
 use Rattle.front_table.specs.declared.labels.FrontLabel.{FrontLabel}
 use Rattle.front_table.specs.declared.levels.RowFacts.{RowFacts}
+use Rattle.front_table.specs.declared.moves.Move.{Move}
 use Rattle.front_table.specs.declared.rows.FrontRow.{FrontRow}
 use Rattle.front_table.specs.declared.strips.Limits.{Limits}
-use Rattle.front_table.specs.Ends.{Ended, Takes, after_items, EndsBehind}
+use Rattle.front_table.specs.Ends.{Ended, Takes, after_items, EndsFrom, EndsBehind, LeadsBelow}
 use Rattle.front_table.specs.Lattice.{At, area_at, moves_at, IsLattice}
-use Rattle.front_table.specs.Leads.{cell_area, cells_area, Moved}
+use Rattle.front_table.specs.Leads.{cell_area, cells_area, Moved, BandsLead}
 use Rattle.front_table.specs.Levels.{bands_at, ends_at}
 use Rattle.front_table.specs.Pools.{HeldAt}
-use Rattle.front_table.specs.Ready.{Ready, Fitting, TailsBelow}
+use Rattle.front_table.specs.Ready.{Ready, ReadyFrom, Fitting, TailsBelow}
 use Rattle.front_table.specs.Tails.{tail_at, tails_at, unit_in}
-use Rattle.front_table.specs.Tries.{RowExtended, MayGoOn}
+use Rattle.front_table.specs.Tries.{ExtendedBy, RowExtended, MayGoOn}
 use Rattle.front_table.proofs.FrontRows.{one_row, cells_lead}
 use Rattle.front_table.proofs.CellRuns.{gap_within, gap_left}
+use Rattle.front_table.proofs.Paths.{leads_down}
 
 -- the stacks of the items of cells and of bands, in turn
 abbrev pub stacks_of : List Cell → List ℕ
@@ -152,72 +155,109 @@ bands_left b rows h width bands n f at are m to =
     let p : Path b rows n (after_bands f bands) (bands_area b f bands) = bands_path b rows h width bands n f at are in
     omega (arith, p.left, ap (area_at rows) (one_row b rows h p.row m (after_bands f bands) p.at to))
 
-pub behind_at : (b : Problem) (rows : List FrontRow) (levels : List RowFacts) (cover : ℕ) (to_go : ℕ → ℕ) (start : ℕ) → Ready b rows levels cover to_go start → (n : ℕ) → n ≤ start → EndsBehind b rows cover to_go n (ends_at levels n)
+-- of a row of which all is known, and of those below it
+pub behind_at : (b : Problem) (rows : List FrontRow) (levels : List RowFacts) (cover : ℕ) (to_go : ℕ → ℕ) (start : ℕ) → ReadyFrom b rows levels cover to_go start → (n : ℕ) → n ≤ start → EndsBehind b rows cover to_go n (ends_at levels n)
 behind_at b rows levels cover to_go start r n le f at stacks some takes m to area left few =
     elim (cases_lt n start) [
-      | inl below ↦ r.ends n below f at stacks takes m to area left few
+      | inl below ↦ r.ends_below n below f at stacks takes m to area left few
       | inr last ↦
           let same : start ≡ n = omega (arith, le, last) in
           subst (λ k. EndsBehind b rows cover to_go k (ends_at levels k)) same r.behind f at stacks some takes m to area left few
     ]
 
-bands_held : (b : Problem) (rows : List FrontRow) → IsLattice b rows → (levels : List RowFacts) (l : Limits) (cover : ℕ) → Fitting b l cover → (to_go : ℕ → ℕ) (start : ℕ) → Ready b rows levels cover to_go start → TailsBelow b rows levels l.class l.bound to_go start →
-    (pool : List (List FrontLabel)) → ((n : ℕ) → n ≤ start → RowExtended rows levels l pool n) → (w : ℕ) → w ≤ l.bound → (bands : List Band) (n : ℕ) (f : Front) (x : ℕ) → n ≤ start → At b rows n f → AreBands b w f bands →
-    x + bands_height bands ≡ l.height → (m : ℕ) → At b rows m (after_bands f bands) → w + to_go m ≤ l.most → HeldAt pool n x w → HeldAt pool m l.height w
-unfolding RowExtended
-bands_held b rows h levels l cover fit to_go start r under pool closed w narrow [] n f x le at are whole m to near held =
-    let same : n ≡ m = one_row b rows h n m f at to in
-    subst (λ k. HeldAt pool k l.height w) same (subst (λ k. HeldAt pool n k w) (omega (arith, whole)) held)
-bands_held b rows h levels l cover fit to_go start r under pool closed w narrow (band ∷ bands) n f x le at are whole m to near held =
-    let g : Front = after_cells f band.cells in
-    let d : ℕ = band.high in
-    let rest : ℕ = bands_height bands in
-    let mv : Moved b rows n (bands_at levels n) g d w (cells_area b f band.cells) = r.bands n le f at w band (omega (arith, narrow, fit.bound)) (omega (arith, whole, fit.height)) are.0 in
-    let all : ℕ = bands_area b f (band ∷ bands) in
-    let more : ℕ = bands_area b g bands in
-    let left : area_at rows n ≡ area_at rows m + all = bands_left b rows h w (band ∷ bands) n f at are m to in
-    let later : area_at rows mv.move.to ≡ area_at rows m + more = bands_left b rows h w bands mv.move.to g mv.at are.1 m to in
-    let here : all ≤ w * (l.height - x) = omega (arith, bands_within b w f (band ∷ bands) are, ap (λ k. w * k) (sum_left l.height x (d + rest) whole)) in
-    let there : more ≤ w * (l.height - (x + d)) = omega (arith, bands_within b w g bands are.1, ap (λ k. w * k) (sum_left l.height (x + d) rest (omega (arith, whole)))) in
-    let few : all ≤ cover = omega (arith, here, mul-le w (l.height - x) l.bound l.height narrow (omega arith), fit.covered) in
-    let to_all : At b rows m (after_items f (stacks_in (band ∷ bands))) = subst (λ k. At b rows m k) (sym (after_in f (band ∷ bands))) to in
-    let to_more : At b rows m (after_items g (stacks_in bands)) = subst (λ k. At b rows m k) (sym (after_in g bands)) to in
-    let some : 1 ≤ length (stacks_in (band ∷ bands)) = stacks_more band bands are.0.some in
-    let before : Ended (ends_at levels n) all (to_go m) = behind_at b rows levels cover to_go start r n le f at (stacks_in (band ∷ bands)) some (bands_take b w f (band ∷ bands) are) m to_all all left few in
-    let tails : (k : ℕ) → l.height < x + d + (k + 1) * unit_in l.height → tail_at (tails_at levels mv.move.to l.class) k ≤ to_go m =
-    λ k fits.
-    under mv.move.to (omega (arith, mv.down, le)) g mv.at w bands are.1 narrow (omega (arith, narrow, fit.bound)) (omega (arith, whole, fit.height)) m to k
-    (omega (arith, whole, fits, ap (λ n. (k + 1) * unit_in n) fit.height)) in
-    let may : MayGoOn rows levels l n mv.move x d w = record {
-      to_go = to_go m;
-      before = all;
-      behind = more;
-      down = mv.down;
-      here = before;
-      tails = tails;
-      within = here;
-      rest = there;
-      split = omega (arith, left, later);
-      sum = omega (arith, whole);
-      narrow = narrow;
-      near = near;
-    } in
-    bands_held b rows h levels l cover fit to_go start r under pool closed w narrow bands mv.move.to g (x + d) (omega (arith, mv.down, le)) mv.at are.1 (omega (arith, whole)) m to near
-    (closed n le x w held mv.move mv.has d mv.fits may)
-  where
-    sum_left : (height used rest : ℕ) → used + rest ≡ height → rest ≡ height - used
-    sum_left height used rest e = omega (arith, e)
+pub lead_at : (b : Problem) (rows : List FrontRow) (levels : List RowFacts) (cover : ℕ) (to_go : ℕ → ℕ) (start : ℕ) → ReadyFrom b rows levels cover to_go start → (n : ℕ) → n ≤ start → BandsLead b rows n (bands_at levels n)
+lead_at b rows levels cover to_go start r n le f at width band narrow low is =
+    elim (cases_lt n start) [
+      | inl below ↦ r.leads_below n below f at width band narrow low is
+      | inr last ↦
+          let same : start ≡ n = omega (arith, le, last) in
+          subst (λ k. BandsLead b rows k (bands_at levels k)) same r.lead f at width band narrow low is
+    ]
+
+-- where bands lead to from a row
+pub bands_below : (b : Problem) (rows : List FrontRow) (n below : ℕ) → LeadsBelow b rows n below → (f : Front) → At b rows n f → (w : ℕ) (band : Band) (bands : List Band) → AreBands b w f (band ∷ bands) → (m : ℕ) → At b rows m (after_bands f (band ∷ bands)) → m < below
+bands_below b rows n below leads f at w band bands are m to =
+    leads f at (stacks_in (band ∷ bands)) (stacks_more band bands are.0.some) (bands_take b w f (band ∷ bands) are) m (subst (λ k. At b rows m k) (sym (after_in f (band ∷ bands))) to)
+
+-- a row at which what is stacked so far is held
+record HeldBehind (b : Problem) (rows : List FrontRow) (pool : List (List FrontLabel)) (below : ℕ) (g : Front) (x w : ℕ) : Type 0 where
+  row : ℕ
+  down : row < below
+  at : At b rows row g
+  held : HeldAt pool row x w
+
+module _ (b : Problem) (rows : List FrontRow) (h : IsLattice b rows) (levels : List RowFacts) (l : Limits) (cover : ℕ) (fit : Fitting b l cover) (to_go : ℕ → ℕ) (pool : List (List FrontLabel)) (w : ℕ) (narrow : w ≤ l.bound) where
+  sum_left : (height used rest : ℕ) → used + rest ≡ height → rest ≡ height - used
+  sum_left height used rest e = omega (arith, e)
+
+  -- one band more
+  band_held : (n below : ℕ) (moves : List Move) (ends : List End) → BandsLead b rows n moves → EndsBehind b rows cover to_go n ends → LeadsBelow b rows n below → TailsBelow b rows levels l.class l.bound to_go below → ExtendedBy rows levels l pool n below moves ends →
+      (band : Band) (bands : List Band) (f : Front) (x : ℕ) → At b rows n f → AreBands b w f (band ∷ bands) → x + bands_height (band ∷ bands) ≡ l.height → (m : ℕ) → At b rows m (after_bands f (band ∷ bands)) → w + to_go m ≤ l.most → HeldAt pool n x w →
+      HeldBehind b rows pool below (after_cells f band.cells) (x + band.high) w
+  unfolding ExtendedBy
+  band_held n below moves ends lead behind leads under closed band bands f x at are whole m to near held =
+      let g : Front = after_cells f band.cells in
+      let d : ℕ = band.high in
+      let rest : ℕ = bands_height bands in
+      let mv : Moved b rows n moves g d w (cells_area b f band.cells) = lead f at w band (omega (arith, narrow, fit.bound)) (omega (arith, whole, fit.height)) are.0 in
+      let down : mv.move.to < below = bands_below b rows n below leads f at w band [] (are.0, tt) mv.move.to mv.at in
+      let all : ℕ = bands_area b f (band ∷ bands) in
+      let more : ℕ = bands_area b g bands in
+      let left : area_at rows n ≡ area_at rows m + all = bands_left b rows h w (band ∷ bands) n f at are m to in
+      let later : area_at rows mv.move.to ≡ area_at rows m + more = bands_left b rows h w bands mv.move.to g mv.at are.1 m to in
+      let here : all ≤ w * (l.height - x) = omega (arith, bands_within b w f (band ∷ bands) are, ap (λ k. w * k) (sum_left l.height x (d + rest) whole)) in
+      let there : more ≤ w * (l.height - (x + d)) = omega (arith, bands_within b w g bands are.1, ap (λ k. w * k) (sum_left l.height (x + d) rest (omega (arith, whole)))) in
+      let few : all ≤ cover = omega (arith, here, mul-le w (l.height - x) l.bound l.height narrow (omega arith), fit.covered) in
+      let to_all : At b rows m (after_items f (stacks_in (band ∷ bands))) = subst (λ k. At b rows m k) (sym (after_in f (band ∷ bands))) to in
+      let before : Ended ends all (to_go m) = behind f at (stacks_in (band ∷ bands)) (stacks_more band bands are.0.some) (bands_take b w f (band ∷ bands) are) m to_all all left few in
+      let tails : (k : ℕ) → l.height < x + d + (k + 1) * unit_in l.height → tail_at (tails_at levels mv.move.to l.class) k ≤ to_go m =
+      λ k fits.
+      under mv.move.to down g mv.at w bands are.1 narrow (omega (arith, narrow, fit.bound)) (omega (arith, whole, fit.height)) m to k
+      (omega (arith, whole, fits, ap (λ n. (k + 1) * unit_in n) fit.height)) in
+      let may : MayGoOn rows levels l n below ends mv.move x d w = record {
+        to_go = to_go m;
+        before = all;
+        behind = more;
+        down = down;
+        here = before;
+        tails = tails;
+        within = here;
+        rest = there;
+        split = omega (arith, left, later);
+        sum = omega (arith, whole);
+        narrow = narrow;
+        near = near;
+      } in
+      record { row = mv.move.to; down = down; at = mv.at; held = closed x w held mv.move mv.has d mv.fits may }
+
+  -- all bands from a row below one
+  bands_held : (below : ℕ) → ((n : ℕ) → n < below → BandsLead b rows n (bands_at levels n)) → ((n : ℕ) → n < below → EndsFrom b rows cover to_go n (ends_at levels n)) → TailsBelow b rows levels l.class l.bound to_go below →
+      ((n : ℕ) → n < below → RowExtended rows levels l pool n) → (bands : List Band) (n : ℕ) (f : Front) (x : ℕ) → n < below → At b rows n f → AreBands b w f bands →
+      x + bands_height bands ≡ l.height → (m : ℕ) → At b rows m (after_bands f bands) → w + to_go m ≤ l.most → HeldAt pool n x w → HeldAt pool m l.height w
+  bands_held below leads ends under closed [] n f x lt at are whole m to near held =
+      let same : n ≡ m = one_row b rows h n m f at to in
+      subst (λ k. HeldAt pool k l.height w) same (subst (λ k. HeldAt pool n k w) (omega (arith, whole)) held)
+  bands_held below leads ends under closed (band ∷ bands) n f x lt at are whole m to near held =
+      let next : HeldBehind b rows pool n (after_cells f band.cells) (x + band.high) w =
+      band_held n n (bands_at levels n) (ends_at levels n) (leads n lt) (λ f at stacks some. ends n lt f at stacks) (leads_down b rows h n)
+      (λ k less. under k (omega (arith, less, lt))) (closed n lt) band bands f x at are whole m to near held in
+      bands_held below leads ends under closed bands next.row (after_cells f band.cells) (x + band.high) (omega (arith, next.down, lt)) next.at are.1 (omega (arith, whole)) m to near next.held
 
 -- each strip from the row is held where it ends
-pub strips_held : (b : Problem) (rows : List FrontRow) → IsLattice b rows → (levels : List RowFacts) (l : Limits) (cover : ℕ) → Fitting b l cover → (to_go : ℕ → ℕ) (start : ℕ) → Ready b rows levels cover to_go start → TailsBelow b rows levels l.class l.bound to_go start →
-    (pool : List (List FrontLabel)) → ((n : ℕ) → n ≤ start → RowExtended rows levels l pool n) → (low : ℕ) → ((x w : ℕ) → (x ≡ 0) ⊎ (0 + b.params.waste ≤ x) → low ≤ w → HeldAt pool start x w) →
+pub strips_held : (b : Problem) (rows : List FrontRow) → IsLattice b rows → (levels : List RowFacts) (l : Limits) (cover : ℕ) → Fitting b l cover → (to_go : ℕ → ℕ) (start below : ℕ) (moves : List Move) (ends : List End) → Ready b rows levels cover to_go start below moves ends →
+    TailsBelow b rows levels l.class l.bound to_go below → (pool : List (List FrontLabel)) → ExtendedBy rows levels l pool start below moves ends → ((n : ℕ) → n < below → RowExtended rows levels l pool n) →
+    (low : ℕ) → ((x w : ℕ) → (x ≡ 0) ⊎ (0 + b.params.waste ≤ x) → low ≤ w → HeldAt pool start x w) →
     (f : Front) → At b rows start f → (w : ℕ) (bands : List Band) → IsStrip b w f bands → low ≤ w → w ≤ l.bound → (m : ℕ) → At b rows m (after_bands f bands) → w + to_go m ≤ l.most → HeldAt pool m l.height w
-strips_held b rows h levels l cover fit to_go start r under pool closed low begun f at w bands is wide narrow m to near =
-    let high : ℕ = bands_height bands in
+strips_held b rows h levels l cover fit to_go start below moves ends r under pool own closed low begun f at w [] is wide narrow m to near = absurd (omega (arith, is.some))
+strips_held b rows h levels l cover fit to_go start below moves ends r under pool own closed low begun f at w (band ∷ bands) is wide narrow m to near =
+    let high : ℕ = bands_height (band ∷ bands) in
     let within : high ≤ b.params.height = gap_within b.params.waste high b.params.height is.fill in
     let none : (l.height - high ≡ 0) ⊎ (0 + b.params.waste ≤ l.height - high) =
     subst (λ k. (k - high ≡ 0) ⊎ (0 + b.params.waste ≤ k - high)) (sym fit.height) (gap_left b.params.waste high b.params.height is.fill) in
-    bands_held b rows h levels l cover fit to_go start r under pool closed w narrow bands start f (l.height - high) (omega arith) at is.each (omega (arith, within, fit.height)) m to near (begun (l.height - high) w none wide)
+    let x : ℕ = l.height - high in
+    let next : HeldBehind b rows pool below (after_cells f band.cells) (x + band.high) w =
+    band_held b rows h levels l cover fit to_go pool w narrow start below moves ends r.lead r.behind r.beneath under own band bands f x at is.each (omega (arith, within, fit.height)) m to near (begun x w none wide) in
+    bands_held b rows h levels l cover fit to_go pool w narrow below r.leads_below r.ends_below under closed bands next.row (after_cells f band.cells) (x + band.high) next.down next.at is.each.1 (omega (arith, within, fit.height)) m to near next.held
 
 -- the row behind bands
 pub bands_within_row : (b : Problem) (rows : List FrontRow) → IsLattice b rows → (f : Front) (n : ℕ) → At b rows n f → (w : ℕ) (bands : List Band) → AreBands b w f bands → (m : ℕ) → At b rows m (after_bands f bands) → m ≤ n
@@ -238,3 +278,8 @@ strip_down b rows h f n at w (band ∷ bands) is m to =
     let p = cells_down b rows h band.high band.cells n f at is.each.0.stand in
     let q : Path b rows p.row (after_bands (after_cells f band.cells) bands) (bands_area b (after_cells f band.cells) bands) = bands_path b rows h w bands p.row (after_cells f band.cells) p.at is.each.1 in
     omega (arith, p.down, q.down, is.each.0.some, one_row b rows h q.row m (after_bands f (band ∷ bands)) q.at to)
+
+-- and where it leads to from a row
+pub strip_below : (b : Problem) (rows : List FrontRow) (n below : ℕ) → LeadsBelow b rows n below → (f : Front) → At b rows n f → (w : ℕ) (bands : List Band) → IsStrip b w f bands → (m : ℕ) → At b rows m (after_bands f bands) → m < below
+strip_below b rows n below leads f at w [] is m to = absurd (omega (arith, is.some))
+strip_below b rows n below leads f at w (band ∷ bands) is m to = bands_below b rows n below leads f at w band bands is.each m to

@@ -1,10 +1,10 @@
 -- Where a strip can end, as seen from a row: how much area lies before that, and what is to go from there.
-use Rattle.std.specs.Prelude.{◌≡◌, ℕ, ◌+◌, ◌<◌, ◌≤◌, List, [], ◌∷◌, map, length, IsSome, Contains, slice_index_or}
+use Rattle.std.specs.Prelude.{◌≡◌, ℕ, ◌+◌, ◌<◌, ◌≤◌, List, [], ◌∷◌, map, length, IsSome, All, Contains, slice_index_or}
 use Rattle.glass_base.specs.Problem.{Problem}
 use Rattle.front_course.specs.Fronts.{Front, next, next_item}
 use Rattle.front_table.specs.declared.ends.End.{End}
 use Rattle.front_table.specs.declared.rows.FrontRow.{FrontRow}
-use Rattle.front_table.specs.Lattice.{At, area_at}
+use Rattle.front_table.specs.Lattice.{At, area_at, links_at}
 
 -- one of the ends has no more before it, and no more to go
 unfoldable pub Ended : List End → ℕ → ℕ → Type 0
@@ -40,3 +40,11 @@ abbrev pub EndsBehind : Problem → List FrontRow → ℕ → (ℕ → ℕ) → 
 EndsBehind b rows most to_go n ends =
     (f : Front) → At b rows n f → (stacks : List ℕ) → 1 ≤ length stacks → Takes b f stacks → (m : ℕ) → At b rows m (after_items f stacks) → (area : ℕ)
     → area_at rows n ≡ area_at rows m + area → area ≤ most → Ended ends area (to_go m)
+
+-- wherever items are taken to from a row, the row there is below this one
+abbrev pub LeadsBelow : Problem → List FrontRow → ℕ → ℕ → Type 0
+LeadsBelow b rows n below = (f : Front) → At b rows n f → (stacks : List ℕ) → 1 ≤ length stacks → Takes b f stacks → (m : ℕ) → At b rows m (after_items f stacks) → m < below
+
+-- so do the links of the row
+abbrev pub LinksBelow : List FrontRow → ℕ → ℕ → Type 0
+LinksBelow rows n below = All (λ to. to < below) (links_at rows n)

@@ -36,9 +36,9 @@ abbrev pub weight_from : List ℕ → ℕ → (ℕ → ℕ) → ℕ
 weight_from [] stack counts = 0
 weight_from (w ∷ ws) stack counts = w * counts stack + weight_from ws (suc stack) counts
 
--- the row has the number that its counts say
-unfoldable pub IsNumbered : List ℕ → List FrontRow → ℕ → Type 0
-IsNumbered weights rows n = n + 1 + weight_from weights 0 (count_at rows n) ≡ length rows
+-- what is taken at a row weighs less than at the row before it
+unfoldable pub IsLighter : List ℕ → List FrontRow → ℕ → Type 0
+IsLighter weights rows n = 1 ≤ n → weight_from weights 0 (count_at rows n) < weight_from weights 0 (count_at rows (n - 1))
 
 -- of this stack one item more is taken at the other row, and of the other stacks as many
 unfoldable pub IsOneMore : List FrontRow → ℕ → ℕ → ℕ → ℕ → Type 0
@@ -104,7 +104,7 @@ HasLeft b rows n = (stack : ℕ) × (stack < length b.stacks) × IsSome (item_at
 
 -- all that is asked of a row
 pub record IsRow (b : Problem) (weights : List ℕ) (rows : List FrontRow) (n : ℕ) : Type 0 where
-  pub number : IsNumbered weights rows n
+  pub lighter : IsLighter weights rows n
   pub left : 1 ≤ n → HasLeft b rows n
   pub down : All (λ m. m.to < n) (moves_at rows n)
   pub stacks : (stack : ℕ) → stack < length b.stacks → StackLed b rows n stack

@@ -9,3 +9,4 @@ pub mod Widths
 pub mod Tries
 pub mod Tails
 pub mod Ready
+pub mod Lanes

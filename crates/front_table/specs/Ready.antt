@@ -3,12 +3,14 @@ use Rattle.std.specs.Prelude.{◌≡◌, ℕ, ◌+◌, ◌*◌, ◌<◌, ◌≤�
 use Rattle.glass_base.specs.Problem.{Problem}
 use Rattle.front_course.specs.Fronts.{Front}
 use Rattle.front_course.specs.Strips.{Band, IsStrip, after_bands}
+use Rattle.front_table.specs.declared.ends.End.{End}
 use Rattle.front_table.specs.declared.levels.RowFacts.{RowFacts}
+use Rattle.front_table.specs.declared.moves.Move.{Move}
 use Rattle.front_table.specs.declared.rows.FrontRow.{FrontRow}
 use Rattle.front_table.specs.declared.strips.Limits.{Limits}
 use Rattle.front_table.specs.declared.fronts.Fronts.{Fronts}
 use Rattle.front_table.specs.declared.table.FrontTable.{FrontTable}
-use Rattle.front_table.specs.Ends.{Ended, Falls, EndsFrom, EndsBehind}
+use Rattle.front_table.specs.Ends.{Ended, Falls, EndsFrom, EndsBehind, LeadsBelow}
 use Rattle.front_table.specs.Lattice.{At, IsLattice}
 use Rattle.front_table.specs.Leads.{BandsLead}
 use Rattle.front_table.specs.Levels.{bands_at, ends_at, to_go_at, IsToGo}
@@ -16,11 +18,17 @@ use Rattle.front_table.specs.Packed.{unpacked_all}
 use Rattle.front_table.specs.Tails.{HasTails, HasTailsBehind, IsLower, tail_at, tails_at, unit_in}
 use Rattle.front_table.specs.Widths.{Rises}
 
--- what is known of the rows up to one, so that strips from it can be looked for
-pub record Ready (b : Problem) (rows : List FrontRow) (levels : List RowFacts) (cover : ℕ) (to_go : ℕ → ℕ) (start : ℕ) : Type 0 where
-  pub bands : (n : ℕ) → n ≤ start → BandsLead b rows n (bands_at levels n)
-  pub ends : (n : ℕ) → n < start → EndsFrom b rows cover to_go n (ends_at levels n)
-  pub behind : EndsBehind b rows cover to_go start (ends_at levels start)
+-- what is known of a row and of those below another one, so that strips can be looked for from it
+pub record Ready (b : Problem) (rows : List FrontRow) (levels : List RowFacts) (cover : ℕ) (to_go : ℕ → ℕ) (start below : ℕ) (bands : List Move) (ends : List End) : Type 0 where
+  pub lead : BandsLead b rows start bands
+  pub behind : EndsBehind b rows cover to_go start ends
+  pub beneath : LeadsBelow b rows start below
+  pub leads_below : (n : ℕ) → n < below → BandsLead b rows n (bands_at levels n)
+  pub ends_below : (n : ℕ) → n < below → EndsFrom b rows cover to_go n (ends_at levels n)
+
+-- the same of a row of which all is known
+abbrev pub ReadyFrom : Problem → List FrontRow → List RowFacts → ℕ → (ℕ → ℕ) → ℕ → Type 0
+ReadyFrom b rows levels cover to_go start = Ready b rows levels cover to_go start start (bands_at levels start) (ends_at levels start)
 
 -- the limits are those of plates, and of widths that the table of ends covers
 pub record Fitting (b : Problem) (l : Limits) (cover : ℕ) : Type 0 where
@@ -31,6 +39,10 @@ pub record Fitting (b : Problem) (l : Limits) (cover : ℕ) : Type 0 where
 -- the rows below one have the tails of strips of a class that are no wider than `bound`
 abbrev pub TailsBelow : Problem → List FrontRow → List RowFacts → ℕ → ℕ → (ℕ → ℕ) → ℕ → Type 0
 TailsBelow b rows levels class bound to_go start = (n : ℕ) → n < start → HasTails b rows bound (unit_in b.params.height) to_go n (tails_at levels n class)
+
+-- the tails of a row in a class of strips
+abbrev pub tails_in : RowFacts → ℕ → List ℕ
+tails_in level k = slice_index_or (map (λ v. v.items) level.tails.items) k []
 
 -- a row's ends and bands
 pub record IsLevel (b : Problem) (rows : List FrontRow) (levels : List RowFacts) (n : ℕ) : Type 0 where
@@ -49,15 +61,20 @@ pub record Built (b : Problem) (rows : List FrontRow) (tops : List ℕ) (cover :
   pub to_go : (n : ℕ) → n < length levels → IsToGo b rows (to_go_at levels) n
   pub tails : (n : ℕ) → n < length levels → ClassTails b rows tops levels n
 
--- the same with one row more, of which it is not known what is to go from it
-pub record Opened (b : Problem) (rows : List FrontRow) (tops : List ℕ) (cover : ℕ) (levels : List RowFacts) (start : ℕ) : Type 0 where
-  pub len : length levels ≡ start + 1
-  pub each : (n : ℕ) → n ≤ start → IsLevel b rows levels n
-  pub ends : (n : ℕ) → n < start → EndsFrom b rows cover (to_go_at levels) n (ends_at levels n)
-  pub behind : EndsBehind b rows cover (to_go_at levels) start (ends_at levels start)
-  pub to_go : (n : ℕ) → n < start → IsToGo b rows (to_go_at levels) n
-  pub tails : (n : ℕ) → n < start → ClassTails b rows tops levels n
-  pub tails_behind : (k d : ℕ) → k < length tops → HasTailsBehind b rows (slice_index_or tops k d) (unit_in b.params.height) (to_go_at levels) start (tails_at levels start k)
+-- a row of which it is not known what is to go from it
+pub record IsOpen (b : Problem) (rows : List FrontRow) (tops : List ℕ) (cover : ℕ) (to_go : ℕ → ℕ) (n : ℕ) (level : RowFacts) : Type 0 where
+  pub falls : Falls level.ends.items
+  pub rises : Rises (unpacked_all level.bands.items)
+  pub bands : BandsLead b rows n (unpacked_all level.bands.items)
+  pub behind : EndsBehind b rows cover to_go n level.ends.items
+  pub tails : (k d : ℕ) → k < length tops → HasTailsBehind b rows (slice_index_or tops k d) (unit_in b.params.height) to_go n (tails_in level k)
+
+-- the first rows, and such a row, from which items lead to those alone
+pub record Opened (b : Problem) (rows : List FrontRow) (tops : List ℕ) (cover : ℕ) (levels : List RowFacts) (start : ℕ) (level : RowFacts) : Type 0 where
+  pub low : length levels ≤ start
+  pub built : Built b rows tops cover levels
+  pub beneath : LeadsBelow b rows start (length levels)
+  pub is : IsOpen b rows tops cover (to_go_at levels) start level
 
 -- no strip of these widths from a row, that is near enough, leaves less to go than this
 abbrev pub IsLeast : Problem → List FrontRow → (ℕ → ℕ) → ℕ → ℕ → ℕ → ℕ → ℕ → Type 0
@@ -86,29 +103,30 @@ pub record IsLast (levels : List RowFacts) (n : ℕ) (level : RowFacts) : Type 0
   pub bands : bands_at levels n ≡ unpacked_all level.bands.items
   pub ends : ends_at levels n ≡ level.ends.items
   pub to_go : to_go_at levels n ≡ level.to_go
-  pub tails : (k : ℕ) → tails_at levels n k ≡ slice_index_or (map (λ v. v.items) level.tails.items) k []
+  pub tails : (k : ℕ) → tails_at levels n k ≡ tails_in level k
 
--- a row of which it is not known what is to go from it
-pub record IsOpen (b : Problem) (rows : List FrontRow) (tops : List ℕ) (cover : ℕ) (to_go : ℕ → ℕ) (n : ℕ) (level : RowFacts) : Type 0 where
+-- a row with itself as an end, and with what is to go from it
+pub record IsClosed (opened closed : RowFacts) (far : ℕ) : Type 0 where
+  pub bands : unpacked_all closed.bands.items ≡ unpacked_all opened.bands.items
+  pub to_go : closed.to_go ≡ far
+  pub falls : Falls closed.ends.items
+  pub lower : (k : ℕ) → IsLower (tails_in closed k) (tails_in opened k)
+  pub tails : (k j : ℕ) → tail_at (tails_in closed k) j ≤ far
+  pub own : Ended closed.ends.items 0 far
+  pub kept : (area to_go : ℕ) → Ended opened.ends.items area to_go → Ended closed.ends.items area to_go
+
+-- what is to go from the first rows and from this one
+abbrev pub Continues : List RowFacts → ℕ → RowFacts → (ℕ → ℕ) → Type 0
+Continues levels n level to_go = ((m : ℕ) → m < length levels → to_go m ≡ to_go_at levels m) × (to_go n ≡ level.to_go)
+
+-- a row of which all is known, from which items lead to the first rows alone
+pub record IsKnown (b : Problem) (rows : List FrontRow) (tops : List ℕ) (cover : ℕ) (levels : List RowFacts) (n : ℕ) (level : RowFacts) : Type 0 where
   pub falls : Falls level.ends.items
   pub rises : Rises (unpacked_all level.bands.items)
   pub bands : BandsLead b rows n (unpacked_all level.bands.items)
-  pub behind : EndsBehind b rows cover to_go n level.ends.items
-  pub tails : (k d : ℕ) → k < length tops → HasTailsBehind b rows (slice_index_or tops k d) (unit_in b.params.height) to_go n (slice_index_or (map (λ v. v.items) level.tails.items) k [])
-
--- the last row is the same, with itself as an end and with what is to go from it; those before it are as they were
-pub record IsClosed (levels other : List RowFacts) (far : ℕ) : Type 0 where
-  pub last : ℕ
-  pub old_len : length levels ≡ last + 1
-  pub new_len : length other ≡ last + 1
-  pub same : (n : ℕ) → n < last → SameLevel levels other n
-  pub bands : bands_at other last ≡ bands_at levels last
-  pub to_go : to_go_at other last ≡ far
-  pub falls : Falls (ends_at other last)
-  pub lower : (k : ℕ) → IsLower (tails_at other last k) (tails_at levels last k)
-  pub tails : (k j : ℕ) → tail_at (tails_at other last k) j ≤ far
-  pub own : Ended (ends_at other last) 0 far
-  pub kept : (area to_go : ℕ) → Ended (ends_at levels last) area to_go → Ended (ends_at other last) area to_go
+  pub ends : (to_go : ℕ → ℕ) → Continues levels n level to_go → EndsFrom b rows cover to_go n level.ends.items
+  pub to_go : (to_go : ℕ → ℕ) → Continues levels n level to_go → IsToGo b rows to_go n
+  pub tails : (to_go : ℕ → ℕ) → Continues levels n level to_go → (k d : ℕ) → k < length tops → HasTails b rows (slice_index_or tops k d) (unit_in b.params.height) to_go n (tails_in level k)
 
 -- all rows, with all that is known of them
 pub record IsTable (b : Problem) (table : FrontTable) : Type 0 where

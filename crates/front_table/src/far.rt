@@ -2,6 +2,7 @@
 
 ghost use Rattle.std.specs.Prelude.{◌≡◌, ℕ, ◌+◌, ◌<◌, ◌≤◌, length, slice_index_or, IfOk, OnOk};
 ghost use Rattle.front_table.specs.Levels.{to_go_at};
+ghost use Rattle.front_table.specs.Packed.{unpacked_all};
 ghost use Rattle.front_table.specs.Pools.{HeldAt};
 ghost use Rattle.front_table.specs.Ready.{Fitting, IsLeast, LeavesLeast, TailsBelow};
 ghost use Rattle.front_table.specs.Sets.{Fits, Held};
@@ -10,9 +11,9 @@ ghost use Rattle.front_table.specs.Tries.{Searchable};
 use crate::behind::Behind;
 use crate::halt::Halt;
 use crate::labels::FrontLabel;
-use crate::levels::{RowFacts, tails_of, to_go};
+use crate::levels::{RowFacts, tails_of_class, to_go};
 use crate::pools::LabelPool;
-use crate::strips::{Limits, StripSearch, strips_from};
+use crate::strips::{Limits, StripSearch, strips_behind};
 use crate::tails::{tail_in, unit_of, units_in};
 
 /// More than there is to go from any front.
@@ -48,15 +49,14 @@ fn least_in(labels: &[FrontLabel], height: u32, to_go: u64, found: u64) -> u64
 }
 
 /// The least that the strips of a search leave to go.
-fn least_end(pool: &LabelPool, levels: &[RowFacts], start: usize, height: u32) -> u64
-    requires pool { start < length pool.now }
-    requires levels { start < length levels.now }
-    ensures { (m w : ℕ) → m < start → HeldAt pool.now m height w
+fn least_end(pool: &LabelPool, levels: &[RowFacts], height: u32) -> u64
+    requires pool { length levels.now ≤ length pool.now }
+    ensures { (m w : ℕ) → m < length levels.now → HeldAt pool.now m height w
         → result ≤ w + to_go_at levels.now m }
 {
     let mut least = FAR;
     let low = pool.low();
-    for row in low..start {
+    for row in low..levels.len() {
         least = least_in(pool.labels(row), height, to_go(levels, row), least);
     }
     least
@@ -70,12 +70,13 @@ fn least_of_class(
     low: u32,
 ) -> Result<u64, Halt>
     requires pool { behind.now.start < length pool.old }
-    requires searchable { Searchable behind.now.fronts.rows.now behind.now.fronts.levels.now
-        limits.now behind.now.start }
+    requires searchable { Searchable behind.now.fronts.levels.now limits.now behind.now.start
+        (length behind.now.fronts.levels.now) (unpacked_all behind.now.facts.now.bands.items)
+        behind.now.facts.now.ends.items }
     requires fitting { Fitting behind.now.fronts.instance.now limits.now behind.now.fronts.cover }
     requires tails { TailsBelow behind.now.fronts.instance.now behind.now.fronts.rows.now
         behind.now.fronts.levels.now limits.now.class limits.now.bound
-        (to_go_at behind.now.fronts.levels.now) behind.now.start }
+        (to_go_at behind.now.fronts.levels.now) (length behind.now.fronts.levels.now) }
     ensures len { OnOk result (length pool.new ≡ length pool.old) }
     ensures least { IfOk result (IsLeast behind.now.fronts.instance.now behind.now.fronts.rows.now
         (to_go_at behind.now.fronts.levels.now) behind.now.start low limits.now.bound
@@ -87,9 +88,8 @@ fn least_of_class(
         limits: *limits,
         start: behind.start,
     };
-    let waste = fronts.instance.params().waste;
-    strips_from(pool, &search, low, waste)?;
-    Ok(least_end(pool, fronts.levels, behind.start, limits.height))
+    strips_behind(pool, &search, behind.facts, low)?;
+    Ok(least_end(pool, fronts.levels, limits.height))
 }
 
 /// The least that strips of a class that are at least `low` wide leave to go from a row, as far as that is within `most`; any number where none is.
@@ -116,7 +116,7 @@ fn least_in_class(
         height: params.height,
         most,
     };
-    let tails = tails_of(behind.fronts.levels, behind.start, class);
+    let tails = tails_of_class(behind.facts, class);
     let tail = tail_in(tails, units_in(params.height, unit_of(params.height)));
     if tail + u64::from(low) > most {
         return Ok(FAR);

@@ -4,7 +4,7 @@ ghost use Rattle.std.specs.Prelude.{◌≡◌, ℕ, ◌+◌, ◌*◌, ◌<◌, �
 ghost use Rattle.glass_base.specs.Problem.{item_at};
 ghost use Rattle.plan_trace.specs.Marks.{item_height, item_width};
 ghost use Rattle.front_course.specs.Cells.{Stands};
-ghost use Rattle.front_table.specs.Lattice.{AllPairsLed, AloneLed, HasLeft, IsLattice, IsLink, IsNumbered, IsOneMore, IsRow, ItemLed, LedBy, PairLed, PairsLed, StackLed, count_at, links_at, moves_at};
+ghost use Rattle.front_table.specs.Lattice.{AllPairsLed, AloneLed, HasLeft, IsLattice, IsLighter, IsLink, IsOneMore, IsRow, ItemLed, LedBy, PairLed, PairsLed, StackLed, count_at, links_at, moves_at, weight_from};
 ghost use Rattle.front_table.specs.Sets.{Fits, Has};
 
 use crate::moves::Move;
@@ -301,23 +301,34 @@ fn added(sum: u64, weight: u64, count: u32) -> Option<u64>
     sum.checked_add(weight.checked_mul(u64::from(count))?)
 }
 
-/// Whether the row has the number that its counts say by these weights of the stacks.
-fn is_numbered(instance: &Instance, weights: &[u64], rows: &[FrontRow], row: usize) -> bool
-    requires row { row < length rows.now }
-    requires weights { length weights.now ≡ length instance.now.stacks }
-    ensures { IsTrue result → IsNumbered weights.now rows.now row }
+/// What the items taken at a row weigh, by these weights of the stacks, or none where it is too large.
+fn weight_of(instance: &Instance, weights: &[u64], rows: &[FrontRow], row: usize) -> Option<u64>
+    requires { length weights.now ≡ length instance.now.stacks }
+    ensures { IfSome result (λ w. w ≡ weight_from weights.now 0 (count_at rows.now row)) }
 {
-    let mut sum = row as u64 + 1;
+    let mut sum = 0;
     for stack in 0..instance.stacks() {
-        match added(sum, weights[stack as usize], count(rows, row, stack)) {
-            Some(more) => sum = more,
-            None => return false,
-        }
+        sum = added(sum, weights[stack as usize], count(rows, row, stack))?;
     }
-    if sum != rows.len() as u64 {
+    Some(sum)
+}
+
+/// Whether what is taken at a row weighs less than at the row before it.
+#[tactic(auto, unfolding(crate::specs::Lattice::IsLighter))]
+fn is_lighter(instance: &Instance, weights: &[u64], rows: &[FrontRow], row: usize) -> bool
+    requires { length weights.now ≡ length instance.now.stacks }
+    ensures { IsTrue result → IsLighter weights.now rows.now row }
+{
+    if row == 0 {
+        return true;
+    }
+    let Some(before) = weight_of(instance, weights, rows, row - 1) else {
         return false;
+    };
+    match weight_of(instance, weights, rows, row) {
+        Some(own) => own < before,
+        None => false,
     }
-    true
 }
 
 /// Whether the row keeps all that is asked of it.
@@ -327,7 +338,7 @@ fn is_row(instance: &Instance, weights: &[u64], rows: &[FrontRow], row: usize) -
     ensures { IsTrue result → IsRow instance.now weights.now rows.now row }
 {
     let left = row == 0 || has_left(instance, rows, row);
-    left && is_numbered(instance, weights, rows, row)
+    left && is_lighter(instance, weights, rows, row)
         && lead_down(moves_of(rows, row), row)
         && stacks_led(instance, rows, row)
 }
@@ -359,8 +370,8 @@ fn is_first(instance: &Instance, rows: &[FrontRow], row: usize) -> bool
     true
 }
 
-/// Whether the table has a row for each front that items can be taken to, and each cell from there on. The weights of the stacks say the numbers of the
-/// rows.
+/// Whether the table has a row for each front that items can be taken to, and each cell from there on. What is taken at
+/// a row weighs less than at the row before it, by these weights of the stacks.
 pub fn is_lattice(instance: &Instance, weights: &[u64], rows: &[FrontRow]) -> bool
     ensures { IsTrue result → IsLattice instance.now rows.now }
 {

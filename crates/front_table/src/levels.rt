@@ -1,7 +1,7 @@
 //! What is known of each row, from the last front on.
 
 ghost use Rattle.std.specs.Prelude.{◌≡◌, ℕ, ◌+◌, ◌<◌, length, OnOk};
-ghost use Rattle.front_table.specs.Ready.{IsLast, SameLevel};
+ghost use Rattle.front_table.specs.Ready.{IsLast, SameLevel, tails_in};
 ghost use Rattle.front_table.specs.Packed.{unpacked_all};
 ghost use Rattle.front_table.specs.Tails.{tails_at};
 ghost use Rattle.front_table.specs.Levels.{bands_at, ends_at, to_go_at};
@@ -19,6 +19,8 @@ pub struct RowFacts {
     pub ends: Vec<End>,
     /// The least width of strips from it to the last front, in mm.
     pub to_go: u64,
+    /// The class of the first strip of those.
+    pub class: usize,
     /// For each class of strips and each height in units: no more than is to go behind any stack of its bands that is lower than one unit more, in mm.
     pub tails: Vec<Vec<u16>>,
 }
@@ -47,15 +49,22 @@ pub fn to_go(levels: &[RowFacts], row: usize) -> u64
     levels[row].to_go
 }
 
-/// What is to go at least behind stacks of bands from a row on in strips of a class.
+/// What is to go at least behind stacks of bands from a row in strips of a class.
+pub fn tails_of_class(facts: &RowFacts, class: usize) -> &[u16]
+    ensures { result.now ≡ tails_in facts.now class }
+{
+    match facts.tails.get(class) {
+        Some(tails) => tails.as_slice(),
+        None => &[],
+    }
+}
+
+/// The same of a row of the table.
 pub fn tails_of(levels: &[RowFacts], row: usize, class: usize) -> &[u16]
     requires { row < length levels.now }
     ensures { result.now ≡ tails_at levels.now row class }
 {
-    match levels[row].tails.get(class) {
-        Some(tails) => tails.as_slice(),
-        None => &[],
-    }
+    tails_of_class(&levels[row], class)
 }
 
 /// Appends a row.

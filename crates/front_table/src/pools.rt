@@ -71,6 +71,18 @@ impl LabelPool {
         self.rows.len()
     }
 
+    /// So many labels may be offered from now on.
+    pub fn allow(&mut self, labels: u64)
+        ensures { self.new ≡ self.old }
+    {
+        self.left = labels;
+    }
+
+    /// How many labels may still be offered.
+    pub fn left(&self) -> u64 {
+        self.left
+    }
+
     /// A row before which none has labels.
     pub fn low(&self) -> usize
         ensures { (n : ℕ) → n < result → row_at self.now n ≡ [] }

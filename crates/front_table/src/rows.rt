@@ -1,6 +1,7 @@
 //! Fronts, each a row of a table with what leads on from it.
 
-ghost use Rattle.std.specs.Prelude.{◌≡◌, ◌*◌, ◌-◌, ◌<◌, length};
+ghost use Rattle.std.specs.Prelude.{◌≡◌, ◌*◌, ◌-◌, ◌<◌, All, IsTrue, length};
+ghost use Rattle.front_table.specs.Ends.{LinksBelow};
 ghost use Rattle.front_table.specs.Lattice.{area_at, count_at, links_at, moves_at};
 
 use crate::moves::Move;
@@ -49,6 +50,26 @@ pub fn links_of(rows: &[FrontRow], row: usize) -> &[u32]
     ensures { result.now ≡ links_at rows.now row }
 {
     rows[row].links.as_slice()
+}
+
+/// Whether all of these rows are below another one.
+fn are_below(links: &[u32], below: usize) -> bool
+    ensures { IsTrue result → All (λ to. to < below) links.now }
+{
+    for to in links {
+        if *to as usize >= below {
+            return false;
+        }
+    }
+    true
+}
+
+/// Whether all rows at which one item more is taken are below another one.
+pub fn links_lead_below(rows: &[FrontRow], row: usize, below: usize) -> bool
+    requires { row < length rows.now }
+    ensures { IsTrue result → LinksBelow rows.now row below }
+{
+    are_below(links_of(rows, row), below)
 }
 
 /// The cells from a row on.

@@ -1,7 +1,7 @@
 //! The ends of a row, from those of the rows at which one item more is taken.
 
 ghost use Rattle.std.specs.Prelude.{◌≡◌, ℕ, ◌+◌, ◌<◌, ◌≤◌, Contains, IsTrue, IfOk, OnOk, length};
-ghost use Rattle.front_table.specs.Ends.{Ended, EndsBehind, EndsFrom, Falls};
+ghost use Rattle.front_table.specs.Ends.{Ended, EndsBehind, EndsFrom, Falls, LinksBelow};
 ghost use Rattle.front_table.specs.Lattice.{links_at};
 ghost use Rattle.front_table.specs.Levels.{Gathered, ends_at, to_go_at};
 
@@ -144,12 +144,11 @@ fn append_all_behind(all: &mut Vec<End>, ends: &[End], area: u64, most: u64) -> 
 
 /// Appends the ends of a row at which one item more is taken, as seen from a row.
 fn gather_from(all: &mut Vec<End>, fronts: &Fronts<'_>, row: usize, to: usize) -> Result<(), Halt>
-    requires levels { row ≤ length fronts.now.levels.now }
     ensures kept { OnOk result ((a t : ℕ) → Ended all.old.items a t → Ended all.new.items a t) }
-    ensures new { OnOk result (to < row → Gathered fronts.now.rows.now fronts.now.levels.now row
-        fronts.now.cover all.new.items to) }
+    ensures new { OnOk result (to < length fronts.now.levels.now → Gathered fronts.now.rows.now
+        fronts.now.levels.now row fronts.now.cover all.new.items to) }
 {
-    if to >= row {
+    if to >= fronts.levels.len() {
         return Ok(());
     }
     let area = area_left(fronts.rows, row).saturating_sub(area_left(fronts.rows, to));
@@ -160,10 +159,9 @@ fn gather_from(all: &mut Vec<End>, fronts: &Fronts<'_>, row: usize, to: usize) -
 /// The ends of those rows at which one item more is taken, as seen from a row.
 fn gather_ends(alloc: Global, fronts: &Fronts<'_>, row: usize) -> Result<Vec<End>, Halt>
     requires row { row < length fronts.now.rows.now }
-    requires levels { row ≤ length fronts.now.levels.now }
     ensures { IfOk result (λ all. (to : ℕ) → Contains (links_at fronts.now.rows.now row) to
-        → to < row → Gathered fronts.now.rows.now fronts.now.levels.now row fronts.now.cover
-        all.items to) }
+        → to < length fronts.now.levels.now → Gathered fronts.now.rows.now fronts.now.levels.now
+        row fronts.now.cover all.items to) }
 {
     let mut all = Vec::new(alloc);
     for to in links_of(fronts.rows, row) {
@@ -185,12 +183,14 @@ fn staircase(alloc: Global, ends: &[End], shift: u32) -> Result<Vec<End>, Halt>
     Ok(stairs)
 }
 
-/// The ends of a row at which at least one item is taken, with no more area before them than a strip can have.
+/// The ends of a row from which items lead to the first rows alone, at which at least one item is taken, with no more
+/// area before them than a strip can have.
 pub fn ends_behind(alloc: Global, fronts: &Fronts<'_>, row: usize) -> Result<Vec<End>, Halt>
     requires row { row < length fronts.now.rows.now }
-    requires levels { row ≤ length fronts.now.levels.now }
-    requires ends { (n : ℕ) → n < row → EndsFrom fronts.now.instance.now fronts.now.rows.now
-        fronts.now.cover (to_go_at fronts.now.levels.now) n (ends_at fronts.now.levels.now n) }
+    requires below { LinksBelow fronts.now.rows.now row (length fronts.now.levels.now) }
+    requires ends { (n : ℕ) → n < length fronts.now.levels.now → EndsFrom fronts.now.instance.now
+        fronts.now.rows.now fronts.now.cover (to_go_at fronts.now.levels.now) n
+        (ends_at fronts.now.levels.now n) }
     ensures falls { IfOk result (λ stairs. Falls stairs.items) }
     ensures ends { IfOk result (λ stairs. EndsBehind fronts.now.instance.now fronts.now.rows.now
         fronts.now.cover (to_go_at fronts.now.levels.now) row stairs.items) }

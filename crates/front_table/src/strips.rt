@@ -2,18 +2,21 @@
 
 ghost use Rattle.std.specs.Prelude.{◌≡◌, ℕ, ◌+◌, ◌*◌, ◌-◌, ◌<◌, ◌≤◌, Contains, length, OnOk};
 ghost use Rattle.front_table.specs.declared.moves.Move.{Move as MoveOf};
-ghost use Rattle.front_table.specs.Levels.{bands_at};
+ghost use Rattle.front_table.specs.Ends.{Falls};
+ghost use Rattle.front_table.specs.Levels.{bands_at, ends_at};
+ghost use Rattle.front_table.specs.Packed.{unpacked_all};
 ghost use Rattle.front_table.specs.Pools.{HeldAt, Spreads};
 ghost use Rattle.front_table.specs.Sets.{Has};
-ghost use Rattle.front_table.specs.Tries.{BandTried, Extended, RowExtended, Searchable, Tried};
+ghost use Rattle.front_table.specs.Tries.{BandTried, Extended, ExtendedBy, RowExtended, Searchable, Tried};
+ghost use Rattle.front_table.specs.Widths.{Rises};
 
-use crate::ends::near;
+use crate::ends::{End, near};
 use crate::fronts::Fronts;
 use crate::halt::Halt;
 use crate::labels::FrontLabel;
-use crate::levels::{bands_of, ends_of, tails_of};
+use crate::levels::{RowFacts, bands_of, ends_of, tails_of};
 use crate::moves::Move;
-use crate::packed::{packed_width, unpacked_at};
+use crate::packed::{PackedBand, packed_width, unpacked_at};
 use crate::pools::LabelPool;
 use crate::rows::waste_left;
 use crate::sets::SizeSet;
@@ -89,28 +92,41 @@ fn try_band(
     Ok(())
 }
 
+/// A row as a search sees it.
+#[derive(Clone, Copy)]
+struct RowView<'a> {
+    row: usize,
+    /// Its bands lead below this row.
+    below: usize,
+    bands: &'a [PackedBand],
+    /// Where strips from it on can end.
+    ends: &'a [End],
+}
+
 /// A label of a row from which bands are tried, and how much they may leave beside and over their cells in the widest of the strips, in mm².
 #[derive(Clone, Copy)]
 struct Extension<'a> {
     search: &'a StripSearch<'a>,
-    row: usize,
+    view: RowView<'a>,
     label: &'a FrontLabel,
     slack: u64,
 }
 
 /// Goes on by a band, where it leads down and leaves no more than it may.
 fn try_move(pool: &mut LabelPool, extension: &Extension<'_>, band: &Move) -> Result<(), Halt>
-    requires pool { extension.now.row < length pool.old }
-    requires levels { extension.now.row < length extension.now.search.now.fronts.levels.now }
-    ensures spreads { OnOk result (Spreads extension.now.row pool.old pool.new) }
+    requires pool { extension.now.view.row < length pool.old }
+    requires below { extension.now.view.below ≤ extension.now.view.row }
+    requires levels { extension.now.view.below ≤ length extension.now.search.now.fronts.levels.now }
+    ensures spreads { OnOk result (Spreads extension.now.view.below pool.old pool.new) }
     ensures tried { OnOk result (BandTried extension.now.search.now.fronts.rows.now
         extension.now.search.now.fronts.levels.now extension.now.search.now.limits pool.new
-        extension.now.row extension.now.label.now extension.now.slack band.now) }
+        extension.now.view.row extension.now.view.below extension.now.label.now
+        extension.now.slack band.now) }
 {
     let search = extension.search;
-    let row = extension.row;
+    let row = extension.view.row;
     let to = band.to as usize;
-    if to >= row {
+    if to >= extension.view.below {
         return Ok(());
     }
     let high = band.label.along.least;
@@ -124,23 +140,23 @@ fn try_move(pool: &mut LabelPool, extension: &Extension<'_>, band: &Move) -> Res
 
 /// Goes on by each band that is no wider than the strips and leaves no more than it may.
 fn try_moves(pool: &mut LabelPool, extension: &Extension<'_>) -> Result<(), Halt>
-    requires pool { extension.now.row < length pool.old }
-    requires row { extension.now.row ≤ extension.now.search.now.start }
-    requires searchable { Searchable extension.now.search.now.fronts.rows.now
-        extension.now.search.now.fronts.levels.now extension.now.search.now.limits
-        extension.now.search.now.start }
-    ensures spreads { OnOk result (Spreads extension.now.row pool.old pool.new) }
+    requires pool { extension.now.view.row < length pool.old }
+    requires below { extension.now.view.below ≤ extension.now.view.row }
+    requires levels { extension.now.view.below ≤ length extension.now.search.now.fronts.levels.now }
+    requires rises { Rises (unpacked_all extension.now.view.bands.now) }
+    ensures spreads { OnOk result (Spreads extension.now.view.below pool.old pool.new) }
     ensures tried { OnOk result ((m : MoveOf)
-        → Contains (bands_at extension.now.search.now.fronts.levels.now extension.now.row) m
+        → Contains (unpacked_all extension.now.view.bands.now) m
         → m.label.across.least ≤ extension.now.search.now.limits.top
         → BandTried extension.now.search.now.fronts.rows.now
         extension.now.search.now.fronts.levels.now extension.now.search.now.limits pool.new
-        extension.now.row extension.now.label.now extension.now.slack m) }
+        extension.now.view.row extension.now.view.below extension.now.label.now
+        extension.now.slack m) }
 {
-    let search = extension.search;
-    let bands = bands_of(search.fronts.levels, extension.row);
+    let bands = extension.view.bands;
+    let top = extension.search.limits.top;
     for at in 0..bands.len() {
-        if packed_width(bands, at) > search.limits.top {
+        if packed_width(bands, at) > top {
             return Ok(());
         }
         let band = unpacked_at(bands, at);
@@ -153,23 +169,26 @@ fn try_moves(pool: &mut LabelPool, extension: &Extension<'_>) -> Result<(), Halt
 fn extend(
     pool: &mut LabelPool,
     search: &StripSearch<'_>,
-    row: usize,
+    view: &RowView<'_>,
     label: &FrontLabel,
 ) -> Result<(), Halt>
-    requires pool { row < length pool.old }
-    requires row { row ≤ search.now.start }
-    requires searchable { Searchable search.now.fronts.rows.now search.now.fronts.levels.now
-        search.now.limits search.now.start }
-    ensures spreads { OnOk result (Spreads row pool.old pool.new) }
+    requires pool { view.now.row < length pool.old }
+    requires below { view.now.below ≤ view.now.row }
+    requires levels { view.now.below ≤ length search.now.fronts.levels.now }
+    requires bound { search.now.limits.bound ≤ search.now.limits.top }
+    requires rises { Rises (unpacked_all view.now.bands.now) }
+    requires falls { Falls view.now.ends.now }
+    ensures spreads { OnOk result (Spreads view.now.below pool.old pool.new) }
     ensures extended { OnOk result (Extended search.now.fronts.rows.now
-        search.now.fronts.levels.now search.now.limits pool.new row label.now) }
+        search.now.fronts.levels.now search.now.limits pool.new view.now.row view.now.below
+        (unpacked_all view.now.bands.now) view.now.ends.now label.now) }
 {
     let limits = search.limits;
     if u64::from(label.across.least) > limits.most {
         return Ok(());
     }
     let within = limits.most - u64::from(label.across.least);
-    let Some(area) = near(ends_of(search.fronts.levels, row), within) else {
+    let Some(area) = near(view.ends, within) else {
         return Ok(());
     };
     let whole = glass_above(limits.top, limits.height, label.along.least);
@@ -178,7 +197,7 @@ fn extend(
     }
     let extension = Extension {
         search,
-        row,
+        view: *view,
         label,
         slack: whole - area,
     };
@@ -187,38 +206,57 @@ fn extend(
 }
 
 /// Goes on from each label of a row by each band.
-fn extend_row(pool: &mut LabelPool, search: &StripSearch<'_>, row: usize) -> Result<(), Halt>
-    requires pool { row < length pool.old }
-    requires row { row ≤ search.now.start }
-    requires searchable { Searchable search.now.fronts.rows.now search.now.fronts.levels.now
-        search.now.limits search.now.start }
-    ensures spreads { OnOk result (Spreads row pool.old pool.new) }
-    ensures extended { OnOk result (RowExtended search.now.fronts.rows.now
-        search.now.fronts.levels.now search.now.limits pool.new row) }
+fn extend_row(
+    pool: &mut LabelPool,
+    search: &StripSearch<'_>,
+    view: &RowView<'_>,
+) -> Result<(), Halt>
+    requires pool { view.now.row < length pool.old }
+    requires below { view.now.below ≤ view.now.row }
+    requires levels { view.now.below ≤ length search.now.fronts.levels.now }
+    requires bound { search.now.limits.bound ≤ search.now.limits.top }
+    requires rises { Rises (unpacked_all view.now.bands.now) }
+    requires falls { Falls view.now.ends.now }
+    ensures spreads { OnOk result (Spreads view.now.below pool.old pool.new) }
+    ensures extended { OnOk result (ExtendedBy search.now.fronts.rows.now
+        search.now.fronts.levels.now search.now.limits pool.new view.now.row view.now.below
+        (unpacked_all view.now.bands.now) view.now.ends.now) }
 {
-    for at in 0..pool.labels(row).len() {
-        let label = pool.label(row, at);
-        extend(pool, search, row, &label)?;
+    for at in 0..pool.labels(view.row).len() {
+        let label = pool.label(view.row, at);
+        extend(pool, search, view, &label)?;
     }
     Ok(())
 }
 
-/// All strips from a row on that are at least `low` wide and within the limits.
-pub fn strips_from(
-    pool: &mut LabelPool,
-    search: &StripSearch<'_>,
-    low: u32,
-    waste: u32,
-) -> Result<(), Halt>
-    requires pool { search.now.start < length pool.old }
-    requires searchable { Searchable search.now.fronts.rows.now search.now.fronts.levels.now
-        search.now.limits search.now.start }
+/// Goes on from each label of a row of which all is known by each band.
+fn extend_known(pool: &mut LabelPool, search: &StripSearch<'_>, row: usize) -> Result<(), Halt>
+    requires pool { row < length pool.old }
+    requires levels { row < length search.now.fronts.levels.now }
+    requires bound { search.now.limits.bound ≤ search.now.limits.top }
+    requires rises { Rises (bands_at search.now.fronts.levels.now row) }
+    requires falls { Falls (ends_at search.now.fronts.levels.now row) }
+    ensures spreads { OnOk result (Spreads row pool.old pool.new) }
+    ensures extended { OnOk result (RowExtended search.now.fronts.rows.now
+        search.now.fronts.levels.now search.now.limits pool.new row) }
+{
+    let levels = search.fronts.levels;
+    let view = RowView {
+        row,
+        below: row,
+        bands: bands_of(levels, row),
+        ends: ends_of(levels, row),
+    };
+    extend_row(pool, search, &view)?;
+    Ok(())
+}
+
+/// Begins with no band, at a row.
+fn begin(pool: &mut LabelPool, row: usize, low: u32, waste: u32) -> Result<(), Halt>
+    requires row { row < length pool.old }
     ensures len { OnOk result (length pool.new ≡ length pool.old) }
     ensures begun { OnOk result ((x w : ℕ) → Has (record { least = 0; more = waste }) x → low ≤ w
-        → HeldAt pool.new search.now.start x w) }
-    ensures extended { OnOk result ((n : ℕ) → n ≤ search.now.start
-        → RowExtended search.now.fronts.rows.now search.now.fronts.levels.now search.now.limits
-        pool.new n) }
+        → HeldAt pool.new row x w) }
 {
     pool.clear();
     let none = FrontLabel {
@@ -233,17 +271,113 @@ pub fn strips_from(
         right: 0,
         up: 0,
     };
-    let start = search.start;
-    // (it is the place of a row, so that one more is a number too)
-    prove!(start < search.fronts.levels.len());
-    pool.offer(start, &none)?;
-    for done in 0..start + 1 {
-        let row = start - done;
+    pool.offer(row, &none)
+}
+
+/// Goes on from each row below one that has labels.
+fn extend_below(pool: &mut LabelPool, search: &StripSearch<'_>, below: usize) -> Result<(), Halt>
+    requires pool { below ≤ length pool.old }
+    requires levels { below ≤ length search.now.fronts.levels.now }
+    requires bound { search.now.limits.bound ≤ search.now.limits.top }
+    requires rises { (n : ℕ) → n < below → Rises (bands_at search.now.fronts.levels.now n) }
+    requires falls { (n : ℕ) → n < below → Falls (ends_at search.now.fronts.levels.now n) }
+    ensures spreads { OnOk result (Spreads below pool.old pool.new) }
+    ensures extended { OnOk result ((n : ℕ) → n < below
+        → RowExtended search.now.fronts.rows.now search.now.fronts.levels.now search.now.limits
+        pool.new n) }
+{
+    for done in 0..below {
+        let row = below - 1 - done;
         let first = pool.low();
         if row < first {
             return Ok(());
         }
-        extend_row(pool, search, row)?;
+        extend_known(pool, search, row)?;
     }
     Ok(())
+}
+
+/// All strips from a row on that are at least `low` wide and within the limits, from what is seen of the row.
+fn strips_by(
+    pool: &mut LabelPool,
+    search: &StripSearch<'_>,
+    view: &RowView<'_>,
+    low: u32,
+) -> Result<(), Halt>
+    requires pool { view.now.row < length pool.old }
+    requires searchable { Searchable search.now.fronts.levels.now search.now.limits view.now.row
+        view.now.below (unpacked_all view.now.bands.now) view.now.ends.now }
+    ensures len { OnOk result (length pool.new ≡ length pool.old) }
+    ensures begun { OnOk result ((x w : ℕ)
+        → Has (record { least = 0; more = search.now.fronts.instance.now.params.waste }) x
+        → low ≤ w → HeldAt pool.new view.now.row x w) }
+    ensures own { OnOk result (ExtendedBy search.now.fronts.rows.now search.now.fronts.levels.now
+        search.now.limits pool.new view.now.row view.now.below (unpacked_all view.now.bands.now)
+        view.now.ends.now) }
+    ensures extended { OnOk result ((n : ℕ) → n < view.now.below
+        → RowExtended search.now.fronts.rows.now search.now.fronts.levels.now search.now.limits
+        pool.new n) }
+{
+    begin(pool, view.row, low, search.fronts.instance.params().waste)?;
+    extend_row(pool, search, view)?;
+    extend_below(pool, search, view.below)?;
+    Ok(())
+}
+
+/// All strips from a row on that are at least `low` wide and within the limits, where all is known of the row.
+pub fn strips_from(pool: &mut LabelPool, search: &StripSearch<'_>, low: u32) -> Result<(), Halt>
+    requires pool { search.now.start < length pool.old }
+    requires levels { search.now.start < length search.now.fronts.levels.now }
+    requires searchable { Searchable search.now.fronts.levels.now search.now.limits
+        search.now.start search.now.start (bands_at search.now.fronts.levels.now search.now.start)
+        (ends_at search.now.fronts.levels.now search.now.start) }
+    ensures len { OnOk result (length pool.new ≡ length pool.old) }
+    ensures begun { OnOk result ((x w : ℕ)
+        → Has (record { least = 0; more = search.now.fronts.instance.now.params.waste }) x
+        → low ≤ w → HeldAt pool.new search.now.start x w) }
+    ensures extended { OnOk result ((n : ℕ) → n ≤ search.now.start
+        → RowExtended search.now.fronts.rows.now search.now.fronts.levels.now search.now.limits
+        pool.new n) }
+{
+    let start = search.start;
+    let levels = search.fronts.levels;
+    let view = RowView {
+        row: start,
+        below: start,
+        bands: bands_of(levels, start),
+        ends: ends_of(levels, start),
+    };
+    strips_by(pool, search, &view, low)?;
+    Ok(())
+}
+
+/// The same where it is not known yet what is to go from the row, and its bands lead to those that are known alone.
+pub fn strips_behind(
+    pool: &mut LabelPool,
+    search: &StripSearch<'_>,
+    facts: &RowFacts,
+    low: u32,
+) -> Result<(), Halt>
+    requires pool { search.now.start < length pool.old }
+    requires searchable { Searchable search.now.fronts.levels.now search.now.limits
+        search.now.start (length search.now.fronts.levels.now) (unpacked_all facts.now.bands.items)
+        facts.now.ends.items }
+    ensures len { OnOk result (length pool.new ≡ length pool.old) }
+    ensures begun { OnOk result ((x w : ℕ)
+        → Has (record { least = 0; more = search.now.fronts.instance.now.params.waste }) x
+        → low ≤ w → HeldAt pool.new search.now.start x w) }
+    ensures own { OnOk result (ExtendedBy search.now.fronts.rows.now search.now.fronts.levels.now
+        search.now.limits pool.new search.now.start (length search.now.fronts.levels.now)
+        (unpacked_all facts.now.bands.items) facts.now.ends.items) }
+    ensures extended { OnOk result ((n : ℕ) → n < length search.now.fronts.levels.now
+        → RowExtended search.now.fronts.rows.now search.now.fronts.levels.now search.now.limits
+        pool.new n) }
+{
+    let view = RowView {
+        row: search.start,
+        below: search.fronts.levels.len(),
+        bands: facts.bands.as_slice(),
+        ends: facts.ends.as_slice(),
+    };
+    strips_by(pool, search, &view, low)
 }

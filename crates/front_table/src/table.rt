@@ -1,25 +1,20 @@
 //! The table of all rows: their bands, ends, and what is to go from each, from the last front on.
 
-ghost use Rattle.std.specs.Prelude.{◌≡◌, ℕ, ◌+◌, ◌*◌, ◌<◌, ◌≤◌, [], ◌∷◌, ◌++◌, length, map, slice_index_or, IfOk, OnOk};
-ghost use Rattle.front_table.specs.Levels.{to_go_at};
-ghost use Rattle.front_table.specs.Ready.{Built, IsClosed, IsOpen, IsTable, LeavesLeast};
+ghost use Rattle.std.specs.Prelude.{◌≡◌, ℕ, ◌+◌, ◌*◌, ◌<◌, ◌≤◌, All, length, IfOk, OnOk};
+ghost use Rattle.front_table.specs.declared.lanes.MadeRow.{MadeRow as MadeOf};
+ghost use Rattle.front_table.specs.Lanes.{InLanes, IsReady};
+ghost use Rattle.front_table.specs.Ready.{Built, IsKnown, IsLast, IsTable, SameLevel};
 
-use crate::bands::bands_from;
-use crate::behind::Behind;
 use crate::building::{rows_of, shape_of, tops_of};
-use crate::far::far_from;
 use crate::fronts::Fronts;
 use crate::halt::Halt;
+use crate::lanes::{FrontLevel, MadeRow, RowLane, labels_left, make_level, new_lanes, pop_made};
 use crate::lattice::is_lattice;
 use crate::levels::{RowFacts, push_level, to_go};
-use crate::packed::pack_all;
-use crate::pools::LabelPool;
 use crate::probe::Probe;
-use crate::rows::{FrontRow, links_of};
-use crate::stairs::{ends_behind, with_itself};
-use crate::tails::{all_tails, all_tails_behind, unit_of};
+use crate::rows::{FrontRow, links_lead_below};
 use glass_base::{Instance, Listener, News};
-use std::alloc::Global;
+use std::thread::Threads;
 
 /// All fronts, with what is known of them.
 #[derive(Drop)]
@@ -53,157 +48,130 @@ impl FrontTable {
     }
 }
 
-/// What leads on from the next row, and its ends, of which it is not known what is to go from it.
-fn open_level(
-    alloc: Global,
-    fronts: &Fronts<'_>,
-    pool: &mut LabelPool,
-    row: usize,
-) -> Result<RowFacts, Halt>
-    requires row { row ≡ length fronts.now.levels.now }
-    requires rows { row < length fronts.now.rows.now }
-    requires pool { length pool.old ≡ length fronts.now.rows.now }
-    requires built { Built fronts.now.instance.now fronts.now.rows.now fronts.now.tops.now
-        fronts.now.cover fronts.now.levels.now }
-    ensures len { OnOk result (length pool.new ≡ length pool.old) }
-    ensures open { IfOk result (IsOpen fronts.now.instance.now fronts.now.rows.now
-        fronts.now.tops.now fronts.now.cover (to_go_at fronts.now.levels.now) row) }
+/// The first row behind a level, which is of the rows that lead to those of which something is known alone.
+fn level_end(fronts: &Fronts<'_>) -> usize
+    ensures { result ≤ length fronts.now.rows.now }
 {
-    let bands = bands_from(alloc, fronts, pool, row)?;
-    let ends = ends_behind(alloc, fronts, row)?;
-    let unit = unit_of(fronts.instance.params().height);
-    let tails = all_tails_behind(alloc, fronts.levels, fronts.tops, bands.as_slice(), unit)?;
-    let packed = pack_all(alloc, bands.as_slice())?;
-    Ok(RowFacts {
-        bands: packed,
-        ends,
-        to_go: 0,
-        tails,
-    })
-}
-
-/// Says what is to go from the last row, and with that it is an end of its own.
-fn close_level(alloc: Global, levels: &mut Vec<RowFacts>, far: u64, cover: u64) -> Result<(), Halt>
-    ensures { OnOk result (IsClosed levels.old.items levels.new.items far) }
-{
-    let Some(last) = levels.pop() else {
-        return Err(Halt::Limit);
-    };
-    let ends = with_itself(alloc, last.ends.as_slice(), far, cover)?;
-    let tails = all_tails(alloc, last.tails.as_slice(), far)?;
-    let closed = RowFacts {
-        bands: last.bands,
-        ends,
-        to_go: far,
-        tails,
-    };
-    push_level(levels, closed)?;
-    Ok(())
-}
-
-/// The most that is to go from a row at which one item more is taken.
-fn base_of(fronts: &Fronts<'_>, row: usize) -> u64
-    requires { row < length fronts.now.rows.now }
-{
-    let mut base = 0;
-    for to in links_of(fronts.rows, row) {
-        if (*to as usize) < fronts.levels.len() {
-            base = to_go(fronts.levels, *to as usize).max(base);
+    let first = fronts.levels.len();
+    for row in first..fronts.rows.len() {
+        if !links_lead_below(fronts.rows, row, first) {
+            return row;
         }
     }
-    base
+    fronts.rows.len()
 }
 
-/// What is to go from a row at least; nothing from the first one, at which nothing is left.
-fn far_of(
-    behind: &Behind<'_>,
-    pool: &mut LabelPool,
-    base: u64,
-    hint: &mut usize,
-) -> Result<u64, Halt>
-    requires { behind.now.start < length pool.old }
-    ensures len { OnOk result (length pool.new ≡ length pool.old) }
-    ensures least { IfOk result
-        (LeavesLeast behind.now.fronts.instance.now behind.now.fronts.rows.now
-        (to_go_at behind.now.fronts.levels.now) behind.now.start) }
+/// Appends a row that was made.
+fn push_made(levels: &mut Vec<RowFacts>, made: MadeRow) -> Result<(), Halt>
+    ensures row { OnOk result (made.row ≡ length levels.old.items) }
+    ensures len { OnOk result (length levels.new.items ≡ length levels.old.items + 1) }
+    ensures same { OnOk result ((n : ℕ) → n < length levels.old.items
+        → SameLevel levels.old.items levels.new.items n) }
+    ensures new { OnOk result (IsLast levels.new.items (length levels.old.items) made.facts) }
 {
-    if behind.start == 0 {
-        return Ok(0);
+    if made.row != levels.len() {
+        return Err(Halt::Limit);
     }
-    far_from(behind, pool, base, hint)
+    push_level(levels, made.facts)
 }
 
-/// Adds the next row to those of which all is known.
-fn add_level(
-    alloc: Global,
+/// Appends the rows of a level that lanes have made.
+fn push_level_of(
     fronts: &Fronts<'_>,
     levels: &mut Vec<RowFacts>,
-    pool: &mut LabelPool,
-    hint: &mut usize,
+    lanes: &mut [RowLane],
+    end: usize,
 ) -> Result<(), Halt>
-    requires rows { length levels.old.items < length fronts.now.rows.now }
-    requires pool { length pool.old ≡ length fronts.now.rows.now }
+    requires some { 1 ≤ length lanes.old }
+    requires made { (m : MadeOf) → InLanes lanes.old m → IsKnown fronts.now.instance.now
+        fronts.now.rows.now fronts.now.tops.now fronts.now.cover levels.old.items m.row m.facts }
     requires built { Built fronts.now.instance.now fronts.now.rows.now fronts.now.tops.now
         fronts.now.cover levels.old.items }
-    ensures len { OnOk result (length pool.new ≡ length pool.old) }
-    ensures more { OnOk result (length levels.new.items ≡ length levels.old.items + 1) }
+    ensures len { OnOk result (length lanes.new ≡ length lanes.old) }
+    ensures ready { OnOk result ((rows : ℕ) → All (IsReady rows) lanes.old
+        → All (IsReady rows) lanes.new) }
     ensures built { OnOk result (Built fronts.now.instance.now fronts.now.rows.now
         fronts.now.tops.now fronts.now.cover levels.new.items) }
 {
-    let row = levels.len();
-    let closed = Fronts {
+    let first = levels.len();
+    for at in 0..end.saturating_sub(first) {
+        let Some(made) = pop_made(lanes, at % lanes.len()) else {
+            return Err(Halt::Limit);
+        };
+        push_made(levels, made)?;
+    }
+    Ok(())
+}
+
+/// Adds the rows of the next level to those of which all is known, and gives how many labels may still be offered.
+fn add_level<R: Threads + Sync, L>(
+    probe: &Probe<'_, R, L>,
+    fronts: &Fronts<'_>,
+    levels: &mut Vec<RowFacts>,
+    lanes: &mut [RowLane],
+    labels: u64,
+) -> Result<u64, Halt>
+    requires some { 1 ≤ length lanes.old }
+    requires ready { All (IsReady (length fronts.now.rows.now)) lanes.old }
+    requires built { Built fronts.now.instance.now fronts.now.rows.now fronts.now.tops.now
+        fronts.now.cover levels.old.items }
+    ensures len { OnOk result (length lanes.new ≡ length lanes.old) }
+    ensures ready { OnOk result (All (IsReady (length fronts.now.rows.now)) lanes.new) }
+    ensures built { OnOk result (Built fronts.now.instance.now fronts.now.rows.now
+        fronts.now.tops.now fronts.now.cover levels.new.items) }
+{
+    let known = Fronts {
         instance: fronts.instance,
         rows: fronts.rows,
         tops: fronts.tops,
         levels: levels.as_slice(),
         cover: fronts.cover,
     };
-    let base = base_of(&closed, row);
-    let open = open_level(alloc, &closed, pool, row)?;
-    push_level(levels, open)?;
-    let behind = Behind {
-        fronts: Fronts {
-            instance: fronts.instance,
-            rows: fronts.rows,
-            tops: fronts.tops,
-            levels: levels.as_slice(),
-            cover: fronts.cover,
-        },
-        start: row,
+    let end = level_end(&known);
+    let level = FrontLevel {
+        alloc: probe.alloc,
+        fronts: known,
+        end,
+        lanes: lanes.len(),
+        labels,
     };
-    let far = far_of(&behind, pool, base, hint)?;
-    close_level(alloc, levels, far, fronts.cover)?;
-    Ok(())
+    make_level(probe.rt, &level, lanes);
+    let left = labels_left(lanes, labels)?;
+    push_level_of(fronts, levels, lanes, end)?;
+    Ok(left)
 }
 
 /// What is known of all rows.
-fn levels_of<L: Listener>(
-    alloc: Global,
+fn levels_of<R: Threads + Sync, L: Listener>(
+    probe: &Probe<'_, R, L>,
     fronts: &Fronts<'_>,
-    pool: &mut LabelPool,
-    listener: &L,
 ) -> Result<Vec<RowFacts>, Halt>
-    requires { length pool.old ≡ length fronts.now.rows.now }
-    ensures pool { OnOk result (length pool.new ≡ length pool.old) }
     ensures len { IfOk result (λ levels. length levels.items ≡ length fronts.now.rows.now) }
     ensures built { IfOk result (λ levels. Built fronts.now.instance.now fronts.now.rows.now
         fronts.now.tops.now fronts.now.cover levels.items) }
 {
-    let mut levels = Vec::new(alloc);
-    let mut hint = 0;
-    let rows = fronts.rows;
-    for done in 0..rows.len() {
-        listener.hear(News::Fronts {
-            done,
-            all: rows.len(),
+    let all = fronts.rows.len();
+    let mut lanes = new_lanes(probe.alloc, all, probe.threads)?;
+    let mut levels = Vec::new(probe.alloc);
+    let mut labels = probe.limit;
+    for _ in 0..all {
+        if levels.len() == all {
+            return Ok(levels);
+        }
+        probe.listener.hear(News::Fronts {
+            done: levels.len(),
+            all,
         });
-        add_level(alloc, fronts, &mut levels, pool, &mut hint)?;
+        labels = add_level(probe, fronts, &mut levels, lanes.as_mut_slice(), labels)?;
+    }
+    if levels.len() != all {
+        return Err(Halt::Limit);
     }
     Ok(levels)
 }
 
 /// All fronts of an instance, with what is known of them, where they count for no more than the limit.
-pub fn table_of<L: Listener>(probe: &Probe<'_, L>) -> Result<FrontTable, Halt>
+pub fn table_of<R: Threads + Sync, L: Listener>(probe: &Probe<'_, R, L>) -> Result<FrontTable, Halt>
     ensures { IfOk result (IsTable probe.now.instance.now) }
 {
     let alloc = probe.alloc;
@@ -216,7 +184,6 @@ pub fn table_of<L: Listener>(probe: &Probe<'_, L>) -> Result<FrontTable, Halt>
     let params = instance.params();
     let tops = tops_of(alloc, params)?;
     let cover = u64::from(params.max1) * u64::from(params.height);
-    let mut pool = LabelPool::new(alloc, rows.len(), probe.limit)?;
     let unknown = Fronts {
         instance,
         rows: rows.as_slice(),
@@ -224,7 +191,7 @@ pub fn table_of<L: Listener>(probe: &Probe<'_, L>) -> Result<FrontTable, Halt>
         levels: &[],
         cover,
     };
-    let levels = levels_of(alloc, &unknown, &mut pool, probe.listener)?;
+    let levels = levels_of(probe, &unknown)?;
     if levels.is_empty() || to_go(levels.as_slice(), 0) != 0 {
         return Err(Halt::Limit);
     }

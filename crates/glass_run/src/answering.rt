@@ -11,13 +11,14 @@ ghost use Rattle.run_frame.specs.Forms.{OnTold, answer_in, texts_in};
 use box_workers::Gate;
 use command_line::{CommandLine, Count, Lead, Verb};
 use defect_map::Ground;
-use front_bound::losses::FrontSearch;
+use front_bound::front_search::FrontSearch;
 use glass_base::{Instance, Memory, Role, Run};
 use glass_gen::generate;
 use run_checks::{convert_texts, verify_from};
 use run_frame::{Reply, Stop, Text, reply_at, reply_with, text_of_role, text_or_empty};
 use run_plans::{Grounded, draft_instance, instance_of, judge_text, replay_text, sheet_text};
 use std::alloc::Global;
+use std::thread::Threads;
 
 /// What a command comes to without a search.
 #[derive(Drop)]
@@ -40,7 +41,8 @@ pub(crate) fn searches(verb: Verb) -> bool
 
 /// The reply of a command that does not search for a plan to the instance that its texts say. How far a search over
 /// fronts is that shows a floor, is told to the gate.
-fn reply_at_once<G: Gate>(
+fn reply_at_once<R: Threads + Sync, G: Gate>(
+    rt: &R,
     alloc: Global,
     line: &CommandLine<'_>,
     texts: &[Text],
@@ -54,6 +56,8 @@ fn reply_at_once<G: Gate>(
 {
     let search = FrontSearch {
         labels: u64::from(line.count(Count::FrontsLimit)),
+        rt,
+        threads: line.count(Count::Checkers),
         listener: gate,
     };
     match line.verb {
@@ -133,7 +137,8 @@ fn instance_for(alloc: Global, line: &CommandLine<'_>, texts: &[Text]) -> Result
 }
 
 /// What a command comes to with its texts, as far as that takes no search.
-pub(crate) fn asked_of_texts<G: Gate>(
+pub(crate) fn asked_of_texts<R: Threads + Sync, G: Gate>(
+    rt: &R,
     alloc: Global,
     line: &CommandLine<'_>,
     texts: Run<Text>,
@@ -151,6 +156,6 @@ pub(crate) fn asked_of_texts<G: Gate>(
     if searches(line.verb) {
         return Ok(Asked::Search { grounded, texts });
     }
-    let reply = reply_at_once(alloc, line, texts.as_slice(), grounded.ground(), gate)?;
+    let reply = reply_at_once(rt, alloc, line, texts.as_slice(), grounded.ground(), gate)?;
     Ok(Asked::Reply(reply))
 }

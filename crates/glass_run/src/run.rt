@@ -65,7 +65,8 @@ fn reply_by_search<R: Threads + Wait + Sync, G: Gate + Sync>(
 }
 
 /// What a command line comes to with what stands under the names of its files, as far as that takes no search.
-fn asked_of_files<F: Files, G: Gate>(
+fn asked_of_files<R: Threads + Sync, F: Files, G: Gate>(
+    rt: &R,
     alloc: Global,
     files: &mut F,
     line: &CommandLine<'_>,
@@ -82,7 +83,7 @@ fn asked_of_files<F: Files, G: Gate>(
     ensures keeps { F.reliable files.old → F.reliable files.new × IfErr result (OnFault (λ _. ⊥)) }
 {
     match fetch_files(alloc, files, line)? {
-        Ok(texts) => Ok(asked_of_texts(alloc, line, texts, gate)?),
+        Ok(texts) => Ok(asked_of_texts(rt, alloc, line, texts, gate)?),
         Err(notice) => Ok(Asked::Reply(reply_with(alloc, notice))),
     }
 }
@@ -125,7 +126,7 @@ fn reply_of<R: Threads + Wait + Sync, F: Files, G: Gate + Sync>(
     ensures faults { CountsFetches (F.shelf files.old) (F.shelf files.new) result }
     ensures keeps { F.reliable files.old → F.reliable files.new × IfErr result (OnFault (λ _. ⊥)) }
 {
-    let asked = asked_of_files(alloc, files, line, gate)?;
+    let asked = asked_of_files(rt, alloc, files, line, gate)?;
     Ok(reply_to_asked(rt, alloc, line, asked, gate)?)
 }
 
@@ -169,7 +170,8 @@ fn run_line<R: Threads + Wait + Sync, F: Files, S: Sink, G: Gate + Sync>(
 /// say, or as the file of `--plates=FILE` says of it. All is computed before anything is stored, and a run writes
 /// once at the most. A refusal stores nothing and prints its one line.
 ///
-/// Only the commands that search, `plan`, `gen`, `resume` and `freeze`, start threads and may wait for them.
+/// Only the commands that search, `plan`, `gen`, `resume` and `freeze`, and those that check a certificate, `verify`
+/// and `convert`, start threads and may wait for them.
 pub fn glass<R: Threads + Wait + Sync, F: Files, S: Sink, G: Gate + Sync>(
     rt: &R,
     alloc: Global,

@@ -19,7 +19,7 @@ use cert_log::{BadCert, Certificate, read_cert, write_cert};
 use command_line::Product;
 use cut_model::Plan;
 use defect_map::Ground;
-use front_bound::losses::FrontSearch;
+use front_bound::front_search::FrontSearch;
 use glass_base::{Instance, Listener, Memory, Role, Run};
 use loss_area::loss;
 use run_frame::{
@@ -28,6 +28,7 @@ use run_frame::{
 };
 use run_plans::{lawful, read_plan_of};
 use std::alloc::Global;
+use std::thread::Threads;
 
 /// The refusal of a text that is no certificate, none where memory ran out.
 fn cert_refusal(reason: BadCert) -> Option<Refusal>
@@ -144,12 +145,12 @@ fn loss_of_plan(instance: &Instance, plan: &Option<Plan>) -> Option<u64>
 }
 
 /// Goes on where a certificate is right for the box of all plans and for this loss.
-pub(crate) fn check_cert_in<L: Listener>(
+pub(crate) fn check_cert_in<R: Threads + Sync, L: Listener>(
     alloc: Global,
     ground: Ground<'_>,
     loss: Option<u64>,
     certificate: &Certificate,
-    search: &FrontSearch<'_, L>,
+    search: &FrontSearch<'_, R, L>,
 ) -> Result<(), Stop>
     requires tree { IsTree certificate.now.nodes.items }
     requires version { HasVersion certificate.now }
@@ -180,12 +181,12 @@ pub struct Checked {
 /// The certificate that a text says, where it is right for the loss of the plan that another one says, and this is
 /// lawful, with this plan; or what is told of the first that fails: the text of the plan, that of the certificate, the
 /// plan, the certificate. Its floor is shown by this search over fronts.
-pub fn accepted_texts<L: Listener>(
+pub fn accepted_texts<R: Threads + Sync, L: Listener>(
     alloc: Global,
     ground: Ground<'_>,
     plan_text: Option<&[u8]>,
     cert_text: &[u8],
-    search: &FrontSearch<'_, L>,
+    search: &FrontSearch<'_, R, L>,
 ) -> Result<Checked, Stop>
     ensures accepted { let b = ground.entry.instance.now in
         MatchResult result (λ a. IsAccepted b
@@ -204,12 +205,12 @@ pub fn accepted_texts<L: Listener>(
 }
 
 /// The reply to the texts of a plan, or none, and of a certificate: its bound and its number of open boxes, or a refusal.
-pub(crate) fn verify_texts<L: Listener>(
+pub(crate) fn verify_texts<R: Threads + Sync, L: Listener>(
     alloc: Global,
     ground: Ground<'_>,
     plan_text: Option<&[u8]>,
     cert_text: &[u8],
-    search: &FrontSearch<'_, L>,
+    search: &FrontSearch<'_, R, L>,
 ) -> Result<Reply, Memory>
     ensures { IfOk result (λ r. (name : Product → List ℕ)
         → Verifies ground.entry.instance.now (option_map (λ bytes. bytes.now) plan_text.entry)
@@ -272,12 +273,12 @@ fn convert(alloc: Global, ground: Ground<'_>, certificate: &Certificate) -> Resu
 
 /// The reply to the texts of a plan, or none, and of a certificate: the certificate is stored with its causes named, or
 /// refused as by [`verify_texts`], or where what comes could not be read again.
-pub fn convert_texts<L: Listener>(
+pub fn convert_texts<R: Threads + Sync, L: Listener>(
     alloc: Global,
     ground: Ground<'_>,
     plan_text: Option<&[u8]>,
     cert_text: &[u8],
-    search: &FrontSearch<'_, L>,
+    search: &FrontSearch<'_, R, L>,
 ) -> Result<Reply, Memory>
     ensures { IfOk result (λ r. (name : Product → List ℕ)
         → Converts ground.entry.instance.now (option_map (λ bytes. bytes.now) plan_text.entry)

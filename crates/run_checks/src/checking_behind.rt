@@ -17,13 +17,14 @@ use cert_log::Certificate;
 use command_line::Product;
 use cut_model::{Plan, plates_used};
 use defect_map::Ground;
-use front_bound::losses::FrontSearch;
+use front_bound::front_search::FrontSearch;
 use glass_base::{Listener, Memory, Role};
 use loss_area::loss;
 use plan_freeze::{frozen_loss, rest};
 use run_frame::{Notice, Reply, Status, Stop, numbered, reply_at, reply_with, stop_at};
 use run_plans::{Grounded, lawful, read_plan_of};
 use std::alloc::Global;
+use std::thread::Threads;
 
 /// What is told of a plan that has no more than `k` plates.
 fn stop_at_last(alloc: Global, plan: &Plan, k: u32) -> Stop
@@ -48,13 +49,13 @@ pub fn leaves_some(alloc: Global, plan: &Plan, k: u32) -> Result<(), Stop>
 }
 
 /// Goes on where a certificate is right for the instance that is left behind the first `k` plates, and for what the plan loses there.
-fn check_behind<L: Listener>(
+fn check_behind<R: Threads + Sync, L: Listener>(
     alloc: Global,
     ground: Ground<'_>,
     plan: &Plan,
     k: u32,
     certificate: &Certificate,
-    search: &FrontSearch<'_, L>,
+    search: &FrontSearch<'_, R, L>,
 ) -> Result<(), Stop>
     requires fits { Fits (tree plan.now) }
     requires lawful { IsLawful ground.instance.now (tree plan.now) }
@@ -81,13 +82,13 @@ struct CheckedBehind {
 /// The certificate that a text says, where it is right behind the first `k` plates of the plan that another one says, and this is lawful and has
 /// more of them, with this plan; or what is told of the first that fails: the text of the plan, that of the certificate, the plan, its number of
 /// plates, the certificate.
-fn accepted_behind<L: Listener>(
+fn accepted_behind<R: Threads + Sync, L: Listener>(
     alloc: Global,
     ground: Ground<'_>,
     plan_text: &[u8],
     cert_text: &[u8],
     k: u32,
-    search: &FrontSearch<'_, L>,
+    search: &FrontSearch<'_, R, L>,
 ) -> Result<CheckedBehind, Stop>
     ensures accepted { let b = ground.entry.instance.now in
         MatchResult result (λ a. IsAcceptedBehindFor b k plan_text.now cert_text.now
@@ -127,13 +128,13 @@ fn accepted_with(alloc: Global, certificate: &Certificate, more: u64) -> Result<
 
 /// The reply to the texts of a plan, of which the first `k` plates are cut already, and of a certificate: the bound with what
 /// these plates lose, and the number of open boxes, or a refusal.
-fn verify_behind<L: Listener>(
+fn verify_behind<R: Threads + Sync, L: Listener>(
     alloc: Global,
     ground: Ground<'_>,
     plan_text: &[u8],
     cert_text: &[u8],
     k: u32,
-    search: &FrontSearch<'_, L>,
+    search: &FrontSearch<'_, R, L>,
 ) -> Result<Reply, Memory>
     ensures { IfOk result (λ r. (name : Product → List ℕ)
         → VerifiesBehind ground.entry.instance.now k plan_text.now cert_text.now
@@ -163,13 +164,13 @@ fn or_empty(text: Option<&[u8]>) -> &[u8]
 
 /// The reply to the texts of a plan, or none, and of a certificate: its bound and its number of open boxes, or a refusal. The
 /// first `k` plates of the plan are cut already.
-pub fn verify_from<L: Listener>(
+pub fn verify_from<R: Threads + Sync, L: Listener>(
     alloc: Global,
     ground: Ground<'_>,
     plan_text: Option<&[u8]>,
     cert_text: &[u8],
     k: u32,
-    search: &FrontSearch<'_, L>,
+    search: &FrontSearch<'_, R, L>,
 ) -> Result<Reply, Memory>
     ensures { IfOk result (λ r. (name : Product → List ℕ)
         → VerifiesFrom k ground.entry.instance.now (option_map

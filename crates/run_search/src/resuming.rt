@@ -30,7 +30,7 @@ use command_line::Product;
 use cut_model::Plan;
 use defect_map::Ground;
 use first_plan::Start;
-use front_bound::losses::FrontSearch;
+use front_bound::front_search::FrontSearch;
 use glass_base::limits::MOST_CERT_BYTES;
 use glass_base::{Instance, Memory, Role, Run};
 use plan_box::PlanBox;
@@ -187,6 +187,8 @@ fn resume_within<R: Threads + Wait + Sync, G: Gate + Sync>(
 {
     let search = FrontSearch {
         labels: workforce.options.labels,
+        rt: workforce.rt,
+        threads: workforce.options.workers,
         listener: workforce.gate,
     };
     let checked = accepted_texts(alloc, ground, plan_text, cert_text, &search)?;

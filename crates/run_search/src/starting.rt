@@ -14,7 +14,7 @@ use box_workers::Gate;
 use cut_model::{Plan, Trace};
 use defect_map::Ground;
 use first_plan::{Effort, Start, Team, better_first, first_plan, improve, start_by_fronts};
-use front_bound::losses::FrontSearch;
+use front_bound::front_search::FrontSearch;
 use glass_base::{Instance, Memory};
 use plan_trace::trace_of;
 use std::alloc::Global;
@@ -43,7 +43,7 @@ pub(crate) fn first_trace(
 }
 
 /// The better of the first plan and one that is known, if there is one, and where fronts are asked, what they show.
-fn begun<R, G: Gate>(
+fn begun<R: Threads + Sync, G: Gate>(
     alloc: Global,
     workforce: &Workforce<'_, R, G>,
     ground: Ground<'_>,
@@ -62,6 +62,8 @@ fn begun<R, G: Gate>(
     if workforce.options.fronts {
         let search = FrontSearch {
             labels: workforce.options.labels,
+            rt: workforce.rt,
+            threads: workforce.options.workers,
             listener: workforce.gate,
         };
         return start_by_fronts(alloc, ground, known, &search);

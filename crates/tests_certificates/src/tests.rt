@@ -3,11 +3,12 @@ ghost use Rattle.std.specs.Prelude.{◌≡◌};
 use cert_check::{Verdict, Why, check_cert};
 use cert_log::{BadCert, read_cert};
 use defect_map::DefectMap;
-use front_bound::losses::FrontSearch;
+use front_bound::front_search::FrontSearch;
 use glass_base::{Instance, Item, Memory, Nobody, Params, Run, append};
 use plan_box::Var;
 use std::alloc::Global;
 use std::test::Fail;
+use std::thread::Threads;
 
 /// The instance of one item of 500 by 300, on plates without defects. Its best plan loses 813,000 mm².
 fn instance(alloc: Global) -> Result<Instance, Fail> {
@@ -26,7 +27,8 @@ fn instance(alloc: Global) -> Result<Instance, Fail> {
 }
 
 /// What a check answers to a text, where the best plan that is known loses 813,000 mm²; or how the text is refused.
-fn answer(
+fn answer<R: Threads + Sync>(
+    rt: &R,
     alloc: Global,
     instance: &Instance,
     map: &DefectMap,
@@ -43,6 +45,8 @@ fn answer(
             &cert,
             &FrontSearch {
                 labels: 1_000_000,
+                rt,
+                threads: 1,
                 listener: &Nobody,
             },
         )?)),
@@ -165,11 +169,15 @@ const TEXTS: [(&str, Result<Verdict, BadCert>); 20] = [
 ];
 
 /// The number of texts that are answered as they should be.
-fn right_answers(alloc: Global, instance: &Instance) -> Result<usize, Memory> {
+fn right_answers<R: Threads + Sync>(
+    rt: &R,
+    alloc: Global,
+    instance: &Instance,
+) -> Result<usize, Memory> {
     let map = DefectMap::new(alloc, instance)?;
     let mut right = 0usize;
     for (text, wanted) in TEXTS {
-        if answer(alloc, instance, &map, text)? == wanted {
+        if answer(rt, alloc, instance, &map, text)? == wanted {
             right = right.saturating_add(1);
         }
     }
@@ -179,6 +187,10 @@ fn right_answers(alloc: Global, instance: &Instance) -> Result<usize, Memory> {
 #[test]
 fn certificates_are_read_and_checked(rt: HostRuntime) -> Result<(), Fail> {
     let instance = instance(rt.alloc())?;
-    assert_eq!(rt; right_answers(rt.alloc(), &instance)?, 20, "certificates");
+    assert_eq!(rt;
+        right_answers(&rt, rt.alloc(), &instance)?,
+        20,
+        "certificates"
+    );
     Ok(())
 }

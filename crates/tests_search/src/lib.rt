@@ -10,6 +10,8 @@ mod counts;
 #[cfg(test)]
 mod efforts;
 #[cfg(test)]
+mod fronts;
+#[cfg(test)]
 mod passes;
 #[cfg(test)]
 mod searched;

@@ -4,11 +4,11 @@ use Rattle.glass_base.specs.declared.params.Params.{Params}
 use Rattle.front_bound.specs.inner.Clear.{AreHoles}
 use Rattle.front_table.specs.Levels.{to_go_at}
 use Rattle.front_bound.proofs.PlacedRuns.{placed_goes_on}
-use Rattle.front_bound.proofs.SideLemmas.{built_ready, built_tails, class_none, true_false}
+use Rattle.front_bound.proofs.SideLemmas.{built_ready, class_none, true_false}
 use Rattle.front_table.proofs.FrontRows.{lead_down}
 use Rattle.front_table.proofs.Known.{down_known, fronts_built}
 use Rattle.front_bound.proofs.KnownSides.{class_known}
-use Rattle.front_table.proofs.Leasts.{fits}
+use Rattle.front_table.proofs.Leasts.{built_tails, fits}
 use Rattle.front_bound.proofs.nearby.place_begin.Goals as goal
 
 pub returns-then-not-has-clause-goes_on : goal.returns-then-not-has-clause-goes_on
@@ -39,7 +39,7 @@ returns-clause-goes_on c = λ _.
     let holes = c.in_ok-holes_of-2.ensures in
     class_known b fronts.rows.now (to_go_at fronts.levels.now) most c.offer_placed_ends.new.sides row (c.args.begin.now ∷ []) class.plate class.low class.limits.top class.room class.limits.most (∥∥₁_map c.args.outset.now.built (λ are.
     placed_goes_on b _ are.lattice fronts.cover (fits b _ fronts.cover c.requires.class.height (omega (arith, c.min-bound.ensures, c.requires.class.narrow)) are.enough) (to_go_at fronts.levels.now) row
-    (built_ready b fronts.rows.now fronts.tops.now fronts.cover fronts.levels.now are.built row (omega (arith, c.args.outset.now.inside, are.len)))
+    (built_ready b fronts.rows.now are.lattice fronts.tops.now fronts.cover fronts.levels.now are.built row (omega (arith, c.args.outset.now.inside, are.len)))
     (built_tails b fronts.rows.now fronts.tops.now fronts.cover fronts.levels.now are.built row (omega (arith, c.args.outset.now.inside, are.len)) class.limits.class _ c.requires.class.class (omega (arith, c.min-bound.ensures, c.requires.class.bound, c.requires.class.top))) class.plate c.placed_from.new.pool
     (record {
       are = subst (λ l. AreHoles b class.plate l) (sym c.as_slice.ensures.value) holes;

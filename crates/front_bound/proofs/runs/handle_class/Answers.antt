@@ -1,13 +1,11 @@
-use Rattle.std.proofs.Common.{◌≡◌, ◌+◌, ◌≤◌, ◌⊎◌, sym, subst, ◌∙◌, arith}
+use Rattle.std.proofs.Common.{subst, arith}
 use Rattle.std.proofs.Math.Logic.{∥∥₁_map}
-use Rattle.std.proofs.lemmas.List.{get_or_default}
-use Rattle.glass_base.specs.declared.params.Params.{Params}
 use Rattle.front_table.specs.Levels.{to_go_at}
 use Rattle.front_bound.specs.Sides.{ClassGoesOn}
-use Rattle.front_table.proofs.Leasts.{fits}
+use Rattle.front_table.proofs.Leasts.{built_tails, fits}
 use Rattle.front_table.proofs.Known.{fronts_built}
 use Rattle.front_bound.proofs.KnownSides.{class_known}
-use Rattle.front_bound.proofs.SideLemmas.{built_searchable, built_ready, built_tails, class_goes_on, class_whole, class_empty, class_narrow, none_left}
+use Rattle.front_bound.proofs.SideLemmas.{built_searchable, built_ready, class_goes_on, class_whole, class_empty, class_narrow, none_left}
 use Rattle.front_table.proofs.PoolRows.{spreads_same}
 use Rattle.front_bound.proofs.runs.handle_class.Goals as goal
 
@@ -47,7 +45,7 @@ returns-clause-goes_on c =
     (subst (λ l. ClassGoesOn b rows (to_go_at levels) most c.offer_ends.new.sides row l class.plate class.low class.limits.top class.room class.limits.most) c.as_slice-clear.ensures.value
     (class_known b rows (to_go_at levels) most c.offer_ends.new.sides row c.as_slice-clear.result.now class.plate class.low class.limits.top class.room class.limits.most (∥∥₁_map c.args.outset.now.built (λ are.
     class_goes_on b rows are.lattice levels class.limits fronts.cover (fits b class.limits fronts.cover c.requires.class.height c.requires.class.narrow are.enough) row
-    (built_ready b rows fronts.tops.now fronts.cover levels are.built row (omega (arith, c.args.outset.now.inside, are.len)))
+    (built_ready b rows are.lattice fronts.tops.now fronts.cover levels are.built row (omega (arith, c.args.outset.now.inside, are.len)))
     (built_tails b rows fronts.tops.now fronts.cover levels are.built row (omega (arith, c.args.outset.now.inside, are.len)) class.limits.class class.limits.bound c.requires.class.class (omega (arith, c.requires.class.bound, c.requires.class.top))) c.strips_from.new.pool c.in_ok-strips_from.ensures.extended class.low
-    (λ x w none wide. c.in_ok-strips_from.ensures.begun x w (subst (λ (p : Params). (x ≡ 0) ⊎ (0 + p.waste ≤ x)) (sym c.params.ensures.value) none) wide) most c.offer_ends.new.sides c.as_slice-clear.result.now class.plate class.limits.top class.room
+    c.in_ok-strips_from.ensures.begun most c.offer_ends.new.sides c.as_slice-clear.result.now class.plate class.limits.top class.room
     c.requires.class.fits c.in_ok-offer_ends.ensures.held))))

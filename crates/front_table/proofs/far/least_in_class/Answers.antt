@@ -1,17 +1,16 @@
 use Rattle.std.proofs.Common.{get_or, ap, arith}
-use Rattle.std.proofs.lemmas.List.{get_or_default}
 use Rattle.glass_base.specs.declared.params.Params.{Params}
 use Rattle.front_table.specs.Levels.{to_go_at}
 use Rattle.front_table.proofs.Known.{opened_known}
-use Rattle.front_table.proofs.Leasts.{opened_searchable, opened_tails, class_beyond, fits, least_wider}
+use Rattle.front_table.proofs.Leasts.{opened_searchable, built_tails, fits, least_wider}
 use Rattle.front_table.proofs.far.least_in_class.Goals as goal
 
 pub least_of_class-requires-clause-searchable : goal.least_of_class-requires-clause-searchable
 least_of_class-requires-clause-searchable c =
-    let b = c.args.behind.now.fronts.instance.now in
-    let fronts = c.args.behind.now.fronts in
-    let start = c.args.behind.now.start in
-    opened_searchable b fronts.rows.now fronts.tops.now fronts.cover fronts.levels.now start (opened_known b fronts.rows.now fronts.tops.now fronts.cover fronts.levels.now start c.args.behind.now.opened) _ (omega (arith, c.min.ensures))
+    let behind = c.args.behind.now in
+    let fronts = behind.fronts in
+    opened_searchable fronts.instance.now fronts.rows.now fronts.tops.now fronts.cover fronts.levels.now behind.start behind.facts.now (opened_known fronts.instance.now fronts.rows.now fronts.tops.now fronts.cover fronts.levels.now behind.start behind.facts.now behind.opened) _
+    (omega (arith, c.min.ensures))
 
 pub least_of_class-requires-clause-fitting : goal.least_of_class-requires-clause-fitting
 least_of_class-requires-clause-fitting c =
@@ -19,11 +18,10 @@ least_of_class-requires-clause-fitting c =
 
 pub least_of_class-requires-clause-tails : goal.least_of_class-requires-clause-tails
 least_of_class-requires-clause-tails c =
-    let b = c.args.behind.now.fronts.instance.now in
-    let fronts = c.args.behind.now.fronts in
-    let start = c.args.behind.now.start in
-    opened_tails b fronts.rows.now fronts.tops.now fronts.cover fronts.levels.now start (opened_known b fronts.rows.now fronts.tops.now fronts.cover fronts.levels.now start c.args.behind.now.opened) c.args.class c.min.result c.requires.class
-    (omega (arith, c.min.ensures))
+    let behind = c.args.behind.now in
+    let fronts = behind.fronts in
+    built_tails fronts.instance.now fronts.rows.now fronts.tops.now fronts.cover fronts.levels.now
+    (opened_known fronts.instance.now fronts.rows.now fronts.tops.now fronts.cover fronts.levels.now behind.start behind.facts.now behind.opened).built _ (omega arith) c.args.class c.min.result c.requires.class (omega (arith, c.min.ensures))
 
 pub returns-clause-least : goal.returns-clause-least
 returns-clause-least c =

@@ -1,32 +1,28 @@
-use Rattle.std.proofs.Common.{◌≡◌, ℕ, ◌-◌, inl, inr, subst, arith}
+use Rattle.std.proofs.Common.{◌≡◌, inl, inr, sym, subst, arith}
 use Rattle.std.proofs.lemmas.Bool.{cases_lt}
-use Rattle.front_table.specs.Tries.{RowExtended}
-use Rattle.front_table.proofs.PoolRows.{spreads_then, spreads_from}
-use Rattle.front_table.proofs.StripTries.{row_kept, row_empty}
+use Rattle.front_table.specs.Levels.{ends_at}
+use Rattle.front_table.specs.Packed.{unpacked_all}
+use Rattle.front_table.specs.Tries.{ExtendedBy, RowExtended, Searchable}
 use Rattle.front_table.proofs.strips.strips_from.Goals as goal
 
-pub loop-done-preserved : goal.loop-done-preserved
-loop-done-preserved c =
-    let row : ℕ = c.args.search.now.start - c.loop-done.done in
-    record {
-      spreads =
-          spreads_then c.args.search.now.start c.offer.new.self c.loop-done.pool c.extend_row.new.pool c.loop-done.invariant.spreads
-          (spreads_from row c.args.search.now.start c.loop-done.pool c.extend_row.new.pool (omega arith) c.in_ok-extend_row.ensures.spreads);
-      extended = λ n after le.
-          elim (cases_lt row n) [
-            | inl above ↦
-                row_kept c.args.search.now.fronts.rows.now c.args.search.now.fronts.levels.now c.args.search.now.limits row c.loop-done.pool c.extend_row.new.pool n c.in_ok-extend_row.ensures.spreads (omega (arith, above))
-                (c.loop-done.invariant.extended n (omega (arith, above, c.loop-done-test.true)) le)
-            | inr below ↦
-                let same : row ≡ n = omega (arith, below, after, le, c.loop-done-test.true) in
-                subst (RowExtended c.args.search.now.fronts.rows.now c.args.search.now.fronts.levels.now c.args.search.now.limits c.extend_row.new.pool) same c.in_ok-extend_row.ensures.extended
-          ];
-    }
+pub strips_by-requires-clause-searchable : goal.strips_by-requires-clause-searchable
+strips_by-requires-clause-searchable c =
+    let search = c.args.search.now in
+    let levels = search.fronts.levels.now in
+    subst (λ l. Searchable levels search.limits search.start search.start l c.ends_of.result.now) (sym c.bands_of.ensures)
+    (subst (Searchable levels search.limits search.start search.start _) (sym c.ends_of.ensures) c.requires.searchable)
 
-pub returns-then-row-first-clause-extended : goal.returns-then-row-first-clause-extended
-returns-then-row-first-clause-extended c = λ n le.
-    let row : ℕ = c.args.search.now.start - c.loop-done.done in
-    elim (cases_lt row n) [
-      | inl above ↦ c.loop-done.invariant.extended n (omega (arith, above, c.loop-done-test.true)) le
-      | inr below ↦ row_empty c.args.search.now.fronts.rows.now c.args.search.now.fronts.levels.now c.args.search.now.limits c.loop-done.pool n (c.low-first.ensures n (omega (arith, below, c.if-row-first.true)))
+pub returns-clause-extended : goal.returns-clause-extended
+returns-clause-extended c = λ n le.
+    let search = c.args.search.now in
+    let rows = search.fronts.rows.now in
+    let levels = search.fronts.levels.now in
+    let start = search.start in
+    elim (cases_lt n start) [
+      | inl below ↦ c.in_ok-strips_by.ensures.extended n below
+      | inr last ↦
+          let same : start ≡ n = omega (arith, le, last) in
+          subst (RowExtended rows levels search.limits c.strips_by.new.pool) same
+          (subst (λ l. ExtendedBy rows levels search.limits c.strips_by.new.pool start start l (ends_at levels start)) c.bands_of.ensures
+          (subst (ExtendedBy rows levels search.limits c.strips_by.new.pool start start (unpacked_all c.bands_of.result.now)) c.ends_of.ensures c.in_ok-strips_by.ensures.own))
     ]

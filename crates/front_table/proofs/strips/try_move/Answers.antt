@@ -2,9 +2,9 @@ use Rattle.std.proofs.Common.{arith}
 use Rattle.front_table.specs.Tries.{BandTried}
 use Rattle.front_table.proofs.strips.try_move.Goals as goal
 
-pub returns-then-to-row-clause-tried : goal.returns-then-to-row-clause-tried
+pub returns-then-to-extension-clause-tried : goal.returns-then-to-extension-clause-tried
 unfolding BandTried
-returns-then-to-row-clause-tried c = λ down low. absurd (omega (arith, down, c.if-to-row.true))
+returns-then-to-extension-clause-tried c = λ down low. absurd (omega (arith, down, c.if-to-extension.true))
 
 pub returns-then-waste-extension-clause-tried : goal.returns-then-waste-extension-clause-tried
 unfolding BandTried

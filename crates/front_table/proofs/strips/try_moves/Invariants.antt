@@ -7,6 +7,6 @@ use Rattle.front_table.proofs.strips.try_moves.Given as goal
 
 abbrev pub invariant-loop-at : goal.invariant-loop-at
 invariant-loop-at l = record {
-  spreads : Spreads l.extension.row l.fn.pool l.pool;
-  tried : (k : ℕ) (d : Move) → k < l.at → BandTried l.search.fronts.rows.now l.search.fronts.levels.now l.search.limits l.pool l.extension.row l.extension.label.now l.extension.slack (get_or (unpacked_all l.bands) k d);
+  spreads : Spreads l.extension.view.below l.fn.pool l.pool;
+  tried : (k : ℕ) (d : Move) → k < l.at → BandTried l.extension.search.now.fronts.rows.now l.extension.search.now.fronts.levels.now l.extension.search.now.limits l.pool l.extension.view.row l.extension.view.below l.extension.label.now l.extension.slack (get_or (unpacked_all l.bands) k d);
 }

@@ -1,10 +1,11 @@
-use Rattle.std.proofs.Common.{◌≡◌, length}
+use Rattle.std.proofs.Common.{◌≤◌, All, length}
+use Rattle.front_table.specs.Lanes.{IsReady}
 use Rattle.front_table.specs.Ready.{Built}
 use Rattle.front_table.proofs.table.levels_of.Given as goal
 
-abbrev pub invariant-loop-done : goal.invariant-loop-done
-invariant-loop-done g l = record {
-  pool : length l.pool ≡ length l.fn.pool;
-  len : length l.levels.items ≡ l.done;
+abbrev pub invariant-loop : goal.invariant-loop
+invariant-loop g l = record {
+  some : 1 ≤ length l.lanes.items;
+  ready : All (IsReady (length l.fn.fronts.rows.now)) l.lanes.items;
   built : Built l.fn.fronts.instance.now l.fn.fronts.rows.now l.fn.fronts.tops.now l.fn.fronts.cover l.levels.items;
 }

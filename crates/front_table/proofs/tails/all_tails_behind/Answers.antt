@@ -1,5 +1,5 @@
-use Rattle.std.proofs.Common.{map, ap, sym, subst}
-use Rattle.front_table.specs.Tails.{AllBehind, AreBehindBands}
+use Rattle.std.proofs.Common.{map, sym, subst}
+use Rattle.front_table.specs.Tails.{AllBehind}
 use Rattle.front_table.proofs.StackTails.{behind_none, behind_next}
 use Rattle.front_table.proofs.tails.all_tails_behind.Goals as goal
 

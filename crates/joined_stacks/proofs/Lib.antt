@@ -1,0 +1,5 @@
+mod Gathered
+mod Mirrors
+mod Copies
+mod Courses
+mod Plates
