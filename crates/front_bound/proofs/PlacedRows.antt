@@ -5,10 +5,12 @@ use Rattle.std.proofs.lemmas.List.Elements.{All-contains, Contains-append_left, 
 use Rattle.glass_base.specs.declared.item.Defect.{Defect}
 use Rattle.glass_base.specs.Plates.{Before, Width}
 use Rattle.glass_base.specs.Problem.{Problem}
+use Rattle.plan_trace.specs.TraceRules.{Gap}
 use Rattle.front_bound.specs.declared.stretch.Stretch.{Stretch}
 use Rattle.front_bound.specs.declared.stretch.Sought.{Sought}
 use Rattle.front_table.specs.declared.labels.FrontLabel.{FrontLabel}
 use Rattle.front_table.specs.declared.moves.Move.{Move}
+use Rattle.front_table.specs.declared.sets.SizeSet.{SizeSet}
 use Rattle.front_bound.specs.declared.places.PieceToPlace.{PieceToPlace}
 use Rattle.front_bound.specs.declared.places.Corner.{Corner}
 use Rattle.front_bound.specs.inner.Clear.{Clear, LineClear, Meets, IsFree, Covered, EndsPlaced}
@@ -58,37 +60,37 @@ behind_or_above holes piece at d left low has meets x y free =
 module _ (t : Stretch) (s : Sought) where
   pub cell_joined_kept : (from : ℕ) (old new : List (List FrontLabel)) (l : FrontLabel) (m : Move) → Spreads from old new → CellJoined t s old l m → CellJoined t s new l m
   unfolding CellJoined
-  cell_joined_kept from old new l m spreads joined x w y right up left bottom own next can = spreads.kept m.to (x + w) y (left + m.label.along.least) up (joined x w y right up left bottom own next can)
+  cell_joined_kept from old new l m spreads joined x w y left top bottom next own fits can gap = spreads.kept m.to (x + w) y next top (joined x w y left top bottom next own fits can gap)
 
   pub cells_kept : (from : ℕ) (old new : List (List FrontLabel)) (n : ℕ) (moves : List Move) → Spreads from old new → from ≤ n → CellsGoOn t s old n moves → CellsGoOn t s new n moves
   unfolding CellsGoOn
-  cells_kept from old new n moves spreads le goes x y right up held m has w left bottom next can =
-      spreads.kept m.to (x + w) y (left + m.label.along.least) up (goes x y right up (subst (λ l. HeldTo l x y right up) (spreads.same n le) held) m has w left bottom next can)
+  cells_kept from old new n moves spreads le goes x y left top held m has w bottom next fits can gap =
+      spreads.kept m.to (x + w) y next top (goes x y left top (subst (λ l. HeldTo l x y left top) (spreads.same n le) held) m has w bottom next fits can gap)
 
   pub cells_go_on : (pool : List (List FrontLabel)) (n : ℕ) (moves : List Move) → ((k : ℕ) (d : FrontLabel) → k < length (row_at pool n) → All (CellJoined t s pool (get_or (row_at pool n) k d)) moves) → CellsGoOn t s pool n moves
   unfolding CellsGoOn CellJoined HeldTo
-  cells_go_on pool n moves each x y right up (l, (k, lt, is), stands) m has w left bottom next can =
+  cells_go_on pool n moves each x y left top (l, (k, lt, is), stands) m has w bottom next fits can gap =
       let all : All (CellJoined t s pool l) moves = subst (λ (l : FrontLabel). All (CellJoined t s pool l) moves) is (each k l lt) in
-      All-contains (CellJoined t s pool l) moves m all has x w y right up left bottom stands next can
+      All-contains (CellJoined t s pool l) moves m all has x w y left top bottom next stands fits can gap
 
   -- where no label leads to the row
   pub cells_none : (pool : List (List FrontLabel)) (n : ℕ) (moves : List Move) → row_at pool n ≡ [] → CellsGoOn t s pool n moves
   unfolding CellsGoOn
-  cells_none pool n moves none x y right up held m has w left bottom next can = absurd (held_none (row_at pool n) x y right up none held)
+  cells_none pool n moves none x y left top held m has w bottom next fits can gap = absurd (held_none (row_at pool n) x y left top none held)
 
 -- bands
 module _ (t : Stretch) (from : ℕ) (old new : List (List FrontLabel)) (s : Spreads from old new) where
   pub run_kept : (n : ℕ) (label : FrontLabel) (to : ℕ) (cells : FrontLabel) → RunJoined t old n label to cells → RunJoined t new n label to cells
   unfolding RunJoined
-  run_kept n label to cells joined x d w right low up own run can = s.kept to (x + d) w right up (joined x d w right low up own run can)
+  run_kept n label to cells joined d w right low next own run can gap = s.kept to next w right 0 (joined d w right low next own run can gap)
 
   pub runs_kept : (n : ℕ) (label : FrontLabel) (to : ℕ) (runs : List FrontLabel) → RunsJoined t old n label to runs → RunsJoined t new n label to runs
   unfolding RunsJoined
-  runs_kept n label to runs joined x d w right low up own held can = s.kept to (x + d) w right up (joined x d w right low up own held can)
+  runs_kept n label to runs joined d w right low next own held can gap = s.kept to next w right 0 (joined d w right low next own held can gap)
 
   pub move_kept : (n : ℕ) (label : FrontLabel) (m : Move) → MoveJoined t old n label m → MoveJoined t new n label m
   unfolding MoveJoined
-  move_kept n label m joined x d w right low up own next can = s.kept m.to (x + d) w right up (joined x d w right low up own next can)
+  move_kept n label m joined d w right low next own fits can gap = s.kept m.to next w right 0 (joined d w right low next own fits can gap)
 
   pub waste_kept : (n : ℕ) (label : FrontLabel) (slack : ℕ) (m : Move) → WasteJoined t old n label slack m → WasteJoined t new n label slack m
   unfolding WasteJoined
@@ -107,16 +109,16 @@ module _ (t : Stretch) (from : ℕ) (old new : List (List FrontLabel)) (s : Spre
 module _ (t : Stretch) (pool : List (List FrontLabel)) (n : ℕ) where
   pub runs_joined : (label : FrontLabel) (to : ℕ) (runs : List FrontLabel) → ((k : ℕ) (d : FrontLabel) → k < length runs → RunJoined t pool n label to (get_or runs k d)) → RunsJoined t pool n label to runs
   unfolding RunsJoined RunJoined HeldTo
-  runs_joined label to runs each x d w right low up own (cells, has, stands) can = contained_each (λ (cells : FrontLabel). RunJoined t pool n label to cells) runs each cells has x d w right low up own stands can
+  runs_joined label to runs each d w right low next own (cells, has, stands) can gap = contained_each (λ (cells : FrontLabel). RunJoined t pool n label to cells) runs each cells has d w right low next own stands can gap
 
   pub runs_none : (label : FrontLabel) (to : ℕ) (runs : List FrontLabel) → runs ≡ [] → RunsJoined t pool n label to runs
   unfolding RunsJoined
-  runs_none label to runs none x d w right low up own held can = absurd (held_none runs w d right up none held)
+  runs_none label to runs none d w right low next own held can gap = absurd (held_none runs w d right (low + d) none held)
 
   -- where no band goes on
   pub none_extended : (label : FrontLabel) → NoneGoesOn t n label → Extended t pool n label
   unfolding NoneGoesOn MovesExtended MoveJoined
-  none_extended label none = inl (λ m has x d w right low up own next can. absurd (none m.to x d w right low up own can))
+  none_extended label none = inl (λ m has d w right low next own fits can gap. absurd (none m.to d w right low own can))
 
   pub row_none : row_at pool n ≡ [] → RowPlaced t pool n
   unfolding RowPlaced
@@ -126,61 +128,56 @@ module _ (t : Stretch) (pool : List (List FrontLabel)) (n : ℕ) where
   pub all_joined : (label : FrontLabel) (slack : ℕ) → t.limits.bound ≤ t.limits.top → IsSlack t n label slack →
       ((m : Move) → Contains (bands_at t.fronts.levels.now n) m → m.label.across.least ≤ t.limits.top → WasteJoined t pool n label slack m) → Extended t pool n label
   unfolding MovesExtended WasteJoined MoveJoined IsSlack
-  all_joined label slack bound most joined = inl (λ m has x d w right low up own next can.
-      let narrow : m.label.across.least ≤ t.limits.top = omega (arith, least_first m.label.across w next.1, can.end.narrow, bound) in
-      let less : t.limits.top * m.label.along.least ≤ t.limits.top * d = mul-le t.limits.top m.label.along.least t.limits.top d (omega arith) (least_first m.label.along d next.0) in
-      let waste : waste_of t.fronts.rows.now n t.limits.top m ≤ slack = omega (arith, less, most m.to x d w right low up own can) in
-      joined m has narrow waste x d w right low up own next can)
+  all_joined label slack bound most joined = inl (λ m has d w right low next own fits can gap.
+      let narrow : m.label.across.least ≤ t.limits.top = omega (arith, least_first m.label.across w fits.1, can.end.narrow, bound) in
+      let less : t.limits.top * m.label.along.least ≤ t.limits.top * d = mul-le t.limits.top m.label.along.least t.limits.top d (omega arith) (least_first m.label.along d fits.0) in
+      let waste : waste_of t.fronts.rows.now n t.limits.top m ≤ slack = omega (arith, less, most m.to d w right low own can) in
+      joined m has narrow waste d w right low next own fits can gap)
 
 -- how much a band may leave
 pub slack_more : (t : Stretch) (n : ℕ) (label : FrontLabel) (slack more : ℕ) → slack ≤ more → IsSlack t n label slack → IsSlack t n label more
 unfolding IsSlack
-slack_more t n label slack more le is to x d w right low up own can = omega (arith, is to x d w right low up own can, le)
+slack_more t n label slack more le is to d w right low own can = omega (arith, is to d w right low own can, le)
 
-pub can_leave : (t : Stretch) (n to x d w right low up area up_to : ℕ) → t.limits.bound ≤ t.limits.top → up_to ≤ low → (can : CanGoOn t n to x d w right low up) → area ≤ can.area →
-    t.limits.top * d - (area_at t.fronts.rows.now n - area_at t.fronts.rows.now to) ≤ t.limits.top * (t.limits.height - up_to) - area
-can_leave t n to x d w right low up area up_to bound below can least =
-    let h : ℕ = t.limits.height in
-    let rest : can.end.area ≤ w * (h - (low + d)) = omega (arith, can.end.within, mul-le w (h - up) w (h - (low + d)) (omega arith) (omega (arith, can.above))) in
-    least_waste t.limits.top w h low d up_to d area (area_at t.fronts.rows.now n - area_at t.fronts.rows.now to) can.area can.end.area (omega (arith, can.end.narrow, bound)) below (omega arith) (omega (arith, can.above, can.end.top)) least can.split rest
+pub can_leave : (t : Stretch) (n to d w right low area least : ℕ) → t.limits.bound ≤ t.limits.top → least ≤ low → (can : CanGoOn t n to d w right low) → area ≤ can.area →
+    t.limits.top * d - (area_at t.fronts.rows.now n - area_at t.fronts.rows.now to) ≤ t.limits.top * (t.limits.height - least) - area
+can_leave t n to d w right low area least bound below can more =
+    least_waste t.limits.top w t.limits.height low d least d area (area_at t.fronts.rows.now n - area_at t.fronts.rows.now to) can.area can.end.area (omega (arith, can.end.narrow, bound)) below (omega arith) can.end.top more can.split can.end.within
 
-pub can_hold : (t : Stretch) (n to x d w right low up up_to : ℕ) → t.limits.bound ≤ t.limits.top → up_to ≤ low → (can : CanGoOn t n to x d w right low up) → can.area ≤ t.limits.top * (t.limits.height - up_to)
-can_hold t n to x d w right low up up_to bound below can = omega (arith, can.within, less_glass w t.limits.top t.limits.height low up_to (omega (arith, can.end.narrow, bound)) below)
+pub can_hold : (t : Stretch) (n to d w right low least : ℕ) → t.limits.bound ≤ t.limits.top → least ≤ low → (can : CanGoOn t n to d w right low) → can.area ≤ t.limits.top * (t.limits.height - least)
+can_hold t n to d w right low least bound below can = omega (arith, can.within, less_glass w t.limits.top t.limits.height low least (omega (arith, can.end.narrow, bound)) below)
+
+-- where the first band begins: below all of the plate, or a gap above that
+pub first_gap : (waste at : ℕ) → Gap waste 0 at → (at ≡ 0) ⊎ (0 + waste ≤ at)
+first_gap waste at (inl none) = inl (sym none)
+first_gap waste at (inr some) = inr some
 
 -- right sides
-pub ends_placed_kept : (b : Problem) (holes : List Defect) (far most g : ℕ) (old new : List (List FrontLabel)) (m plate begin : ℕ) (strips : List FrontLabel) → Spreads g old new → EndsPlaced b holes far most old m plate begin strips →
-    EndsPlaced b holes far most new m plate begin strips
-unfolding EndsPlaced
-ends_placed_kept b holes far most g old new m plate begin strips s placed width right held sum within line near = kept_at g old new s m right plate (placed width right held sum within line near)
-
-pub ends_of_each : (b : Problem) (holes : List Defect) (far most : ℕ) (sides : List (List FrontLabel)) (m plate begin : ℕ) (strips : List FrontLabel) →
-    ((k : ℕ) (d : FrontLabel) → k < length strips → EndsPlaced b holes far most sides m plate begin (get_or strips k d ∷ [])) → EndsPlaced b holes far most sides m plate begin strips
-unfolding EndsPlaced HeldTo
-ends_of_each b holes far most sides m plate begin strips each width right (strip, has, stands) sum within line near =
-    contained_each (λ (strip : FrontLabel). EndsPlaced b holes far most sides m plate begin (strip ∷ [])) strips each strip has width right (strip, (0, omega arith, refl), stands) sum within line near
-
-pub ends_empty : (b : Problem) (holes : List Defect) (far most : ℕ) (sides : List (List FrontLabel)) (m plate begin : ℕ) (strips : List FrontLabel) → strips ≡ [] → EndsPlaced b holes far most sides m plate begin strips
-unfolding EndsPlaced
-ends_empty b holes far most sides m plate begin strips none width right held sum within line near = absurd (held_none strips b.params.height width right b.params.height none held)
-
 pub one_stands : (strip : FrontLabel) (x y right up : ℕ) → HeldTo (strip ∷ []) x y right up → Stands strip x y right up
 unfolding HeldTo
 one_stands strip x y right up (l, (zero, lt, is), stands) = subst (λ (l : FrontLabel). Stands l x y right up) (sym is) stands
 one_stands strip x y right up (l, (suc k, lt, is), stands) = absurd (omega (arith, lt))
 
--- where no strip of a label has such a height, or none ends so far on
-pub ends_unlike : (b : Problem) (holes : List Defect) (far most : ℕ) (sides : List (List FrontLabel)) (m plate begin : ℕ) (strip : FrontLabel) → (Has strip.along b.params.height → ⊥) → EndsPlaced b holes far most sides m plate begin (strip ∷ [])
-unfolding EndsPlaced
-ends_unlike b holes far most sides m plate begin strip none width right held sum within line near =
-    absurd (none (one_stands strip b.params.height width right b.params.height held).0.0)
+module _ (b : Problem) (holes : List Defect) (far most : ℕ) where
+  pub ends_placed_kept : (g : ℕ) (old new : List (List FrontLabel)) (m plate : ℕ) (begin : SizeSet) (strips : List FrontLabel) → Spreads g old new → EndsPlaced b holes far most old m plate begin strips → EndsPlaced b holes far most new m plate begin strips
+  unfolding EndsPlaced
+  ends_placed_kept g old new m plate begin strips s placed left width from held within line near = kept_at g old new s m (left + width) plate (placed left width from held within line near)
 
-pub ends_from : (b : Problem) (holes : List Defect) (far most : ℕ) (sides : List (List FrontLabel)) (m plate begin : ℕ) (strip : FrontLabel) →
-    ((right : ℕ) → begin + strip.across.least ≤ right → strip.right ≤ right → right ≤ Width b plate → (right < Width b plate → LineClear holes b.params.height right) → Before b plate + right + far ≤ most → HeldAt sides m right plate) →
-    EndsPlaced b holes far most sides m plate begin (strip ∷ [])
-unfolding EndsPlaced
-ends_from b holes far most sides m plate begin strip each width right held sum within line near =
-    let stands = one_stands strip b.params.height width right b.params.height held in
-    each right (omega (arith, sum, least_first strip.across width stands.0.1)) stands.1 within line near
+  module _ (sides : List (List FrontLabel)) (m plate : ℕ) (begin : SizeSet) where
+    pub ends_of_each : (strips : List FrontLabel) → ((k : ℕ) (d : FrontLabel) → k < length strips → EndsPlaced b holes far most sides m plate begin (get_or strips k d ∷ [])) → EndsPlaced b holes far most sides m plate begin strips
+    unfolding EndsPlaced HeldTo
+    ends_of_each strips each left width from (strip, has, stands) within line near =
+        contained_each (λ (strip : FrontLabel). EndsPlaced b holes far most sides m plate begin (strip ∷ [])) strips each strip has left width from (strip, (0, omega arith, refl), stands) within line near
+
+    pub ends_empty : (strips : List FrontLabel) → strips ≡ [] → EndsPlaced b holes far most sides m plate begin strips
+    unfolding EndsPlaced
+    ends_empty strips none left width from held within line near = absurd (held_none strips b.params.height width (left + width) 0 none held)
+
+    -- where each right side of the strips of one label is
+    pub ends_from : (strip : FrontLabel) → ((left width : ℕ) → Has begin left → Stands strip b.params.height width (left + width) 0 → left + width ≤ Width b plate → (left + width < Width b plate → LineClear holes b.params.height (left + width)) → Before b plate + (left + width) + far ≤ most → HeldAt sides m (left + width) plate) →
+        EndsPlaced b holes far most sides m plate begin (strip ∷ [])
+    unfolding EndsPlaced
+    ends_from strip each left width from held within line near = each left width from (one_stands strip b.params.height width (left + width) 0 held) within line near
 
 pub one_held : (label : FrontLabel) (x y : ℕ) → Held (label ∷ []) x y → Fits label x y
 unfolding Held

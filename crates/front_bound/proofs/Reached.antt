@@ -13,7 +13,7 @@ use Rattle.front_table.specs.declared.rows.FrontRow.{FrontRow}
 use Rattle.front_table.specs.Lattice.{At, IsLattice}
 use Rattle.front_table.specs.Levels.{IsToGo}
 use Rattle.front_table.specs.Pools.{HeldAt}
-use Rattle.front_bound.specs.Sides.{SidesGoOn}
+use Rattle.front_bound.specs.Sides.{RowGoesOn, SidesGoOn}
 use Rattle.front_table.proofs.FrontRows.{first_row, last_row}
 use Rattle.front_table.proofs.StripRuns.{Path, bands_path, strip_down}
 use Rattle.front_bound.proofs.SideLemmas.{gap_behind}
@@ -41,7 +41,7 @@ rest_far b rows h to_go zero_is far (strip ∷ strips) n f plate from at within 
 course_held : (b : Problem) (rows : List FrontRow) → IsLattice b rows → (to_go : ℕ → ℕ) → to_go 0 ≡ 0 → ((n : ℕ) → n < length rows → IsToGo b rows to_go n) → (most : ℕ) (sides : List (List FrontLabel)) → ((n : ℕ) → 1 ≤ n → n < length rows → SidesGoOn b rows to_go most sides n) →
     (strips : List Strip) (n : ℕ) (f : Front) (plate from : ℕ) → At b rows n f → AreStrips b f plate from strips → IsFull b (after_strips f strips) → Before b (last_plate plate strips) + last_right from strips ≤ most → HeldAt sides n from plate →
     HeldAt sides 0 (last_right from strips) (last_plate plate strips)
-unfolding SidesGoOn
+unfolding RowGoesOn
 course_held b rows h to_go zero_is far most sides goes [] n f plate from at are full near held = subst (λ k. HeldAt sides k from plate) (last_row b rows h n f at full) held
 course_held b rows h to_go zero_is far most sides goes (strip ∷ strips) n f plate from at are full near held =
     let p : Path b rows n (after_bands f strip.bands) _ = bands_path b rows h strip.width strip.bands n f at are.0.is_strip.each in

@@ -18,7 +18,7 @@ use Rattle.front_table.specs.Levels.{bands_at, ends_at, to_go_at, IsToGo}
 use Rattle.front_table.specs.Pools.{row_at, HeldAt, Spreads}
 use Rattle.front_table.specs.Ready.{ReadyFrom, Fitting, Built, TailsBelow}
 use Rattle.front_table.specs.Tries.{RowExtended, Searchable}
-use Rattle.front_bound.specs.Sides.{EndsHeld, StripHeld, Placed, NextHeld, PlateGoesOn, ClassGoesOn, BeginGoesOn, SidesGoOn}
+use Rattle.front_bound.specs.Sides.{EndsHeld, StripHeld, Placed, NextHeld, PlateGoesOn, ClassGoesOn, BeginGoesOn, RowGoesOn, SidesGoOn}
 use Rattle.front_table.proofs.Paths.{leads_down}
 use Rattle.front_table.proofs.PoolRows.{kept_at}
 use Rattle.front_bound.proofs.PlacedRows.{one_held}
@@ -63,10 +63,6 @@ plate_only s plate plates more few (inr above) lt = absurd (omega (arith, more, 
 
 pub true_false : (t : Bool) → IsTrue t → t ≡ false → ⊥
 true_false t is not = let wrong : true ≡ false = sym is ∙ not in cc
-
--- the same labels lead to a row
-abbrev pub HeldSame : List (List FrontLabel) → List (List FrontLabel) → ℕ → Type 0
-HeldSame sides old n = row_at sides n ≡ row_at old n
 
 -- strips of the widths below one, where no strip is so narrow
 pub plate_none : (b : Problem) (rows : List FrontRow) (to_go : ℕ → ℕ) (most : ℕ) (sides : List (List FrontLabel)) (n : ℕ) (begins : List FrontLabel) (plate low : ℕ) → low ≤ b.params.min1 → PlateGoesOn b rows to_go most sides n begins plate low
@@ -119,24 +115,23 @@ class_goes_on b rows h levels l cover fit start r under pool extended low begun 
     (subst (λ k. HeldAt pool m k w) fit.height (strips_held b rows h levels l cover fit (to_go_at levels) start start (bands_at levels start) (ends_at levels start) r under pool (extended start (omega arith)) (λ n lt. extended n (omega (arith, lt))) low begun f at w bands is wide (bound w narrow is.narrow fits) m to near)))
 
 -- strips on all plates are held where they end, so those from the row are
-pub sides_go_on : (b : Problem) (rows : List FrontRow) (levels : List RowFacts) (most : ℕ) (sides old : List (List FrontLabel)) (n : ℕ) (begins : List FrontLabel) → IsToGo b rows (to_go_at levels) n → HeldSame sides old n →
-    ((from plate : ℕ) → HeldAt old n from plate → Held begins from plate) → ((from plate : ℕ) → HeldAt old n from plate → NextHeld b (to_go_at levels n) most begins from plate) →
-    ((plate : ℕ) → plate < b.params.plates → PlateGoesOn b rows (to_go_at levels) most sides n begins plate (b.params.max1 + 1)) → SidesGoOn b rows (to_go_at levels) most sides n
-unfolding SidesGoOn PlateGoesOn StripHeld
-sides_go_on b rows levels most sides old n begins far same own next each f at plate from held strip follows m to near =
+pub row_goes_on : (b : Problem) (rows : List FrontRow) (levels : List RowFacts) (most : ℕ) (sides : List (List FrontLabel)) (n : ℕ) (behind begins : List FrontLabel) → IsToGo b rows (to_go_at levels) n →
+    ((from plate : ℕ) → Held behind from plate → Held begins from plate) → ((from plate : ℕ) → Held behind from plate → NextHeld b (to_go_at levels n) most begins from plate) →
+    ((plate : ℕ) → plate < b.params.plates → PlateGoesOn b rows (to_go_at levels) most sides n begins plate (b.params.max1 + 1)) → RowGoesOn b rows (to_go_at levels) most behind sides n
+unfolding RowGoesOn PlateGoesOn StripHeld
+row_goes_on b rows levels most sides n behind begins far own next each f at plate from held strip follows m to near =
     let w : ℕ = strip.width in
-    let was : HeldAt old n from plate = subst (λ l. Held l from plate) same held in
     let below : w < b.params.max1 + 1 = omega (arith, follows.is_strip.narrow) in
     let leaves = far f at w strip.bands follows.is_strip m to in
     let placed : Placed b strip.plate strip.right w f strip.bands = record { places = follows.places; end = follows.end } in
     elim follows.behind [
       | inl here ↦
-          let begin : Held begins from strip.plate = subst (λ k. Held begins from k) (sym here.0) (own from plate was) in
+          let begin : Held begins from strip.plate = subst (λ k. Held begins from k) (sym here.0) (own from plate held) in
           each strip.plate follows.few f at from begin w strip.bands follows.is_strip below m to strip.right placed here.1 follows.within near
       | inr there ↦
           let few : suc plate < b.params.plates = omega (arith, there.0, follows.few) in
           let before : Before b (suc plate) + to_go_at levels n ≤ most = omega (arith, ap (Before b) there.0, near, leaves, gap_behind b.params.waste w strip.right there.2) in
-          let begin : Held begins 0 strip.plate = subst (λ k. Held begins 0 k) (sym there.0) (next from plate was few there.1 before) in
+          let begin : Held begins 0 strip.plate = subst (λ k. Held begins 0 k) (sym there.0) (next from plate held few there.1 before) in
           each strip.plate follows.few f at 0 begin w strip.bands follows.is_strip below m to strip.right placed (subst (λ k. Gap b.params.waste k strip.right) (omega arith) there.2) follows.within near
     ]
 
@@ -162,20 +157,28 @@ built_ready b rows h tops cover levels o start within = record {
   ends_below = λ n lt. o.ends n (omega (arith, lt, within));
 }
 
-pub sides_kept : (b : Problem) (rows : List FrontRow) (to_go : ℕ → ℕ) (most g : ℕ) (old new : List (List FrontLabel)) (n : ℕ) → Spreads g old new → g ≤ n → SidesGoOn b rows to_go most old n → SidesGoOn b rows to_go most new n
-unfolding SidesGoOn
-sides_kept b rows to_go most g old new n s le goes f at plate from held strip follows m to near =
-    kept_at g old new s m strip.right strip.plate (goes f at plate from (subst (λ l. Held l from plate) (s.same n le) held) strip follows m to near)
+-- what is held in one pool is in another
+pub row_joined : (b : Problem) (rows : List FrontRow) (to_go : ℕ → ℕ) (most : ℕ) (begins : List FrontLabel) (old new : List (List FrontLabel)) (n : ℕ) → ((m x y : ℕ) → HeldAt old m x y → HeldAt new m x y) → RowGoesOn b rows to_go most begins old n → RowGoesOn b rows to_go most begins new n
+unfolding RowGoesOn
+row_joined b rows to_go most begins old new n joined goes f at plate from held strip follows m to near = joined m strip.right strip.plate (goes f at plate from held strip follows m to near)
 
--- one row more
-pub sides_next : (b : Problem) (rows : List FrontRow) (to_go : ℕ → ℕ) (most first done row : ℕ) (old new : List (List FrontLabel)) → row ≡ first - done → done < first → Spreads row old new → SidesGoOn b rows to_go most new row →
-    ((n : ℕ) → first < n + done → n ≤ first → SidesGoOn b rows to_go most old n) → (n : ℕ) → first < n + (done + 1) → n ≤ first → SidesGoOn b rows to_go most new n
-sides_next b rows to_go most first done row old new is lt s goes before n after le =
-    elim (cases_lt row n) [
-      | inl above ↦ sides_kept b rows to_go most row old new n s (omega (arith, above)) (before n (omega (arith, above, is, lt)) le)
-      | inr below ↦
-          let same : row ≡ n = omega (arith, below, after, le, is, lt) in
-          subst (SidesGoOn b rows to_go most new) same goes
+pub row_kept : (b : Problem) (rows : List FrontRow) (to_go : ℕ → ℕ) (most g : ℕ) (begins : List FrontLabel) (old new : List (List FrontLabel)) (n : ℕ) → Spreads g old new → RowGoesOn b rows to_go most begins old n → RowGoesOn b rows to_go most begins new n
+row_kept b rows to_go most g begins old new n s goes = row_joined b rows to_go most begins old new n (kept_at g old new s) goes
+
+-- what was found behind the sides of a row, where that row has not changed since
+pub sides_joined : (b : Problem) (rows : List FrontRow) (to_go : ℕ → ℕ) (most g : ℕ) (old offered new : List (List FrontLabel)) (n : ℕ) → Spreads g old new → g ≤ n → ((m x y : ℕ) → HeldAt offered m x y → HeldAt new m x y) → RowGoesOn b rows to_go most (row_at old n) offered n → SidesGoOn b rows to_go most new n
+sides_joined b rows to_go most g old offered new n s le joined goes = subst (λ l. RowGoesOn b rows to_go most l new n) (sym (s.same n le)) (row_joined b rows to_go most (row_at old n) offered new n joined goes)
+
+pub sides_kept : (b : Problem) (rows : List FrontRow) (to_go : ℕ → ℕ) (most g : ℕ) (old new : List (List FrontLabel)) (n : ℕ) → Spreads g old new → g ≤ n → SidesGoOn b rows to_go most old n → SidesGoOn b rows to_go most new n
+sides_kept b rows to_go most g old new n s le goes = sides_joined b rows to_go most g old old new n s le (kept_at g old new s) goes
+
+-- the rows of one level more
+pub sides_next : (b : Problem) (rows : List FrontRow) (to_go : ℕ → ℕ) (most first end all : ℕ) (old new : List (List FrontLabel)) → Spreads end old new → ((n : ℕ) → first ≤ n → n < end → SidesGoOn b rows to_go most new n) → ((n : ℕ) → end ≤ n → n < all → SidesGoOn b rows to_go most old n) →
+    (n : ℕ) → first ≤ n → n < all → SidesGoOn b rows to_go most new n
+sides_next b rows to_go most first end all old new s goes before n from lt =
+    elim (cases_lt n end) [
+      | inl below ↦ goes n from below
+      | inr above ↦ sides_kept b rows to_go most end old new n s above (before n above lt)
     ]
 
 -- a class behind each begin: those that are clear of defects, and each of the others

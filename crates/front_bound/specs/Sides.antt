@@ -10,7 +10,7 @@ use Rattle.front_course.specs.Courses.{Strip, Follows}
 use Rattle.front_table.specs.declared.labels.FrontLabel.{FrontLabel}
 use Rattle.front_table.specs.declared.rows.FrontRow.{FrontRow}
 use Rattle.front_table.specs.Lattice.{At}
-use Rattle.front_table.specs.Pools.{HeldAt}
+use Rattle.front_table.specs.Pools.{HeldAt, row_at}
 use Rattle.front_table.specs.Sets.{Held}
 
 -- each right side of a strip of this width, behind what ends at `from` on its plate, is held at a row, where it is near enough
@@ -44,11 +44,15 @@ ClassGoesOn b rows to_go most sides n begins plate low top room left =
 abbrev pub BeginGoesOn : Problem → List FrontRow → (ℕ → ℕ) → ℕ → List (List FrontLabel) → ℕ → List FrontLabel → FrontLabel → ℕ → ℕ → ℕ → ℕ → ℕ → Type 0
 BeginGoesOn b rows to_go most sides n clear begin plate low top room left = Contains clear begin ⊎ ClassGoesOn b rows to_go most sides n (begin ∷ []) plate low top room left
 
--- strips from a row are held where they end
-unfoldable pub SidesGoOn : Problem → List FrontRow → (ℕ → ℕ) → ℕ → List (List FrontLabel) → ℕ → Type 0
-SidesGoOn b rows to_go most sides n =
-    (f : Front) → At b rows n f → (plate from : ℕ) → HeldAt sides n from plate → (strip : Strip) → Follows b f plate from strip → (m : ℕ) → At b rows m (after_bands f strip.bands)
+-- strips from a row behind what these labels stand for are held where they end
+unfoldable pub RowGoesOn : Problem → List FrontRow → (ℕ → ℕ) → ℕ → List FrontLabel → List (List FrontLabel) → ℕ → Type 0
+RowGoesOn b rows to_go most begins sides n =
+    (f : Front) → At b rows n f → (plate from : ℕ) → Held begins from plate → (strip : Strip) → Follows b f plate from strip → (m : ℕ) → At b rows m (after_bands f strip.bands)
     → Before b strip.plate + strip.right + to_go m ≤ most → HeldAt sides m strip.right strip.plate
+
+-- the same behind what is held at the row
+abbrev pub SidesGoOn : Problem → List FrontRow → (ℕ → ℕ) → ℕ → List (List FrontLabel) → ℕ → Type 0
+SidesGoOn b rows to_go most sides n = RowGoesOn b rows to_go most (row_at sides n) sides n
 
 -- a strip can begin on the next plate, where what is left of this one is a gap
 abbrev pub NextHeld : Problem → ℕ → ℕ → List FrontLabel → ℕ → ℕ → Type 0

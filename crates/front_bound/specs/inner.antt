@@ -1,3 +1,4 @@
 pub mod Clear
 pub mod Placed
 pub mod Around
+pub mod SideLanes

@@ -32,7 +32,7 @@ fn base_of(fronts: &Fronts<'_>) -> u64 {
 }
 
 /// Whether it is shown that no course is shorter than a length.
-fn is_shown<R, L: Listener>(
+fn is_shown<R: Threads + Sync, L: Listener>(
     probe: &Probe<'_, R, L>,
     fronts: &Fronts<'_>,
     length: u64,
@@ -86,7 +86,7 @@ pub fn is_no_shorter<R: Threads + Sync, L: Listener>(
 }
 
 /// A length up to `most` of which it is shown that no course is shorter: the greatest that the searches come to.
-pub fn longest<R, L: Listener>(
+pub fn longest<R: Threads + Sync, L: Listener>(
     probe: &Probe<'_, R, L>,
     fronts: &Fronts<'_>,
     most: u64,

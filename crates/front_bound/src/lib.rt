@@ -1,7 +1,9 @@
 //! A lower bound on the length of every lawful plan, by a search over fronts.
 #![tactic(auto)]
 
+mod begins;
 pub mod bounds;
+mod classes;
 mod ending;
 pub mod front_search;
 mod holes;
@@ -15,6 +17,8 @@ mod placed_sides;
 mod placed_strips;
 mod places;
 pub mod runs;
+mod side_lanes;
+mod side_level;
 mod sides;
 mod slack;
 mod stretch;

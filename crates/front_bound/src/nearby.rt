@@ -118,7 +118,7 @@ fn place_begin(
             most: reach.saturating_sub(u64::from(left)),
         },
         site: StripBegin {
-            left,
+            left: begin.along.closed(params.waste),
             room: width,
             height: params.height,
             widest: bound,

@@ -16,6 +16,7 @@ use front_table::moves::Move;
 use front_table::packed::{packed_width, unpacked_at};
 use front_table::pools::LabelPool;
 use front_table::rows::waste_left;
+use front_table::sets::SizeSet;
 use front_table::tails::{tail_in, unit_of, units_in};
 
 /// Goes on from a label by a band, where the strip can still end near enough.
@@ -32,12 +33,14 @@ fn join_band(
     ensures joined { OnOk result (BandJoined stretch.now pool.new label.now to band.now) }
 {
     let limits = stretch.limits;
-    if band.up > limits.height {
-        return Ok(());
-    }
     let Some(sum) = label.along.plus(&band.along, limits.height) else {
         return Ok(());
     };
+    let waste = stretch.site.waste;
+    let above = sum.closed(waste).meet(&SizeSet::above(u64::from(band.up)));
+    if above.least > limits.height {
+        return Ok(());
+    }
     let shared = label.across.meet(&band.across);
     if shared.least > limits.bound {
         return Ok(());
@@ -46,12 +49,12 @@ fn join_band(
     if wide > limits.most {
         return Ok(());
     }
-    let right = label.right.max(band.right);
-    let end = u64::from(right);
+    let right = label.right.meet(&band.right);
+    let end = u64::from(right.least);
     if end > stretch.reach {
         return Ok(());
     }
-    let left = limits.height - band.up;
+    let left = limits.height - above.least;
     let tails = tails_of(stretch.fronts.levels, to, limits.class);
     let tail = tail_in(tails, units_in(left, unit_of(limits.height)));
     let within = (limits.most - wide).min(stretch.reach - end);
@@ -59,10 +62,10 @@ fn join_band(
         return Ok(());
     }
     let joined = FrontLabel {
-        along: sum,
+        along: above,
         across: shared,
         right,
-        up: band.up,
+        up: 0,
     };
     pool.offer(to, &joined)?;
     Ok(())
@@ -83,13 +86,12 @@ fn join_run(
 {
     let stretch = onward.stretch;
     let label = onward.label;
-    let mut band = band_of(cells, stretch.site.waste);
+    let band = band_of(cells, stretch.site.waste);
     let top = stretch.limits.top;
     let waste = waste_left(stretch.fronts.rows, onward.row, to, top, band.along.least);
     if waste > onward.slack {
         return Ok(());
     }
-    band.up = band.up.max(label.up.saturating_add(band.along.least));
     join_band(pool, stretch, label, to, &band)?;
     Ok(())
 }
@@ -147,13 +149,13 @@ fn join_move(
     if to >= row {
         return Ok(());
     }
-    let raised = FrontLabel {
+    let free = FrontLabel {
         along: band.label.along,
         across: band.label.across,
-        right: 0,
-        up: label.up.saturating_add(band.label.along.least),
+        right: SizeSet::all(),
+        up: 0,
     };
-    join_band(pool, stretch, label, to, &raised)?;
+    join_band(pool, stretch, label, to, &free)?;
     Ok(())
 }
 

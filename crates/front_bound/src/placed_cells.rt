@@ -5,7 +5,7 @@ ghost use Rattle.front_bound.specs.inner.Clear.{Covered};
 ghost use Rattle.front_table.specs.Lattice.{LeadDown, moves_at};
 ghost use Rattle.front_bound.specs.inner.Placed.{CellJoined, CellsGoOn, CellsPlaced, IsLean};
 ghost use Rattle.front_table.specs.Pools.{Spreads, row_at};
-ghost use Rattle.front_table.specs.Sets.{Fits, HeldTo};
+ghost use Rattle.front_table.specs.Sets.{HeldTo, Stands};
 
 use crate::places::{Corner, CornerLists, PieceToPlace, least_places};
 use crate::stretch::{Sought, Stretch};
@@ -24,7 +24,7 @@ pub struct CellSpace {
     pub lists: CornerLists,
 }
 
-/// Offers a label whose last piece lies at a place.
+/// Offers a label whose last piece lies at a place, or right of it and above it.
 fn join_place(
     pool: &mut LabelPool,
     to: usize,
@@ -34,20 +34,22 @@ fn join_place(
 ) -> Result<(), Halt>
     requires { to < length pool.old }
     ensures spreads { OnOk result (Spreads (to + 1) pool.old pool.new) }
-    ensures held { OnOk result ((x y left low up : ℕ) → Fits joined.now x y → joined.now.up ≤ up
-        → place.now.x ≤ left → place.now.y ≤ low → low + piece.now.high ≤ up
-        → HeldTo (row_at pool.new to) x y (left + piece.now.wide) up) }
+    ensures held { OnOk result ((x y left low top next : ℕ) → Stands joined.now x y next top
+        → place.now.x ≤ left → left + piece.now.wide ≤ next → place.now.y ≤ low
+        → low + piece.now.high ≤ top → HeldTo (row_at pool.new to) x y next top) }
 {
+    let end = u64::from(place.x) + u64::from(piece.wide);
     let label = FrontLabel {
         along: joined.along,
         across: joined.across,
-        right: place.x.saturating_add(piece.wide),
+        right: joined.right.meet(&SizeSet::above(end)),
         up: joined.up.max(place.y.saturating_add(piece.high)),
     };
-    pool.offer(to, &label)
+    pool.offer(to, &label)?;
+    Ok(())
 }
 
-/// Offers a label whose last piece lies at one of the places, for each of them.
+/// Offers a label whose last piece lies at one of the places, or right of it and above it, for each of them.
 fn join_places(
     pool: &mut LabelPool,
     to: usize,
@@ -57,9 +59,9 @@ fn join_places(
 ) -> Result<(), Halt>
     requires { to < length pool.old }
     ensures spreads { OnOk result (Spreads (to + 1) pool.old pool.new) }
-    ensures held { OnOk result ((x y left low up : ℕ) → Fits joined.now x y → joined.now.up ≤ up
-        → Covered places.now left low → low + piece.now.high ≤ up
-        → HeldTo (row_at pool.new to) x y (left + piece.now.wide) up) }
+    ensures held { OnOk result ((x y left low top next : ℕ) → Stands joined.now x y next top
+        → Covered places.now left low → left + piece.now.wide ≤ next → low + piece.now.high ≤ top
+        → HeldTo (row_at pool.new to) x y next top) }
 {
     for place in places {
         join_place(pool, to, joined, piece, place)?;
@@ -110,6 +112,9 @@ fn join_cell(
     if is_wasteful(stretch, sought, cell.to as usize, sum.least, shared.least) {
         return Ok(());
     }
+    let Some(beside) = label.right.plus(&cell.label.along, site.room) else {
+        return Ok(());
+    };
     let piece = PieceToPlace {
         wide: cell.label.along.least,
         high: cell.label.across.least,
@@ -120,13 +125,13 @@ fn join_cell(
         &mut space.lists,
         stretch.holes,
         &piece,
-        label.right,
+        label.right.least,
         sought.low,
     )?;
     let joined = FrontLabel {
         along: sum,
         across: shared,
-        right: 0,
+        right: beside.closed(site.waste),
         up: label.up,
     };
     join_places(
@@ -208,7 +213,7 @@ fn spread_cells(space: &mut CellSpace, stretch: &Stretch<'_>, sought: &Sought) -
     Ok(())
 }
 
-/// All cells of bands that lie right of where the strip begins.
+/// All cells of bands of strips that begin where the stretch does.
 pub fn cells_from(space: &mut CellSpace, stretch: &Stretch<'_>, sought: &Sought) -> Result<(), Halt>
     requires start { sought.now.start < length stretch.now.fronts.rows.now }
     requires pool { length space.old.pool ≡ length stretch.now.fronts.rows.now }

@@ -1,7 +1,8 @@
 //! Where strips end whose items have places around defects.
 
 ghost use Rattle.std.specs.Prelude.{◌≡◌, ℕ, ◌+◌, ◌<◌, ◌≤◌, [], ◌∷◌, length, OnOk};
-ghost use Rattle.front_bound.specs.inner.Clear.{EndsPlaced};
+ghost use Rattle.front_bound.specs.inner.Clear.{EndsPlaced, LineClear};
+ghost use Rattle.front_table.specs.Sets.{Has};
 ghost use Rattle.front_table.specs.Levels.{to_go_at};
 ghost use Rattle.front_table.specs.Pools.{Spreads, row_at};
 
@@ -17,18 +18,41 @@ use front_table::sets::SizeSet;
 use glass_base::Defect;
 use glass_base::limits::MOST_PLATES;
 
-/// Offers the right sides of the strips that a label stands for, behind `begin`.
+/// So often the least side is looked at.
+const LOOKS: u32 = 8;
+
+/// Of some sides those at which a line up to a height runs through no defect, and maybe others: while the least one is
+/// barred, those behind what bars it are left.
+fn clear_of(holes: &[Defect], sides: SizeSet, height: u32, width: u32) -> SizeSet
+    ensures { (right : ℕ) → Has sides right → right ≤ width
+        → (right < width → LineClear holes.now height right) → Has result right }
+{
+    let mut clear = sides;
+    for _ in 0..LOOKS {
+        if clear.least > width {
+            return clear;
+        }
+        let side = past(holes, clear.least, height, width);
+        if side == clear.least {
+            return clear;
+        }
+        clear = clear.meet(&SizeSet::above(u64::from(side)));
+    }
+    clear
+}
+
+/// Offers the right sides of the strips that a label stands for and that begin at one of these places.
 fn offer_placed(
     ending: &Ending<'_>,
     holes: &[Defect],
     sides: &mut LabelPool,
-    begin: u32,
+    begin: &SizeSet,
     strip: &FrontLabel,
 ) -> Result<(), Halt>
     requires { ending.now.row < length sides.old }
     ensures spreads { OnOk result (Spreads (ending.now.row + 1) sides.old sides.new) }
     ensures held { OnOk result (EndsPlaced ending.now.instance.now holes.now ending.now.far
-        ending.now.most sides.new ending.now.row ending.now.plate begin (strip.now ∷ [])) }
+        ending.now.most sides.new ending.now.row ending.now.plate begin.now (strip.now ∷ [])) }
 {
     let instance = ending.instance;
     let plate = ending.plate;
@@ -37,43 +61,42 @@ fn offer_placed(
         return Ok(());
     }
     let width = instance.width(plate);
-    let least = begin.saturating_add(strip.across.least).max(strip.right);
-    if least > width {
+    let Some(sum) = begin.plus(&strip.across, width) else {
+        return Ok(());
+    };
+    let clear = clear_of(holes, sum.meet(&strip.right), params.height, width);
+    if clear.least > width {
         return Ok(());
     }
-    let side = past(holes, least, params.height, width);
     let end = instance
         .before(plate)
-        .saturating_add(u64::from(side))
+        .saturating_add(u64::from(clear.least))
         .saturating_add(ending.far);
     if end > ending.most {
         return Ok(());
     }
     let offered = FrontLabel {
-        along: SizeSet {
-            least: side,
-            more: 0,
-        },
+        along: clear,
         across: SizeSet::only(plate),
-        right: 0,
+        right: SizeSet::all(),
         up: 0,
     };
     sides.offer(ending.row, &offered)?;
     Ok(())
 }
 
-/// Offers the right sides of the strips that labels stand for, behind `begin`.
+/// Offers the right sides of the strips that labels stand for and that begin at one of these places.
 fn offer_all_placed(
     ending: &Ending<'_>,
     holes: &[Defect],
     sides: &mut LabelPool,
-    begin: u32,
+    begin: &SizeSet,
     strips: &[FrontLabel],
 ) -> Result<(), Halt>
     requires { ending.now.row < length sides.old }
     ensures spreads { OnOk result (Spreads (ending.now.row + 1) sides.old sides.new) }
     ensures held { OnOk result (EndsPlaced ending.now.instance.now holes.now ending.now.far
-        ending.now.most sides.new ending.now.row ending.now.plate begin strips.now) }
+        ending.now.most sides.new ending.now.row ending.now.plate begin.now strips.now) }
 {
     for strip in strips {
         offer_placed(ending, holes, sides, begin, strip)?;
@@ -112,7 +135,7 @@ pub fn offer_placed_ends(
             &ending,
             stretch.holes,
             sides,
-            stretch.site.left,
+            &stretch.site.left,
             pool.labels(row),
         )?;
     }

@@ -3,7 +3,8 @@
 ghost use Rattle.std.specs.Prelude.{◌≡◌, ℕ, ◌+◌, ◌<◌, ◌≤◌, ◌⊎◌, IfOk, IfSome, OnOk, length};
 ghost use Rattle.front_bound.specs.inner.Placed.{AreCells, Extended, IsStretch, RowPlaced};
 ghost use Rattle.front_table.specs.Pools.{Spreads, row_at};
-ghost use Rattle.front_table.specs.Sets.{HeldTo};
+ghost use Rattle.front_table.specs.Sets.{Has, HeldTo};
+ghost use Rattle.plan_trace.specs.TraceRules.{Gap};
 
 use crate::onward::Onward;
 use crate::placed_bands::{join_moves, join_rows};
@@ -16,7 +17,7 @@ use front_table::pools::LabelPool;
 use front_table::sets::SizeSet;
 use glass_base::Defect;
 
-/// Cells above a label that leave no more than this: those that were made before, where they serve, or all anew, for all labels that reach up as far.
+/// Cells above a label that leave no more than this: those that were made before, where they serve, or all anew, for all labels with the same least place.
 fn cells_above(
     cells: &mut CellSpace,
     onward: &Onward<'_>,
@@ -28,16 +29,16 @@ fn cells_above(
     requires made { IfSome made (AreCells onward.now.stretch.now onward.now.row cells.old.pool) }
     ensures len { OnOk result (length cells.new.pool ≡ length cells.old.pool) }
     ensures are { IfOk result (AreCells onward.now.stretch.now onward.now.row cells.new.pool) }
-    ensures low { IfOk result (λ s. s.low ≤ onward.now.label.now.up) }
+    ensures low { IfOk result (λ s. s.low ≤ onward.now.label.now.along.least) }
     ensures slack { IfOk result (λ s. onward.now.slack ≤ s.slack) }
 {
     let stretch = onward.stretch;
     let row = onward.row;
-    let up = onward.label.up;
+    let low = onward.label.along.least;
     let slack = onward.slack;
     match made {
         Some(old) => {
-            if old.low == up && slack <= old.slack {
+            if old.low == low && slack <= old.slack {
                 return Ok(old);
             }
         }
@@ -45,8 +46,8 @@ fn cells_above(
     }
     let sought = Sought {
         start: row,
-        low: up,
-        slack: most_slack(stretch, row, labels, up, slack),
+        low,
+        slack: most_slack(stretch, row, labels, low, slack),
     };
     cells_from(cells, stretch, &sought)?;
     Ok(sought)
@@ -125,7 +126,7 @@ fn extend(
         slack,
     };
     // (further on defects are looked at only where one is near: elsewhere the bands of the table serve)
-    if !is_below(stretch.near, label.up) {
+    if !is_below(stretch.near, label.along.least) {
         extend_freely(pool, &onward)?;
         return Ok(made);
     }
@@ -148,7 +149,7 @@ fn extend_row(
     ensures spreads { OnOk result (Spreads (row + 1) pool.old pool.new) }
     ensures placed { OnOk result (RowPlaced stretch.now pool.new row) }
 {
-    // (those that reach up as far come one behind the other, so that cells that are made serve for all of them)
+    // (those with the same least place come one behind the other, so that cells that are made serve for all of them)
     pool.sort(row);
     let mut made = None;
     for at in 0..pool.labels(row).len() {
@@ -173,8 +174,8 @@ pub fn placed_from(
     requires stretch { IsStretch stretch.now }
     ensures cells { OnOk result (length cells.new.pool ≡ length cells.old.pool) }
     ensures len { OnOk result (length pool.new ≡ length pool.old) }
-    ensures begun { OnOk result ((x w right up : ℕ) → (x ≡ 0) ⊎ (0 + stretch.now.site.waste ≤ x)
-        → low ≤ w → stretch.now.site.left ≤ right → HeldTo (row_at pool.new start) x w right up) }
+    ensures begun { OnOk result ((at left w : ℕ) → Gap stretch.now.site.waste 0 at → low ≤ w
+        → Has stretch.now.site.left left → HeldTo (row_at pool.new start) at w (left + w) 0) }
     ensures placed { OnOk result ((n : ℕ) → n ≤ start → RowPlaced stretch.now pool.new n) }
 {
     pool.clear();
@@ -187,7 +188,7 @@ pub fn placed_from(
             least: low,
             more: 0,
         },
-        right: stretch.site.left,
+        right: SizeSet::above(u64::from(stretch.site.left.least) + u64::from(low)),
         up: 0,
     };
     pool.offer(start, &none)?;

@@ -45,7 +45,7 @@ fn offer_end(
     let side = FrontLabel {
         along: sum.closed(instance.params().waste),
         across: SizeSet::only(plate),
-        right: 0,
+        right: SizeSet::all(),
         up: 0,
     };
     sides.offer(ending.row, &side)?;

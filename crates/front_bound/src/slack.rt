@@ -21,7 +21,7 @@ pub fn slack_of(stretch: &Stretch<'_>, row: usize, label: &FrontLabel) -> Option
     if wide > limits.most {
         return None;
     }
-    let end = u64::from(label.right);
+    let end = u64::from(label.right.least);
     if end > stretch.reach {
         return None;
     }
@@ -29,20 +29,20 @@ pub fn slack_of(stretch: &Stretch<'_>, row: usize, label: &FrontLabel) -> Option
     let Some(area) = near(ends_of(stretch.fronts.levels, row), within) else {
         return None;
     };
-    let whole = glass_above(limits.top, limits.height, label.up);
+    let whole = glass_above(limits.top, limits.height, label.along.least);
     if whole < area {
         return None;
     }
     Some(whole - area)
 }
 
-/// The greater of a slack and of that of one of a row's labels, where this one reaches up to `up`.
-fn more_slack(stretch: &Stretch<'_>, row: usize, label: &FrontLabel, up: u32, slack: u64) -> u64
+/// The greater of a slack and of that of one of a row's labels, where bands on this one begin at `low` at the least.
+fn more_slack(stretch: &Stretch<'_>, row: usize, label: &FrontLabel, low: u32, slack: u64) -> u64
     requires row { row < length stretch.now.fronts.levels.now }
     requires stretch { IsStretch stretch.now }
     ensures { slack ≤ result }
 {
-    if label.up != up {
+    if label.along.least != low {
         return slack;
     }
     match slack_of(stretch, row, label) {
@@ -51,12 +51,12 @@ fn more_slack(stretch: &Stretch<'_>, row: usize, label: &FrontLabel, up: u32, sl
     }
 }
 
-/// The greatest of a slack and of those of a row's labels that reach up to `up`.
+/// The greatest of a slack and of those of a row's labels on which bands begin at `low` at the least.
 pub fn most_slack(
     stretch: &Stretch<'_>,
     row: usize,
     labels: &[FrontLabel],
-    up: u32,
+    low: u32,
     slack: u64,
 ) -> u64
     requires row { row < length stretch.now.fronts.levels.now }
@@ -65,7 +65,7 @@ pub fn most_slack(
 {
     let mut most = slack;
     for label in labels {
-        most = more_slack(stretch, row, label, up, most);
+        most = more_slack(stretch, row, label, low, most);
     }
     most
 }

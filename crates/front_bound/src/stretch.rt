@@ -1,13 +1,14 @@
 //! What a search for strips around defects looks at.
 
 use front_table::fronts::Fronts;
+use front_table::sets::SizeSet;
 use front_table::strips::Limits;
 use glass_base::Defect;
 
-/// Where strips begin, and how far they may reach, in mm.
+/// Where strips can begin, and how far they may reach, in mm.
 #[derive(Clone, Copy)]
 pub struct StripBegin {
-    pub left: u32,
+    pub left: SizeSet,
     pub room: u32,
     pub height: u32,
     pub widest: u32,
@@ -16,7 +17,7 @@ pub struct StripBegin {
     pub waste: u32,
 }
 
-/// The stretch of a plate behind a left side, with the defects that lie there: which strips are looked for on it, and all fronts.
+/// The stretch of a plate behind its least left side, with the defects that lie there: which strips are looked for on it, and all fronts.
 #[derive(Clone, Copy)]
 pub struct Stretch<'a> {
     pub fronts: Fronts<'a>,

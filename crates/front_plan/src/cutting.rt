@@ -1,17 +1,15 @@
-//! The steps of a strip: which bands and cells it is made of is found from its end back. What comes of it is a guess, which has to be asked of the rules.
+//! The steps of a band: which cells it is made of is found from its end back. What comes of it is a guess, which has to
+//! be asked of the rules.
 
-ghost use Rattle.std.specs.Prelude.{◌≡◌, ◌<◌, length, OnOk};
+ghost use Rattle.std.specs.Prelude.{◌≡◌, length};
 
-use crate::ends_at::{Between, Strip, strips_between};
-use crate::parts::{FrontPart, Of, Whole, parts_of};
+use crate::cells::{FrontBand, FrontCell, cells_of};
 use crate::plan_search::PlanSearch;
 use cut_model::Step;
-use front_table::bands::bands_from;
 use front_table::halt::Halt;
 use front_table::lattice::due;
 use front_table::pools::LabelPool;
 use front_table::rows::{FrontRow, count};
-use front_table::sets::SizeSet;
 use glass_base::{Instance, Item, Run, append};
 
 /// So often a cell is moved to the right, out of a defect.
@@ -19,9 +17,9 @@ const SHIFTS: u32 = 8;
 
 /// Where the next piece goes: the plate, and the step that begins it.
 #[derive(Clone, Copy)]
-struct NextPiece {
-    plate: u32,
-    step: Step,
+pub struct NextPiece {
+    pub plate: u32,
+    pub step: Step,
 }
 
 /// An item, and the stack that it is taken off.
@@ -29,13 +27,6 @@ struct NextPiece {
 struct StackItem {
     stack: u32,
     item: Item,
-}
-
-/// The steps of a strip as far as they are found, and what is left of the choice among its bands and cells.
-#[derive(Drop)]
-struct Cutting {
-    steps: Run<Step>,
-    choice: u64,
 }
 
 /// The first stack from this one on off which an item is taken between two rows.
@@ -63,7 +54,7 @@ fn turn_of(item: &Item, wide: u32) -> u32 {
 fn item_over(
     instance: &Instance,
     rows: &[FrontRow],
-    cell: &FrontPart,
+    cell: &FrontCell,
     stack: u32,
 ) -> Option<StackItem> {
     let taken = count(rows, cell.from, stack);
@@ -85,7 +76,8 @@ fn is_line_clear(search: &PlanSearch<'_>, spot: &NextPiece, y: u32, right: u32) 
     search.ground.is_clear_y(spot.plate, y, at.e, right)
 }
 
-/// Whether an item that stands from one height to another in its cell meets no defect, and the lines over and below it run through none.
+/// Whether an item that stands from one height to another in its cell meets no defect, and the lines over and below it
+/// run through none.
 fn is_item_clear(
     search: &PlanSearch<'_>,
     spot: &NextPiece,
@@ -116,7 +108,8 @@ fn are_sides_clear(search: &PlanSearch<'_>, spot: &NextPiece, wide: u32) -> bool
     right >= at.b || search.ground.is_clear_x(spot.plate, right, at.c, at.d)
 }
 
-/// Whether the waste of a cell lies below its item, where that is clear of defects there, or above, where it is clear there; none where it is in neither place.
+/// Whether the waste of a cell lies below its item, where that is clear of defects there, or above, where it is clear
+/// there; none where it is in neither place.
 fn lift_of(
     search: &PlanSearch<'_>,
     spot: &NextPiece,
@@ -168,7 +161,7 @@ fn cut_over(
 fn cut_cell(
     search: &PlanSearch<'_>,
     steps: &mut Run<Step>,
-    cell: &FrontPart,
+    cell: &FrontCell,
     spot: &NextPiece,
 ) -> Result<bool, Halt> {
     let instance = search.fronts.instance;
@@ -180,12 +173,12 @@ fn cut_cell(
         return Ok(false);
     };
     let over = item_over(instance, rows, cell, stack);
-    let turn = turn_of(&item, cell.size);
+    let turn = turn_of(&item, cell.width);
     let high = height_of(&item, turn);
-    let Some(lift) = lift_of(search, spot, cell.size, high, over.is_none()) else {
+    let Some(lift) = lift_of(search, spot, cell.width, high, over.is_none()) else {
         return Ok(false);
     };
-    if !are_sides_clear(search, spot, cell.size) {
+    if !are_sides_clear(search, spot, cell.width) {
         return Ok(false);
     }
     let step = Step {
@@ -196,12 +189,13 @@ fn cut_cell(
     };
     append(steps, step)?;
     match over {
-        Some(over) => cut_over(search, steps, spot, cell.size, &over),
+        Some(over) => cut_over(search, steps, spot, cell.width, &over),
         None => Ok(true),
     }
 }
 
-/// Where a cell can begin that meets a defect where it would stand, behind the one of them that ends first, with a waste before it.
+/// Where a cell can begin that meets a defect where it would stand, behind the one of them that ends first, with a
+/// waste before it.
 fn begin_behind(search: &PlanSearch<'_>, spot: &NextPiece, left: u32, wide: u32) -> Option<u32> {
     let at = &spot.step;
     let right = at.e.saturating_add(wide);
@@ -222,7 +216,8 @@ fn begin_behind(search: &PlanSearch<'_>, spot: &NextPiece, left: u32, wide: u32)
     found
 }
 
-/// Where such a cell can begin, with no more than `spare` before it: all of that where less than a waste would be left of it.
+/// Where such a cell can begin, with no more than `spare` before it: all of that where less than a waste would be left
+/// of it.
 fn begin_within(
     search: &PlanSearch<'_>,
     spot: &NextPiece,
@@ -241,11 +236,12 @@ fn begin_within(
     Some(begin)
 }
 
-/// Appends the steps of a cell, behind a waste of no more than `spare` where it would meet a defect; where it begins, if there is such a cell, clear of defects.
+/// Appends the steps of a cell, behind a waste of no more than `spare` where it would meet a defect; where it begins,
+/// if there is such a cell, clear of defects.
 fn cut_cell_behind(
     search: &PlanSearch<'_>,
     steps: &mut Run<Step>,
-    cell: &FrontPart,
+    cell: &FrontCell,
     spot: &NextPiece,
     spare: u32,
 ) -> Result<Option<u32>, Halt> {
@@ -258,7 +254,7 @@ fn cut_cell_behind(
         for _ in many..steps.len() {
             let _step = steps.pop();
         }
-        let Some(begin) = begin_within(search, &at, spot.step.e, cell.size, spare) else {
+        let Some(begin) = begin_within(search, &at, spot.step.e, cell.width, spare) else {
             return Ok(None);
         };
         if begin <= at.step.e {
@@ -270,23 +266,23 @@ fn cut_cell_behind(
 }
 
 /// How wide some cells are together.
-fn width_of(cells: &[FrontPart]) -> u32 {
+fn width_of(cells: &[FrontCell]) -> u32 {
     let mut width: u32 = 0;
     for cell in cells {
-        width = width.saturating_add(cell.size);
+        width = width.saturating_add(cell.width);
     }
     width
 }
 
-/// Appends the steps of a band whose cells these are, the last one first; whether they were found clear of defects. What the cells leave of the band goes before those that would
-/// meet a defect.
+/// Appends the steps of a band whose cells these are, the last one first; whether they were found clear of defects.
+/// What the cells leave of the band goes before those that would meet a defect.
 fn cut_cells(
     search: &PlanSearch<'_>,
     steps: &mut Run<Step>,
-    cells: &[FrontPart],
-    spot: NextPiece,
+    cells: &[FrontCell],
+    spot: &NextPiece,
 ) -> Result<bool, Halt> {
-    let mut at = spot;
+    let mut at = *spot;
     let used = at.step.e.saturating_add(width_of(cells));
     let mut spare = at.step.b.saturating_sub(used);
     for cell in cells.iter().rev() {
@@ -295,127 +291,35 @@ fn cut_cells(
         };
         spare = spare.saturating_sub(begin.saturating_sub(at.step.e));
         at.step.kind = 3;
-        at.step.e = begin.saturating_add(cell.size);
+        at.step.e = begin.saturating_add(cell.width);
     }
     Ok(true)
 }
 
-/// Appends the steps of a band; whether its cells were found, clear of defects.
-fn cut_band(
-    pool: &mut LabelPool,
+/// The steps of a band that begins with this piece, by the cells that a search from its row left, and by a choice among
+/// them, where they are found clear of defects.
+pub fn cut_band(
+    pool: &LabelPool,
     search: &PlanSearch<'_>,
-    cutting: &mut Cutting,
-    band: &FrontPart,
-    spot: NextPiece,
-) -> Result<bool, Halt>
-    requires { length pool.old ≡ length search.now.fronts.rows.now }
-    ensures { OnOk result (length pool.new ≡ length pool.old) }
-{
-    let at = &spot.step;
-    let fronts = &search.fronts;
-    if band.from >= fronts.rows.len() {
-        return Ok(false);
-    }
-    let height = fronts.instance.params().height;
-    if at.d < height && at.a < at.b && !search.ground.is_clear_y(spot.plate, at.d, at.a, at.b) {
-        return Ok(false);
-    }
-    let _bands = bands_from(search.alloc, fronts, pool, band.from)?;
-    let whole = Whole {
-        of: Of::Cells,
-        start: band.from,
-        along: at.b.saturating_sub(at.a),
-        across: band.size,
-    };
-    let Some(cells) = parts_of(pool, search, &whole, band.to, &mut cutting.choice)? else {
-        return Ok(false);
-    };
-    cut_cells(search, &mut cutting.steps, cells.as_slice(), spot)
-}
-
-/// Appends the steps of a strip whose bands these are, the last one first; whether their cells were found, clear of defects.
-fn cut_bands(
-    pool: &mut LabelPool,
-    search: &PlanSearch<'_>,
-    cutting: &mut Cutting,
-    bands: &[FrontPart],
-    spot: NextPiece,
-) -> Result<bool, Halt>
-    requires { length pool.old ≡ length search.now.fronts.rows.now }
-    ensures { OnOk result (length pool.new ≡ length pool.old) }
-{
-    let mut at = spot;
-    for band in bands.iter().rev() {
-        at.step.d = at.step.c.saturating_add(band.size);
-        if !cut_band(pool, search, cutting, band, at)? {
-            return Ok(false);
-        }
-        at.step.kind = 2;
-        at.step.c = at.step.d;
-    }
-    Ok(true)
-}
-
-/// Whether a side of a strip runs through no defect.
-fn is_side_clear(search: &PlanSearch<'_>, plate: u32, x: u32) -> bool {
-    let height = search.fronts.instance.params().height;
-    if x == 0 || x >= search.fronts.instance.width(plate) || height == 0 {
-        return true;
-    }
-    search.ground.is_clear_x(plate, x, 0, height)
-}
-
-/// The steps of a strip, where its bands and cells are found, clear of defects. `kind` is 0 where it begins a plate, else 1; `choice` says which of all bands and cells are
-/// taken.
-pub fn cut_strip(
-    pool: &mut LabelPool,
-    search: &PlanSearch<'_>,
-    strip: &Strip,
-    kind: u32,
-    choice: u64,
+    band: &FrontBand,
+    spot: &NextPiece,
+    choice: &mut u64,
 ) -> Result<Option<Run<Step>>, Halt>
-    requires from { strip.now.from < length search.now.fronts.rows.now }
-    requires class { strip.now.class < length search.now.fronts.tops.now }
-    requires pool { length pool.old ≡ length search.now.fronts.rows.now }
-    ensures { OnOk result (length pool.new ≡ length pool.old) }
+    requires { length pool.now ≡ length search.now.fronts.rows.now }
 {
-    let end = strip.end;
-    if !is_side_clear(search, end.plate, strip.left)
-        || !is_side_clear(search, end.plate, end.right)
-    {
+    if band.from >= search.fronts.rows.len() {
         return Ok(None);
     }
-    let between = Between {
-        from: strip.from,
-        begins: SizeSet::only(strip.left),
-        end,
-    };
-    strips_between(pool, search, &between, strip.class)?;
-    let whole = Whole {
-        of: Of::Bands,
-        start: strip.from,
-        along: search.fronts.instance.params().height,
-        across: end.right.saturating_sub(strip.left),
-    };
-    let mut cutting = Cutting {
-        steps: Run::new(search.alloc),
-        choice,
-    };
-    let Some(bands) = parts_of(pool, search, &whole, end.row, &mut cutting.choice)? else {
+    let Some(cells) = cells_of(pool, search, band, choice)? else {
         return Ok(None);
     };
-    let spot = NextPiece {
-        plate: end.plate,
-        step: Step {
-            kind,
-            a: strip.left,
-            b: end.right,
-            e: strip.left,
-            ..Step::NONE
-        },
-    };
-    if cut_bands(pool, search, &mut cutting, bands.as_slice(), spot)? {
-        return Ok(Some(cutting.steps));
+    // what is left of the choice says that these cells were chosen before
+    if *choice > 0 {
+        return Ok(None);
+    }
+    let mut steps = Run::new(search.alloc);
+    if cut_cells(search, &mut steps, cells.as_slice(), spot)? {
+        return Ok(Some(steps));
     }
     Ok(None)
 }

@@ -1,9 +1,10 @@
-//! A plan along the fronts, strip by strip from its end back. What comes of it is a guess, which has to be asked of the rules.
+//! A plan along the fronts, strip by strip from its end back. What comes of it is a guess, which has to be asked of the
+//! rules.
 
 ghost use Rattle.std.specs.Prelude.{◌≡◌, ◌<◌, length, OnOk};
 
-use crate::cutting::cut_strip;
 use crate::ends_at::{Between, Side, Strip, begins_behind, lefts_of, side_before, strips_between};
+use crate::piling::pile_strip;
 use crate::plan_search::PlanSearch;
 use cut_model::{Step, Trace};
 use front_table::far::low_of;
@@ -13,11 +14,23 @@ use front_table::pools::LabelPool;
 use front_table::rows::{area_left, glass_of};
 use glass_base::{Run, append};
 
-/// So many choices of its bands and cells are tried for a strip,
-const CHOICES: u64 = 16;
-
-/// and so many strips for a plan.
+/// For a plan so many strips, and piles of bands in them, are tried.
 const TRIES: u64 = 1_000;
+
+/// What may still be tried for a plan.
+#[derive(Drop)]
+struct Efforts {
+    tries: u64,
+    /// The sides to which no strips lead.
+    dead: Vec<Side>,
+}
+
+/// The end of a strip that was found, and how many steps there were before it was.
+#[derive(Clone, Copy)]
+struct Turn {
+    end: Side,
+    steps: usize,
+}
 
 /// The strips of a class that may follow a side of a row, up to one of another row.
 #[derive(Clone, Copy)]
@@ -36,13 +49,23 @@ struct FoundStrip {
     before: Side,
 }
 
-/// A strip that begins here, by one choice of its bands and cells.
+/// Whether no strips lead to a side.
+fn is_dead(dead: &[Side], side: &Side) -> bool {
+    for known in dead {
+        if known.row == side.row && known.plate == side.plate && known.right == side.right {
+            return true;
+        }
+    }
+    false
+}
+
+/// A strip that begins here.
 fn strip_at(
     pool: &mut LabelPool,
     search: &PlanSearch<'_>,
     candidates: &Candidates<'_>,
     left: u32,
-    choice: u64,
+    efforts: &mut Efforts,
 ) -> Result<Option<FoundStrip>, Halt>
     requires from { candidates.now.between.from < length search.now.fronts.rows.now }
     requires class { candidates.now.class < length search.now.fronts.tops.now }
@@ -59,6 +82,10 @@ fn strip_at(
         end.plate,
         left,
     );
+    if efforts.tries == 0 || is_dead(efforts.dead.as_slice(), &before) {
+        return Ok(None);
+    }
+    efforts.tries -= 1;
     let is_first = from + 1 == search.fronts.rows.len();
     let kind = if is_first || before.plate != end.plate {
         0
@@ -71,36 +98,10 @@ fn strip_at(
         left,
         end,
     };
-    let Some(steps) = cut_strip(pool, search, &strip, kind, choice)? else {
+    let Some(steps) = pile_strip(pool, search, &strip, kind, &mut efforts.tries)? else {
         return Ok(None);
     };
     Ok(Some(FoundStrip { steps, before }))
-}
-
-/// A strip that begins here, by one choice of its bands and cells after another, while tries are left.
-fn strip_by_choice(
-    pool: &mut LabelPool,
-    search: &PlanSearch<'_>,
-    candidates: &Candidates<'_>,
-    left: u32,
-    tries: &mut u64,
-) -> Result<Option<FoundStrip>, Halt>
-    requires from { candidates.now.between.from < length search.now.fronts.rows.now }
-    requires class { candidates.now.class < length search.now.fronts.tops.now }
-    requires pool { length pool.old ≡ length search.now.fronts.rows.now }
-    ensures { OnOk result (length pool.new ≡ length pool.old) }
-{
-    for choice in 0..CHOICES {
-        if *tries == 0 {
-            return Ok(None);
-        }
-        *tries -= 1;
-        let found = strip_at(pool, search, candidates, left, choice)?;
-        if found.is_some() {
-            return Ok(found);
-        }
-    }
-    Ok(None)
 }
 
 /// A strip of a class.
@@ -108,7 +109,7 @@ fn strip_of_class(
     pool: &mut LabelPool,
     search: &PlanSearch<'_>,
     candidates: &Candidates<'_>,
-    tries: &mut u64,
+    efforts: &mut Efforts,
 ) -> Result<Option<FoundStrip>, Halt>
     requires from { candidates.now.between.from < length search.now.fronts.rows.now }
     requires class { candidates.now.class < length search.now.fronts.tops.now }
@@ -126,7 +127,7 @@ fn strip_of_class(
         end.right,
     )?;
     for left in &lefts {
-        let found = strip_by_choice(pool, search, candidates, *left, tries)?;
+        let found = strip_at(pool, search, candidates, *left, efforts)?;
         if found.is_some() {
             return Ok(found);
         }
@@ -140,7 +141,7 @@ fn strip_of(
     search: &PlanSearch<'_>,
     side: &FrontLabel,
     between: &Between,
-    tries: &mut u64,
+    efforts: &mut Efforts,
 ) -> Result<Option<FoundStrip>, Halt>
     requires from { between.now.from < length search.now.fronts.rows.now }
     requires pool { length pool.old ≡ length search.now.fronts.rows.now }
@@ -166,7 +167,7 @@ fn strip_of(
             between: *between,
             class,
         };
-        let found = strip_of_class(pool, search, &candidates, tries)?;
+        let found = strip_of_class(pool, search, &candidates, efforts)?;
         if found.is_some() {
             return Ok(found);
         }
@@ -181,7 +182,7 @@ fn strip_from(
     sides: &LabelPool,
     from: usize,
     end: Side,
-    tries: &mut u64,
+    efforts: &mut Efforts,
 ) -> Result<Option<FoundStrip>, Halt>
     requires from { from < length search.now.fronts.rows.now }
     requires down { end.row < from }
@@ -192,7 +193,7 @@ fn strip_from(
     for side in sides.labels(from) {
         if let Some(begins) = begins_behind(search.fronts.instance, side, end.plate) {
             let between = Between { from, begins, end };
-            let found = strip_of(pool, search, side, &between, tries)?;
+            let found = strip_of(pool, search, side, &between, efforts)?;
             if found.is_some() {
                 return Ok(found);
             }
@@ -207,17 +208,17 @@ fn strip_to(
     search: &PlanSearch<'_>,
     sides: &LabelPool,
     end: Side,
-    tries: &mut u64,
+    efforts: &mut Efforts,
 ) -> Result<Option<FoundStrip>, Halt>
     requires pool { length pool.old ≡ length search.now.fronts.rows.now }
     requires sides { length sides.now ≡ length search.now.fronts.rows.now }
     ensures { OnOk result (length pool.new ≡ length pool.old) }
 {
     for from in end.row.saturating_add(1)..search.fronts.rows.len() {
-        if *tries == 0 {
+        if efforts.tries == 0 {
             return Ok(None);
         }
-        let found = strip_from(pool, search, sides, from, end, tries)?;
+        let found = strip_from(pool, search, sides, from, end, efforts)?;
         if found.is_some() {
             return Ok(found);
         }
@@ -233,7 +234,18 @@ fn append_back(all: &mut Run<Step>, steps: &[Step]) -> Result<(), Halt> {
     Ok(())
 }
 
-/// A trace that ends at a side, by the right sides that a search within its length left, where a strip is found each time.
+/// Takes back the strip that was found last, and its end, which is the next one to be tried again; none where there is
+/// no strip.
+fn turn_back(steps: &mut Run<Step>, turns: &mut Vec<Turn>) -> Option<Side> {
+    let turn = turns.pop()?;
+    for _ in turn.steps..steps.len() {
+        let _step = steps.pop();
+    }
+    Some(turn.end)
+}
+
+/// A trace that ends at a side, by the right sides that a search within its length left, where strips are found. A side
+/// to which none lead is left out, and other strips are looked for before it.
 pub fn trace_to(
     pool: &mut LabelPool,
     search: &PlanSearch<'_>,
@@ -245,18 +257,31 @@ pub fn trace_to(
     ensures { OnOk result (length pool.new ≡ length pool.old) }
 {
     let mut steps = Run::new(search.alloc);
+    let mut turns = Vec::new(search.alloc);
     let mut end = last;
-    let mut tries = TRIES;
-    for _ in 0..search.fronts.rows.len() {
+    let mut efforts = Efforts {
+        tries: TRIES,
+        dead: Vec::new(search.alloc),
+    };
+    for _ in 0..TRIES {
         if end.row >= search.fronts.rows.len() - 1 {
             steps.reverse();
             return Ok(Some(Trace { steps }));
         }
-        let Some(found) = strip_to(pool, search, sides, end, &mut tries)? else {
-            return Ok(None);
-        };
-        append_back(&mut steps, found.steps.as_slice())?;
-        end = found.before;
+        if let Some(found) = strip_to(pool, search, sides, end, &mut efforts)? {
+            turns.push(Turn {
+                end,
+                steps: steps.len(),
+            })?;
+            append_back(&mut steps, found.steps.as_slice())?;
+            end = found.before;
+        } else {
+            efforts.dead.push(end)?;
+            let Some(back) = turn_back(&mut steps, &mut turns) else {
+                return Ok(None);
+            };
+            end = back;
+        }
     }
     Ok(None)
 }

@@ -44,7 +44,7 @@ pub struct Shown {
 }
 
 /// The trace of a course within a length, the shortest one first, where its strips are found: a guess.
-fn trace_within<R, L: Listener>(
+fn trace_within<R: Threads + Sync, L: Listener>(
     probe: &Probe<'_, R, L>,
     ground: Ground<'_>,
     fronts: &Fronts<'_>,
@@ -94,7 +94,7 @@ fn checked(ground: Ground<'_>, trace: Option<Trace>) -> Option<Trace>
 }
 
 /// A plan along the fronts within a length, where one is found within the limit.
-fn plan_within<R, L: Listener>(
+fn plan_within<R: Threads + Sync, L: Listener>(
     probe: &Probe<'_, R, L>,
     ground: Ground<'_>,
     joined: &Option<Joined>,
@@ -113,8 +113,9 @@ fn plan_within<R, L: Listener>(
     Ok(checked(ground, own))
 }
 
-/// A plan along the fronts that is shorter than `most`, within a length that no course is below, or else within longer ones, step by step.
-fn plan_below<R, L: Listener>(
+/// A plan along the fronts that is shorter than `most`, within a length that no course is below, or else within longer
+/// ones, step by step.
+fn plan_below<R: Threads + Sync, L: Listener>(
     probe: &Probe<'_, R, L>,
     ground: Ground<'_>,
     joined: &Option<Joined>,
@@ -170,10 +171,11 @@ fn shown_by_fronts<R: Threads + Sync, L: Listener>(
     Ok(Shown { length, plan })
 }
 
-/// A length up to `most`, in mm, of which it is shown that no lawful plan is shorter, as `longest_shown` gives it, and a plan that was looked for along a
-/// shortest course: the trace has a step for each item and meets the rules. That one is found, and that it is so short, is not promised; where there is no defect, it mostly is,
-/// and then no plan loses less. There is none where a strip of the course is found only around defects, or where the search reaches its limit; and none
-/// is looked for where `most` itself is shown, since who knows a plan of that length needs no other.
+/// A length up to `most`, in mm, of which it is shown that no lawful plan is shorter, as `longest_shown` gives it, and
+/// a plan that was looked for along a shortest course: the trace has a step for each item and meets the rules. That one
+/// is found, and that it is so short, is not promised; mostly it is, and then no plan loses less. There is none where
+/// the strips of so short a plan are not among those that are tried, or where the search reaches its limit; and none is
+/// looked for where `most` itself is shown, since who knows a plan of that length needs no other.
 pub fn longest_with_plan<R: Threads + Sync, L: Listener>(
     alloc: Global,
     ground: Ground<'_>,

@@ -1,5 +1,5 @@
 -- What lists of labels stand for.
-use Rattle.std.proofs.Common.{◌≡◌, ℕ, zero, suc, ◌<◌, ◌≤◌, ◌⊎◌, inl, inr, List, [], ◌∷◌, ◌++◌, length, get_or, sym, ap, subst, arith, Contains}
+use Rattle.std.proofs.Common.{◌≡◌, ℕ, zero, suc, ◌<◌, ◌≤◌, ◌⊎◌, inl, inr, List, [], ◌∷◌, ◌++◌, length, get_or, refl, sym, ap, subst, arith, Contains}
 use Rattle.std.specs.List.{swap_remove}
 use Rattle.std.proofs.lemmas.List.Elements.{Contains-get_or, Contains-append_left, Contains-push}
 use Rattle.std.proofs.lemmas.List.Sorted.{Contains-permutation, IsPermutation-swap_remove}
@@ -62,8 +62,8 @@ keeps_push old thinned l thin x y right up held =
     ]
 
 -- of a label itself, as far as it reaches
-pub stands_itself : (l : FrontLabel) (x y : ℕ) → Fits l x y → Stands l x y l.right l.up
-stands_itself l x y fits = (fits, omega arith, omega arith)
+pub stands_itself : (l : FrontLabel) (x y : ℕ) → Fits l x y → Stands l x y l.right.least l.up
+stands_itself l x y fits = (fits, inl refl, omega arith)
 
 -- what holds of each label holds of what the list stands for
 pub held_each : (labels : List FrontLabel) (Q : ℕ → ℕ → Type 0) → ((k : ℕ) (d : FrontLabel) → k < length labels → (x y : ℕ) → Fits (get_or labels k d) x y → Q x y) → (x y : ℕ) → Held labels x y → Q x y
@@ -76,7 +76,7 @@ keeps_to old new x y right up keeps held = keeps x y right up held
 
 pub keeps_held : (old new : List FrontLabel) (x y : ℕ) → Keeps old new → Held old x y → Held new x y
 unfolding Keeps Held HeldTo
-keeps_held old new x y keeps (l, has, fits) = held_of new x y l.right l.up (keeps x y l.right l.up (l, has, stands_itself l x y fits))
+keeps_held old new x y keeps (l, has, fits) = held_of new x y l.right.least l.up (keeps x y l.right.least l.up (l, has, stands_itself l x y fits))
 
 pub keeps_then : (old mid new : List FrontLabel) → Keeps old mid → Keeps mid new → Keeps old new
 unfolding Keeps

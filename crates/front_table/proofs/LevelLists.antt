@@ -33,7 +33,7 @@ same_pushed levels level n lt = record {
   bands = ap unpacked_all (seen_old (λ (l : RowFacts). l.bands.items) levels level n [] lt);
   ends = seen_old (λ (l : RowFacts). l.ends.items) levels level n [] lt;
   to_go = seen_old (λ (l : RowFacts). l.to_go) levels level n 0 lt;
-  tails = λ k. ap (λ tails. get_or (map (λ v. v.items) tails) k []) (seen_old (λ (l : RowFacts). l.tails.items) levels level n [] lt);
+  tails = λ k. ap (λ tails. get_or (tails) k []) (seen_old (λ (l : RowFacts). l.tails.items) levels level n [] lt);
 }
 
 pub last_pushed : (levels : List RowFacts) (level : RowFacts) → IsLast (levels ++ level ∷ []) (length levels) level
@@ -41,7 +41,7 @@ last_pushed levels level = record {
   bands = ap unpacked_all (seen_new (λ (l : RowFacts). l.bands.items) levels level []);
   ends = seen_new (λ (l : RowFacts). l.ends.items) levels level [];
   to_go = seen_new (λ (l : RowFacts). l.to_go) levels level 0;
-  tails = λ k. ap (λ tails. get_or (map (λ v. v.items) tails) k []) (seen_new (λ (l : RowFacts). l.tails.items) levels level []);
+  tails = λ k. ap (λ tails. get_or (tails) k []) (seen_new (λ (l : RowFacts). l.tails.items) levels level []);
 }
 
 -- what is known of a row stays known

@@ -17,7 +17,7 @@ use Rattle.front_table.specs.Lattice.{At}
 use Rattle.front_table.specs.Leads.{BandsLead, Moved, cells_area}
 use Rattle.front_table.specs.Levels.{to_go_at}
 use Rattle.front_table.specs.Ready.{ClassTails}
-use Rattle.front_table.specs.Tails.{unit_in, tail_at, tails_at, IsLower, AreBehind, AreBehindBand, AreBehindBands, AllBehind, AllLower, HasTails, HasTailsBehind}
+use Rattle.front_table.specs.Tails.{unit_in, tail_at, tails_at, IsLower, AreBehind, AreBehindBand, AreBehindBands, AllBehind, AllLower, HasTails, HasTailsBehind, tails_of_all}
 use Rattle.front_table.specs.Ends.{LeadsBelow}
 use Rattle.front_table.proofs.HeldLists.{least_first}
 use Rattle.front_table.proofs.StripRuns.{bands_below}
@@ -88,25 +88,38 @@ has_tails b rows top unit to_go n behind tails one less least has f at w [] are 
 has_tails b rows top unit to_go n behind tails one less least has f at w (band ∷ rest) are narrow most within m to k below =
     omega (arith, less k, has f at w (band ∷ rest) (omega arith) are narrow most within m to k below)
 
--- one class more
-pub lower_none : (old : List (List ℕ)) (most : ℕ) → AllLower [] old most 0
-unfolding AllLower
-lower_none old most = (refl, λ k lt. absurd (omega (arith, lt)))
+-- one class more is lowered, and those behind it are as they were
+pub record LoweredTo (all old : List (List ℕ)) (most many : ℕ) : Type 0 where
+  pub len : length all ≡ length old
+  pub done : (k : ℕ) → k < many → IsLower (tails_of_all all k) (tails_of_all old k) × ((j : ℕ) → tail_at (tails_of_all all k) j ≤ most)
+  pub rest : (k : ℕ) → many ≤ k → tails_of_all all k ≡ tails_of_all old k
 
-pub lower_next : (all other old : List (List ℕ)) (tails : List ℕ) (most many : ℕ) → AllLower all old most many → other ≡ all ++ tails ∷ [] → IsLower tails (get_or old many []) → ((j : ℕ) → tail_at tails j ≤ most) → AllLower other old most (many + 1)
+pub lowered_none : (all : List (List ℕ)) (most : ℕ) → LoweredTo all all most 0
+lowered_none all most = record { len = refl; done = λ k lt. absurd (omega (arith, lt)); rest = λ k le. refl }
+
+pub lowered_next : (all other old : List (List ℕ)) (most many : ℕ) → LoweredTo all old most many → length other ≡ length all → ((k : ℕ) → (k ≡ many → ⊥) → tails_of_all other k ≡ tails_of_all all k) →
+    IsLower (tails_of_all other many) (tails_of_all all many) → ((j : ℕ) → tail_at (tails_of_all other many) j ≤ most) → LoweredTo other old most (many + 1)
+lowered_next all other old most many to len others lower low = record {
+  len = len ∙ to.len;
+  done = λ k le.
+      elim (cases_lt k many) [
+        | inl before ↦ subst (λ l. IsLower l (tails_of_all old k) × ((j : ℕ) → tail_at l j ≤ most)) (sym (others k (λ e. absurd (omega (arith, e, before))))) (to.done k before)
+        | inr here ↦
+            let same : many ≡ k = omega (arith, le, here) in
+            subst (λ n. IsLower (tails_of_all other n) (tails_of_all old n) × ((j : ℕ) → tail_at (tails_of_all other n) j ≤ most)) same
+            (subst (λ l. IsLower (tails_of_all other many) l) (to.rest many (omega arith)) lower, low)
+      ];
+  rest = λ k le. others k (λ e. absurd (omega (arith, e, le))) ∙ to.rest k (omega (arith, le));
+}
+
+-- no more than what is greater
+pub lowered_all : (all old : List (List ℕ)) (most to_go many : ℕ) → LoweredTo all old most many → most ≤ to_go → length old ≤ many → AllLower all old to_go (length old)
 unfolding AllLower
-lower_next all other old tails most many has is lower low = subst (λ l. AllLower l old most (many + 1)) (sym is) (omega (arith, length-append all (tails ∷ []), has.0), each)
-  where
-    each : (k : ℕ) → k < many + 1 → IsLower (get_or (all ++ tails ∷ []) k []) (get_or old k []) × ((j : ℕ) → tail_at (get_or (all ++ tails ∷ []) k []) j ≤ most)
-    each k le =
-        elim (cases_lt k many) [
-          | inl old_one ↦
-              subst (λ l. IsLower l (get_or old k []) × ((j : ℕ) → tail_at l j ≤ most)) (sym (get_or_append_left all (tails ∷ []) [] k (omega (arith, old_one, has.0)))) (has.1 k old_one)
-          | inr new ↦
-              let here : k ≡ length all = omega (arith, le, new, has.0) in
-              let e : get_or (all ++ tails ∷ []) k [] ≡ tails = ap (λ i. get_or (all ++ tails ∷ []) i []) here ∙ get_or-append_seam all tails [] [] in
-              subst (λ l. IsLower l (get_or old k []) × ((j : ℕ) → tail_at l j ≤ most)) (sym e) (subst (λ n. IsLower tails (get_or old n [])) (omega (arith, here, has.0)) lower, low)
-        ]
+lowered_all all old most to_go many to le whole = (to.len, λ k lt. ((to.done k (omega (arith, lt, whole))).0, λ j. omega (arith, (to.done k (omega (arith, lt, whole))).1 j, le)))
+
+pub lower_length : (all old : List (List ℕ)) (most many : ℕ) → AllLower all old most many → length all ≡ many
+unfolding AllLower
+lower_length all old most many has = has.0
 
 pub behind_none : (levels : List RowFacts) (bands : List Move) (tops : List ℕ) (unit : ℕ) → AllBehind [] levels bands tops unit 0
 unfolding AllBehind

@@ -10,7 +10,7 @@ unpacked_set s = record { least = s.least; more = s.more }
 
 -- the band that is kept so
 abbrev pub unpacked : PackedBand → Move
-unpacked p = record { to = p.to; label = record { along = unpacked_set p.along; across = unpacked_set p.across; right = 0; up = 0 } }
+unpacked p = record { to = p.to; label = record { along = unpacked_set p.along; across = unpacked_set p.across; right = record { least = 0; more = 0 }; up = 0 } }
 
 abbrev pub unpacked_all : List PackedBand → List Move
 unpacked_all bands = map unpacked bands

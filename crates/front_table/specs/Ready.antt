@@ -15,7 +15,7 @@ use Rattle.front_table.specs.Lattice.{At, IsLattice}
 use Rattle.front_table.specs.Leads.{BandsLead}
 use Rattle.front_table.specs.Levels.{bands_at, ends_at, to_go_at, IsToGo}
 use Rattle.front_table.specs.Packed.{unpacked_all}
-use Rattle.front_table.specs.Tails.{HasTails, HasTailsBehind, IsLower, tail_at, tails_at, unit_in}
+use Rattle.front_table.specs.Tails.{HasTails, HasTailsBehind, IsLower, tail_at, tails_at, tails_of_all, unit_in}
 use Rattle.front_table.specs.Widths.{Rises}
 
 -- what is known of a row and of those below another one, so that strips can be looked for from it
@@ -42,7 +42,7 @@ TailsBelow b rows levels class bound to_go start = (n : ℕ) → n < start → H
 
 -- the tails of a row in a class of strips
 abbrev pub tails_in : RowFacts → ℕ → List ℕ
-tails_in level k = slice_index_or (map (λ v. v.items) level.tails.items) k []
+tails_in level k = tails_of_all level.tails.items k
 
 -- a row's ends and bands
 pub record IsLevel (b : Problem) (rows : List FrontRow) (levels : List RowFacts) (n : ℕ) : Type 0 where

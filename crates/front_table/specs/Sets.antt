@@ -15,9 +15,9 @@ Fits l x y = Has l.along x × Has l.across y
 unfoldable pub Held : List FrontLabel → ℕ → ℕ → Type 0
 Held labels x y = (l : FrontLabel) × Contains labels l × Fits l x y
 
--- the same, of pieces that reach as far to the right and up as the label asks for
+-- the same, of pieces behind which, around defects, the next one can begin at `right`, and which reach up to `up` at the most
 abbrev pub Stands : FrontLabel → ℕ → ℕ → ℕ → ℕ → Type 0
-Stands l x y right up = Fits l x y × (l.right ≤ right) × (l.up ≤ up)
+Stands l x y right up = Fits l x y × Has l.right right × (l.up ≤ up)
 
 unfoldable pub HeldTo : List FrontLabel → ℕ → ℕ → ℕ → ℕ → Type 0
 HeldTo labels x y right up = (l : FrontLabel) × Contains labels l × Stands l x y right up

@@ -15,8 +15,12 @@ unit_in height = height / 64 + 1
 abbrev pub tail_at : List ℕ → ℕ → ℕ
 tail_at tails k = slice_index_or tails k 0
 
+-- the tails of a class
+abbrev pub tails_of_all : List (List ℕ) → ℕ → List ℕ
+tails_of_all all class = slice_index_or all class []
+
 abbrev pub tails_at : List RowFacts → ℕ → ℕ → List ℕ
-tails_at levels n class = slice_index_or (map (λ v. v.items) (slice_index_or (map (λ l. l.tails.items) levels) n [])) class []
+tails_at levels n class = tails_of_all (slice_index_or (map (λ l. l.tails.items) levels) n []) class
 
 -- none of the tails is more than it was
 abbrev pub IsLower : List ℕ → List ℕ → Type 0

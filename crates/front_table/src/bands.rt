@@ -157,7 +157,7 @@ pub fn bands_from(
             least: params.min2,
             more: 0,
         },
-        right: 0,
+        right: SizeSet::all(),
         up: 0,
     };
     pool.offer(start, &none)?;

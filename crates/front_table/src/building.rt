@@ -163,7 +163,7 @@ fn push_cell(moves: &mut Vec<Move>, to: u32, wide: u32, across: SizeSet) -> Resu
     let label = FrontLabel {
         along: SizeSet::only(wide),
         across,
-        right: 0,
+        right: SizeSet::all(),
         up: 0,
     };
     moves.push(Move { to, label })?;

@@ -81,11 +81,11 @@ pub fn near(ends: &[End], within: u64) -> Option<u64>
     }
 }
 
-/// How wide steps are that ends stand in, as a power of 2 in mm², where no more than this area is before them: there are less than 256.
+/// How wide steps are that ends stand in, as a power of 2 in mm², where no more than this area is before them: there are less than 128.
 pub fn shift_of(most: u64) -> u32
-    ensures { result ≤ 56 }
+    ensures { result ≤ 57 }
 {
-    (64 - most.leading_zeros()).saturating_sub(8)
+    (64 - most.leading_zeros()).saturating_sub(7)
 }
 
 /// The step that an area lies in, where each is 2^`shift` mm² wide.

@@ -15,7 +15,7 @@ use crate::packed::pack_all;
 use crate::pools::LabelPool;
 use crate::rows::{links_lead_below, links_of};
 use crate::stairs::{ends_behind, with_itself};
-use crate::tails::{all_tails, all_tails_behind, unit_of};
+use crate::tails::{all_tails_behind, lower_all, unit_of};
 use std::alloc::Global;
 
 /// What leads on from a row, and its ends, of which it is not known what is to go from it.
@@ -60,7 +60,8 @@ fn close_row(
     ensures { IfOk result (λ closed. IsClosed opened closed far) }
 {
     let ends = with_itself(alloc, opened.ends.as_slice(), far, cover)?;
-    let tails = all_tails(alloc, opened.tails.as_slice(), far)?;
+    let mut tails = opened.tails;
+    lower_all(tails.as_mut_slice(), far);
     Ok(RowFacts {
         bands: opened.bands,
         ends,

@@ -12,8 +12,9 @@ use crate::sets::SizeSet;
 pub struct FrontLabel {
     pub along: SizeSet,
     pub across: SizeSet,
-    /// Around defects they end no further left and no lower than this on their plate, in mm; elsewhere both are 0.
-    pub right: u32,
+    /// Around defects: where on the plate what comes next to the right can begin, and how far up they reach at least, in
+    /// mm. Elsewhere all sizes, and 0.
+    pub right: SizeSet,
     pub up: u32,
 }
 
@@ -23,13 +24,16 @@ impl FrontLabel {
         ensures { IsTrue result → (x y right up : ℕ) → Stands other.now x y right up
             → Stands self.now x y right up }
     {
-        if self.right > other.right {
-            return false;
-        }
         if self.up > other.up {
             return false;
         }
-        self.along.covers(&other.along) && self.across.covers(&other.across)
+        if !self.along.covers(&other.along) {
+            return false;
+        }
+        if !self.across.covers(&other.across) {
+            return false;
+        }
+        self.right.covers(&other.right)
     }
 }
 
@@ -84,9 +88,17 @@ pub fn offer(labels: &mut Vec<FrontLabel>, label: &FrontLabel) -> Result<(), Hal
     Ok(())
 }
 
-/// Puts labels in the order of how far up they reach.
-pub fn sort_by_reach(labels: &mut Vec<FrontLabel>)
+/// Puts labels in the order of their least sizes along.
+pub fn sort_by_least(labels: &mut Vec<FrontLabel>)
     ensures { Keeps labels.old.items labels.new.items }
 {
-    labels.sort_unstable_by_key(|label| label.up);
+    labels.sort_unstable_by_key(|label| label.along.least);
+}
+
+/// Puts right sides in the order of their plates, and on each from the left on. Of a list in which none covers another no
+/// two are at the same place, so it is the same order wherever they came from.
+pub fn sort_by_plate(labels: &mut Vec<FrontLabel>)
+    ensures { Keeps labels.old.items labels.new.items }
+{
+    labels.sort_unstable_by_key(|label| (label.across.least, label.along.least));
 }

@@ -44,10 +44,17 @@ pub struct FrontLevel<'a> {
 }
 
 /// No more lanes than this.
-const MOST_LANES: u32 = 8;
+pub const MOST_LANES: u32 = 8;
 
 /// For so many rows of a level a thread is worth its while.
 const ROWS_A_THREAD: usize = 4;
+
+/// How many threads are worth their while for so many rows of a level, with so many lanes.
+pub fn threads_for(rows: usize, lanes: usize) -> usize
+    ensures { 1 ≤ result }
+{
+    rows.div_ceil(ROWS_A_THREAD).min(lanes).max(1)
+}
 
 /// A lane that has made nothing.
 fn new_lane(alloc: Global, rows: usize) -> Result<RowLane, Halt>
@@ -138,7 +145,7 @@ pub fn make_level<R: Threads + Sync>(rt: &R, level: &FrontLevel<'_>, lanes: &mut
         → HasMade level.now.fronts (slice_index_or lanes.new i d) }
 {
     let rows = level.end.saturating_sub(level.fronts.levels.len());
-    let threads = rows.div_ceil(ROWS_A_THREAD).min(lanes.len()).max(1);
+    let threads = threads_for(rows, lanes.len());
     thread::for_each_mut(
         rt,
         lanes,

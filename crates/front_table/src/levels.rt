@@ -10,6 +10,12 @@ use crate::ends::End;
 use crate::halt::Halt;
 use crate::packed::PackedBand;
 
+/// A plate's height has no more units than this.
+pub const UNITS: u32 = 64;
+
+/// For each height in units a tail.
+pub type Tails = [u16; UNITS as usize];
+
 /// What is known of a row.
 #[derive(Drop)]
 pub struct RowFacts {
@@ -22,7 +28,7 @@ pub struct RowFacts {
     /// The class of the first strip of those.
     pub class: usize,
     /// For each class of strips and each height in units: no more than is to go behind any stack of its bands that is lower than one unit more, in mm.
-    pub tails: Vec<Vec<u16>>,
+    pub tails: Vec<Tails>,
 }
 
 /// The bands from a row on.

@@ -10,7 +10,7 @@ pub mod far;
 pub mod fronts;
 pub mod halt;
 pub mod labels;
-mod lanes;
+pub mod lanes;
 pub mod lattice;
 pub mod levels;
 pub mod moves;

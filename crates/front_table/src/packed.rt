@@ -48,11 +48,12 @@ fn unpack_set(set: PackedSet) -> SizeSet
 fn pack(band: &Move) -> Option<PackedBand>
     ensures { IfSome result (λ packed. unpacked packed ≡ band.now) }
 {
-    if band.label.right != 0 || band.label.up != 0 {
+    let label = band.label;
+    if label.right.least != 0 || label.right.more != 0 || label.up != 0 {
         return None;
     }
-    let along = pack_set(&band.label.along)?;
-    let across = pack_set(&band.label.across)?;
+    let along = pack_set(&label.along)?;
+    let across = pack_set(&label.across)?;
     Some(PackedBand {
         to: band.to,
         along,
@@ -69,7 +70,7 @@ fn unpack(band: &PackedBand) -> Move
         label: FrontLabel {
             along: unpack_set(band.along),
             across: unpack_set(band.across),
-            right: 0,
+            right: SizeSet::all(),
             up: 0,
         },
     }

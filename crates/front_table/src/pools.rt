@@ -1,12 +1,13 @@
 //! Labels by the row of the front that they lead to, in lists that are used again.
 
-ghost use Rattle.std.specs.Prelude.{◌≡◌, ℕ, ◌+◌, ◌<◌, ◌≤◌, [], length, map, slice_index_or, OnOk, IfOk};
+ghost use Rattle.std.specs.Prelude.{◌≡◌, ℕ, ◌+◌, ◌<◌, ◌≤◌, [], length, map, slice_index_or, IsTrue, OnOk, IfOk};
 ghost use Rattle.front_table.specs.Pools.{HeldAt, IsSpan, Joined, Spreads, row_at};
 ghost use Rattle.front_table.specs.Sets.{Fits, HeldTo, Stands};
 
 use crate::halt::Halt;
-use crate::labels::{FrontLabel, offer, sort_by_reach};
+use crate::labels::{FrontLabel, offer, sort_by_least, sort_by_plate};
 use crate::moves::{Extent, Move};
+use crate::sets::SizeSet;
 use std::alloc::Global;
 use std::marker::Model;
 
@@ -90,6 +91,13 @@ impl LabelPool {
         self.low
     }
 
+    /// Whether no row from one on has labels; `false` says nothing.
+    pub fn ends_before(&self, row: usize) -> bool
+        ensures { IsTrue result → (n : ℕ) → row ≤ n → row_at self.now n ≡ [] }
+    {
+        self.last < row
+    }
+
     /// The labels that lead to a row.
     pub fn labels(&self, row: usize) -> &[FrontLabel]
         requires { row < length self.now }
@@ -125,14 +133,24 @@ impl LabelPool {
         Ok(())
     }
 
-    /// Puts the labels of a row in the order of how far up they reach.
+    /// Puts the labels of a row in the order of their least sizes along.
     pub fn sort(&mut self, row: usize)
         requires { row < length self.old }
         ensures { Spreads (row + 1) self.old self.new }
     {
         self.low = self.low.min(row);
         self.last = self.last.max(row);
-        sort_by_reach(&mut self.rows[row]);
+        sort_by_least(&mut self.rows[row]);
+    }
+
+    /// Puts the labels of a row, which are right sides, in the order of their plates.
+    pub fn sort_by_plate(&mut self, row: usize)
+        requires { row < length self.old }
+        ensures { Spreads (row + 1) self.old self.new }
+    {
+        self.low = self.low.min(row);
+        self.last = self.last.max(row);
+        sort_by_plate(&mut self.rows[row]);
     }
 
     /// Takes the labels of each row away.
@@ -166,7 +184,7 @@ pub fn join(
     let joined = FrontLabel {
         along: sum,
         across: shared,
-        right: 0,
+        right: SizeSet::all(),
         up: 0,
     };
     pool.offer(next.to as usize, &joined)?;

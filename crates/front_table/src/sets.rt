@@ -57,10 +57,18 @@ impl SizeSet {
     }
 
     /// All sizes from there on.
-    fn above(from: u64) -> SizeSet
+    pub fn above(from: u64) -> SizeSet
         ensures { result.least + result.more ≤ from }
     {
         SizeSet::reaching(from.min(u64::from(u32::MAX)) as u32, from)
+    }
+
+    /// All sizes.
+    pub fn all() -> SizeSet
+        ensures value { result ≡ record { least = 0; more = 0 } }
+        ensures each { (x : ℕ) → Has result x }
+    {
+        SizeSet { least: 0, more: 0 }
     }
 
     /// A size of each that come to this sum, where there are such.

@@ -85,7 +85,7 @@ fn try_band(
     let joined = FrontLabel {
         along: sum,
         across: shared,
-        right: 0,
+        right: SizeSet::all(),
         up: 0,
     };
     pool.offer(band.to as usize, &joined)?;
@@ -268,7 +268,7 @@ fn begin(pool: &mut LabelPool, row: usize, low: u32, waste: u32) -> Result<(), H
             least: low,
             more: 0,
         },
-        right: 0,
+        right: SizeSet::all(),
         up: 0,
     };
     pool.offer(row, &none)

@@ -1,17 +1,14 @@
 //! What is to go at least behind stacks of bands, by how high these are.
 
-ghost use Rattle.std.specs.Prelude.{◌≡◌, ℕ, ◌+◌, ◌*◌, ◌<◌, ◌≤◌, [], ◌∷◌, ◌++◌, IfOk, OnOk, length, map, slice_index_or};
-ghost use Rattle.front_table.specs.Tails.{AllBehind, AllLower, AreBehindBand, AreBehindBands, IsLower, tail_at, unit_in};
+ghost use Rattle.std.specs.Prelude.{◌≡◌, ℕ, ◌+◌, ◌*◌, ◌<◌, ◌≤◌, IfOk, length};
+ghost use Rattle.front_table.specs.Tails.{AllBehind, AllLower, AreBehindBand, AreBehindBands, IsLower, tail_at, tails_of_all, unit_in};
 ghost use Rattle.front_table.specs.Widths.{Rises};
 
 use crate::bands::{band_at, wide_at};
 use crate::halt::Halt;
-use crate::levels::{RowFacts, tails_of};
+use crate::levels::{RowFacts, Tails, UNITS, tails_of};
 use crate::moves::Move;
 use std::alloc::Global;
-
-/// A plate's height has no more units than this.
-pub const UNITS: u32 = 64;
 
 /// More than is to go from any front, or as much as a tail can say.
 const FAR: u16 = u16::MAX;
@@ -75,15 +72,6 @@ fn lower_to(tails: &mut [u16], most: u16)
     }
 }
 
-/// The tails of stacks of no bands: there are none.
-fn far_tails(alloc: Global) -> Result<Vec<u16>, Halt> {
-    let mut tails = Vec::new(alloc);
-    for _ in 0..UNITS {
-        tails.push(FAR)?;
-    }
-    Ok(tails)
-}
-
 /// Makes the tails of a row no more than those behind a band.
 fn lower_by_band(tails: &mut [u16], levels: &[RowFacts], class: usize, band: &Move, unit: u32)
     requires { 1 ≤ unit }
@@ -125,30 +113,14 @@ fn lower_by_bands(
 }
 
 /// The tails of a row in strips of a class that are no wider than this, of stacks of at least one band.
-fn tails_behind(
-    alloc: Global,
-    levels: &[RowFacts],
-    class: usize,
-    top: u32,
-    bands: &[Move],
-    unit: u32,
-) -> Result<Vec<u16>, Halt>
+fn tails_behind(levels: &[RowFacts], class: usize, top: u32, bands: &[Move], unit: u32) -> Tails
     requires unit { 1 ≤ unit }
     requires rises { Rises bands.now }
-    ensures { IfOk result (λ tails. AreBehindBands tails.items levels.now class top unit bands.now) }
+    ensures { AreBehindBands result levels.now class top unit bands.now }
 {
-    let mut tails = far_tails(alloc)?;
-    lower_by_bands(tails.as_mut_slice(), levels, class, top, bands, unit);
-    Ok(tails)
-}
-
-/// Appends a list.
-fn push_tails(all: &mut Vec<Vec<u16>>, tails: Vec<u16>) -> Result<(), Halt>
-    ensures { OnOk result (map (λ v. v.items) all.new.items
-        ≡ map (λ v. v.items) all.old.items ++ tails.items ∷ []) }
-{
-    all.push(tails)?;
-    Ok(())
+    let mut tails = [FAR; UNITS as usize];
+    lower_by_bands(&mut tails, levels, class, top, bands, unit);
+    tails
 }
 
 /// For each class of strips, which end at these widths, the tails of a row, of stacks of at least one band.
@@ -158,44 +130,36 @@ pub(crate) fn all_tails_behind(
     tops: &[u32],
     bands: &[Move],
     unit: u32,
-) -> Result<Vec<Vec<u16>>, Halt>
+) -> Result<Vec<Tails>, Halt>
     requires unit { 1 ≤ unit }
     requires rises { Rises bands.now }
-    ensures { IfOk result (λ all. AllBehind (map (λ v. v.items) all.items) levels.now bands.now
-        tops.now unit (length tops.now)) }
+    ensures { IfOk result (λ all. AllBehind all.items levels.now bands.now tops.now unit
+        (length tops.now)) }
 {
-    let mut all = Vec::new(alloc);
+    let mut all = Vec::with_capacity(alloc, tops.len())?;
     for class in 0..tops.len() {
-        let tails = tails_behind(alloc, levels, class, tops[class], bands, unit)?;
-        push_tails(&mut all, tails)?;
+        all.push(tails_behind(levels, class, tops[class], bands, unit))?;
     }
     Ok(all)
 }
 
-/// The same tails, and none more than this.
-fn lowered(tails: &Vec<u16>, most: u16) -> Result<Vec<u16>, Halt>
-    ensures lower { IfOk result (λ new. IsLower new.items tails.now.items) }
-    ensures most { IfOk result (λ new. (j : ℕ) → tail_at new.items j ≤ most) }
+/// Makes the tails of a class no more than this.
+fn lower_class(all: &mut [Tails], class: usize, most: u16)
+    requires { class < length all.old }
+    ensures len { length all.new ≡ length all.old }
+    ensures others { (k : ℕ) → (k ≡ class → ⊥) → tails_of_all all.new k ≡ tails_of_all all.old k }
+    ensures lower { IsLower (tails_of_all all.new class) (tails_of_all all.old class) }
+    ensures most { (j : ℕ) → tail_at (tails_of_all all.new class) j ≤ most }
 {
-    let mut new = tails.clone()?;
-    lower_to(new.as_mut_slice(), most);
-    Ok(new)
+    lower_to(&mut all[class], most);
 }
 
-/// The same with the stack of no bands, behind which this is to go.
-pub(crate) fn all_tails(
-    alloc: Global,
-    behind: &[Vec<u16>],
-    to_go: u64,
-) -> Result<Vec<Vec<u16>>, Halt>
-    ensures { IfOk result (λ all. AllLower (map (λ v. v.items) all.items)
-        (map (λ v. v.items) behind.now) to_go (length behind.now)) }
+/// Adds to the tails of a row the stack of no bands, behind which this is to go: none is more than that.
+pub(crate) fn lower_all(all: &mut [Tails], to_go: u64)
+    ensures { AllLower all.new all.old to_go (length all.old) }
 {
-    let mut all = Vec::new(alloc);
     let most = to_go.min(u64::from(FAR)) as u16;
-    for class in 0..behind.len() {
-        let tails = lowered(&behind[class], most)?;
-        push_tails(&mut all, tails)?;
+    for class in 0..all.len() {
+        lower_class(all, class, most);
     }
-    Ok(all)
 }

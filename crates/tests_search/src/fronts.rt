@@ -68,9 +68,14 @@ fn are_same(one: &Outcome, other: &Outcome) -> bool {
 
 #[test]
 fn fronts_show_the_same_on_each_number_of_threads(rt: HostRuntime) -> Result<(), Fail> {
-    // (the losses are those of a plain program)
-    for (start, items, loss) in [(12, 30, 1_819_605), (7, 20, 1_526_589)] {
-        let instance = generate(rt.alloc(), start, items, 0)?;
+    // (the losses are those of a plain program; around these defects there are plans that lose no more)
+    for (start, items, defects, loss) in [
+        (12, 30, 0, 1_819_605),
+        (7, 20, 0, 1_526_589),
+        (7, 20, 10, 1_526_589),
+        (12, 30, 5, 1_819_605),
+    ] {
+        let instance = generate(rt.alloc(), start, items, defects)?;
         let one = shown(&rt, rt.alloc(), &instance, 500_000_000, 1)?;
         assert_eq!(&rt; loss_at(&instance, one.length), loss);
         assert_eq!(&rt; one.steps.len(), items as usize);

@@ -7,7 +7,8 @@ use Rattle.front_table.specs.declared.labels.FrontLabel.{FrontLabel}
 use Rattle.front_bound.specs.declared.places.PieceToPlace.{PieceToPlace}
 use Rattle.front_bound.specs.declared.places.Corner.{Corner}
 use Rattle.front_table.specs.Pools.{HeldAt}
-use Rattle.front_table.specs.Sets.{HeldTo}
+use Rattle.front_table.specs.declared.sets.SizeSet.{SizeSet}
+use Rattle.front_table.specs.Sets.{Has, HeldTo}
 
 -- these are defects of the plate
 unfoldable pub AreHoles : Problem → ℕ → List Defect → Type 0
@@ -41,8 +42,8 @@ pub record IsFree (holes : List Defect) (p : PieceToPlace) (left low : ℕ) : Ty
 unfoldable pub Covered : List Corner → ℕ → ℕ → Type 0
 Covered places left low = (p : Corner) × Contains places p × (p.x ≤ left) × (p.y ≤ low)
 
--- right sides of a strip behind `begin`, whose sizes and reach a label stands for, are held
-unfoldable pub EndsPlaced : Problem → List Defect → ℕ → ℕ → List (List FrontLabel) → ℕ → ℕ → ℕ → List FrontLabel → Type 0
+-- right sides of strips that begin at one of these places, whose widths and right sides labels stand for, are held
+unfoldable pub EndsPlaced : Problem → List Defect → ℕ → ℕ → List (List FrontLabel) → ℕ → ℕ → SizeSet → List FrontLabel → Type 0
 EndsPlaced b holes far most sides m plate begin strips =
-    (width right : ℕ) → HeldTo strips b.params.height width right b.params.height → begin + width ≤ right → right ≤ Width b plate → (right < Width b plate → LineClear holes b.params.height right) → Before b plate + right + far ≤ most
-    → HeldAt sides m right plate
+    (left width : ℕ) → Has begin left → HeldTo strips b.params.height width (left + width) 0 → left + width ≤ Width b plate → (left + width < Width b plate → LineClear holes b.params.height (left + width)) → Before b plate + (left + width) + far ≤ most
+    → HeldAt sides m (left + width) plate

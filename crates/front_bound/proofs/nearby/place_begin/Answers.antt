@@ -1,6 +1,7 @@
 use Rattle.std.proofs.Common.{[], ◌∷◌, sym, ap, subst, arith}
 use Rattle.std.proofs.Math.Logic.{∥∥₁_map}
 use Rattle.glass_base.specs.declared.params.Params.{Params}
+use Rattle.plan_trace.specs.TraceRules.{Gap}
 use Rattle.front_bound.specs.inner.Clear.{AreHoles}
 use Rattle.front_table.specs.Levels.{to_go_at}
 use Rattle.front_bound.proofs.PlacedRuns.{placed_goes_on}
@@ -51,6 +52,6 @@ returns-clause-goes_on c = λ _.
       placed = c.in_ok-placed_from.ensures.placed;
     })
     class.low c.in_ok-placed_from.ensures.begun c.as_slice.result.now (subst (λ l. AreHoles b class.plate l) (sym c.as_slice.ensures.value) holes) most c.offer_placed_ends.new.sides
-    c.args.begin.now class.limits.top class.room class.limits.most (omega arith) c.width-width.ensures.value (omega (arith, c.saturating_sub-reach.ensures, c.before-2.ensures.value)) (omega (arith, c.saturating_sub.ensures, c.from.ensures))
-    (λ w top most room inside. omega (arith, c.requires.class.fits w top most room, inside, c.min-bound.ensures, c.saturating_sub-2.ensures, c.width-width.ensures.value))
+    c.args.begin.now class.limits.top class.room class.limits.most (λ x y has gap. c.closed.ensures.gaps x y has (subst (λ (p : Params). Gap p.waste x y) (sym c.params-params.ensures.value) gap)) c.width-width.ensures.value (omega (arith, c.saturating_sub-reach.ensures, c.before-2.ensures.value)) (omega (arith, c.saturating_sub.ensures, c.from.ensures, c.closed.ensures.least))
+    (λ w top most room inside. omega (arith, c.requires.class.fits w top most room, inside, c.closed.ensures.least, c.min-bound.ensures, c.saturating_sub-2.ensures, c.width-width.ensures.value))
     c.in_ok-offer_placed_ends.ensures.held))

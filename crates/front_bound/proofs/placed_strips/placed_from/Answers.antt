@@ -1,8 +1,9 @@
 use Rattle.std.proofs.Common.{◌≡◌, ℕ, ◌+◌, ◌-◌, ◌∙◌, inl, inr, subst, arith}
 use Rattle.std.proofs.lemmas.Bool.{cases_lt}
 use Rattle.front_bound.specs.inner.Placed.{RowPlaced}
+use Rattle.front_table.proofs.HeldLists.{least_first}
 use Rattle.front_table.proofs.PoolRows.{spreads_then, spreads_from}
-use Rattle.front_bound.proofs.PlacedRows.{placed_kept, row_none}
+use Rattle.front_bound.proofs.PlacedRows.{placed_kept, row_none, first_gap}
 use Rattle.front_bound.proofs.placed_strips.placed_from.Goals as goal
 
 pub loop-done-preserved : goal.loop-done-preserved
@@ -33,9 +34,9 @@ returns-then-row-first-clause-placed c = λ n le.
     ]
 
 pub returns-then-row-first-clause-begun : goal.returns-then-row-first-clause-begun
-returns-then-row-first-clause-begun c = λ x w right up gap wide beside.
-    c.loop-done.invariant.spreads.kept c.args.start x w right up (c.in_ok-offer.ensures.stands x w right up ((gap, inr (omega (arith, wide))), beside, omega arith))
+returns-then-row-first-clause-begun c = λ at left w gap wide has.
+    c.loop-done.invariant.spreads.kept c.args.start at w (left + w) 0 (c.in_ok-offer.ensures.stands at w (left + w) 0 ((first_gap c.args.stretch.now.site.waste at gap, inr (omega (arith, wide))), inr (omega (arith, c.above.ensures, c.from.ensures, c.from-2.ensures, least_first c.args.stretch.now.site.left left has, wide)), omega arith))
 
 pub returns-clause-begun : goal.returns-clause-begun
-returns-clause-begun c = λ x w right up gap wide beside.
-    c.loop-done.invariant.spreads.kept c.args.start x w right up (c.in_ok-offer.ensures.stands x w right up ((gap, inr (omega (arith, wide))), beside, omega arith))
+returns-clause-begun c = λ at left w gap wide has.
+    c.loop-done.invariant.spreads.kept c.args.start at w (left + w) 0 (c.in_ok-offer.ensures.stands at w (left + w) 0 ((first_gap c.args.stretch.now.site.waste at gap, inr (omega (arith, wide))), inr (omega (arith, c.above.ensures, c.from.ensures, c.from-2.ensures, least_first c.args.stretch.now.site.left left has, wide)), omega arith))

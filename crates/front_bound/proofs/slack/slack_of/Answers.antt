@@ -10,30 +10,30 @@ near-requires c = subst Falls (sym c.ends_of.ensures) (c.requires.stretch.falls 
 
 pub returns-then-wide-limits-clause-none : goal.returns-then-wide-limits-clause-none
 unfolding NoneGoesOn
-returns-then-wide-limits-clause-none c = λ to x d w right low up own can. omega (arith, least_first c.args.label.now.across w own.0.1, c.if-wide-limits.true, c.from-wide.ensures, can.end.near)
+returns-then-wide-limits-clause-none c = λ to d w right low own can. omega (arith, least_first c.args.label.now.across w own.0.1, c.if-wide-limits.true, c.from-wide.ensures, can.end.near)
 
 pub returns-then-end-stretch-clause-none : goal.returns-then-end-stretch-clause-none
 unfolding NoneGoesOn
-returns-then-end-stretch-clause-none c = λ to x d w right low up own can. omega (arith, own.1, c.if-end-stretch.true, c.from-end.ensures, can.end.reaches)
+returns-then-end-stretch-clause-none c = λ to d w right low own can. omega (arith, least_first c.args.label.now.right right own.1, c.if-end-stretch.true, c.from-end.ensures, can.end.reaches)
 
 pub returns-in_default-clause-none : goal.returns-in_default-clause-none
 unfolding NoneGoesOn
-returns-in_default-clause-none c = λ to x d w right low up own can.
+returns-in_default-clause-none c = λ to d w right low own can.
     let far = c.in_default.ensures.none can.area can.end.far (subst (λ l. Ended l can.area can.end.far) (sym c.ends_of.ensures) can.here) in
-    omega (arith, far, least_first c.args.label.now.across w own.0.1, own.1, c.from-wide.ensures, c.from-end.ensures, c.min-within.ensures, can.end.near, can.end.reaches)
+    omega (arith, far, least_first c.args.label.now.across w own.0.1, least_first c.args.label.now.right right own.1, c.from-wide.ensures, c.from-end.ensures, c.min-within.ensures, can.end.near, can.end.reaches)
 
 pub returns-then-whole-area-clause-none : goal.returns-then-whole-area-clause-none
 unfolding NoneGoesOn
-returns-then-whole-area-clause-none c = λ to x d w right low up own can.
+returns-then-whole-area-clause-none c = λ to d w right low own can.
     let least : c.in-Some.area ≤ can.area =
     c.in-Some.ensures.least can.area can.end.far (subst (λ l. Ended l can.area can.end.far) (sym c.ends_of.ensures) can.here)
-    (omega (arith, least_first c.args.label.now.across w own.0.1, own.1, c.from-wide.ensures, c.from-end.ensures, c.min-within.ensures, can.end.near, can.end.reaches)) in
-    omega (arith, least, can_hold c.args.stretch.now c.args.row to x d w right low up c.args.label.now.up c.requires.stretch.bound own.2 can, c.glass_above-whole.ensures, c.if-whole-area.true)
+    (omega (arith, least_first c.args.label.now.across w own.0.1, least_first c.args.label.now.right right own.1, c.from-wide.ensures, c.from-end.ensures, c.min-within.ensures, can.end.near, can.end.reaches)) in
+    omega (arith, least, can_hold c.args.stretch.now c.args.row to d w right low c.args.label.now.along.least c.requires.stretch.bound (least_first c.args.label.now.along low own.0.0) can, c.glass_above-whole.ensures, c.if-whole-area.true)
 
 pub returns-clause-slack : goal.returns-clause-slack
 unfolding IsSlack
-returns-clause-slack c = λ to x d w right low up own can.
+returns-clause-slack c = λ to d w right low own can.
     let least : c.in-Some.area ≤ can.area =
     c.in-Some.ensures.least can.area can.end.far (subst (λ l. Ended l can.area can.end.far) (sym c.ends_of.ensures) can.here)
-    (omega (arith, least_first c.args.label.now.across w own.0.1, own.1, c.from-wide.ensures, c.from-end.ensures, c.min-within.ensures, can.end.near, can.end.reaches)) in
-    omega (arith, can_leave c.args.stretch.now c.args.row to x d w right low up c.in-Some.area c.args.label.now.up c.requires.stretch.bound own.2 can least, c.glass_above-whole.ensures)
+    (omega (arith, least_first c.args.label.now.across w own.0.1, least_first c.args.label.now.right right own.1, c.from-wide.ensures, c.from-end.ensures, c.min-within.ensures, can.end.near, can.end.reaches)) in
+    omega (arith, can_leave c.args.stretch.now c.args.row to d w right low c.in-Some.area c.args.label.now.along.least c.requires.stretch.bound (least_first c.args.label.now.along low own.0.0) can least, c.glass_above-whole.ensures)

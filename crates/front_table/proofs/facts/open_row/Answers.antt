@@ -22,7 +22,7 @@ returns-clause-open c =
     let rows = fronts.rows.now in
     let levels = fronts.levels.now in
     let bands = c.in_ok-bands.bands.items in
-    let all = map (λ v. v.items) c.in_ok-tails.tails.items in
+    let all = c.in_ok-tails.tails.items in
     let behind = subst (λ l. AllBehind all levels l fronts.tops.now c.unit_of-unit.result (length fronts.tops.now)) c.as_slice.ensures.value c.in_ok-tails.ensures in
     let packed : unpacked_all c.in_ok-packed.packed.items ≡ bands = c.in_ok-packed.ensures ∙ c.as_slice-2.ensures.value in
     open_known b rows fronts.tops.now fronts.cover (to_go_at levels) c.args.row _ (∥∥₁_map fronts.lattice (λ lattice.

@@ -16,9 +16,9 @@ returns-clause-stands c = λ x y right up stands. subst (λ labels. HeldTo label
 pub returns-clause-held : goal.returns-clause-held
 returns-clause-held c = λ x y fits.
     let l = c.args.label.now in
-    subst (λ labels. Held labels x y) (sym c.in_ok-push.ensures.items) (held_of _ x y l.right l.up (held_push_new c.thin.new.labels.items l x y l.right l.up (stands_itself l x y fits)))
+    subst (λ labels. Held labels x y) (sym c.in_ok-push.ensures.items) (held_of _ x y l.right.least l.up (held_push_new c.thin.new.labels.items l x y l.right.least l.up (stands_itself l x y fits)))
 
 pub returns-then-is_covered-clause-held : goal.returns-then-is_covered-clause-held
 returns-then-is_covered-clause-held c = λ x y fits.
     let l = c.args.label.now in
-    subst (λ labels. Held labels x y) c.as_slice.ensures.value (held_of c.as_slice.result.now x y l.right l.up (c.is_covered.ensures c.if-is_covered.true x y l.right l.up (stands_itself l x y fits)))
+    subst (λ labels. Held labels x y) c.as_slice.ensures.value (held_of c.as_slice.result.now x y l.right.least l.up (c.is_covered.ensures c.if-is_covered.true x y l.right.least l.up (stands_itself l x y fits)))
